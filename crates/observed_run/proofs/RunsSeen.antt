@@ -55,11 +55,15 @@ use Rattle.world.proofs.TakesAll.{takes_all}
 use Rattle.world_run.proofs.Told.{messages_along, spelled_at}
 use Rattle.world_run.proofs.RunLemmas.{first_sound}
 use Rattle.scoreboard.specs.Observed.{Observed, nothing_observed, observed_in, requests_in, with_begun, with_message, with_seen}
+use Rattle.scoreboard.specs.Boards.{from_zeros}
+use Rattle.scoreboard.specs.Flights.{no_footprint}
+use Rattle.scoreboard.specs.InTurn.{DueBeat, dues_of}
 use Rattle.scoreboard.specs.Right.{HasClient, IsContiguous, IsFree, IsPartly, IsRight, IsRightNow, left_of, replies_to}
 use Rattle.observed_run.specs.SeenRuns.{observed, seen_from, seen_of, seen_of_reply}
 use Rattle.scoreboard.specs.declared.ObservedBeat.{ObservedBeat}
 use Rattle.scoreboard.specs.declared.ObservedBeat.TheVariants.{A, Axi}
-use Rattle.scoreboard.proofs.acceptance_order.BoardOf.{shown_source}
+use Rattle.scoreboard.proofs.acceptance_order.BoardOf.{dues_given, given_after, shown_source}
+use Rattle.scoreboard.proofs.acceptance_order.Fixed.{dues_from_zeros}
 use Rattle.observed_run.proofs.LiveReplies.{asks, find-taken-other, find-taken-own, free_before, owed, owed_changed, owed_none, owed_to, read_same, response_same}
 use Rattle.scoreboard.proofs.acceptance_order.DueLists.{AreOf}
 use Rattle.scoreboard.proofs.acceptance_order.Owed.{eqb_same}
@@ -97,8 +101,8 @@ shown_next setup past later q number count = rw (← count) (shown_there (faults
 -- ---- in accord
 
 -- of a source what is left is nothing, or a whole reply
-pub record TellsWhole (replies : List (List DBeat)) (told left : List DBeat) : Type 0 where
-  pub tells : TellsOn replies told left
+pub record TellsWhole (replies : List (List DueBeat)) (told left : List DBeat) : Type 0 where
+  pub tells : TellsOn replies told (dues_of no_footprint left)
   pub whole : IsPartly replies told → ⊥
 
 -- what was observed is in accord with a bridge. Of the requests that a whole run accepts some are accepted so far
@@ -109,20 +113,20 @@ pub record IsSeen (setup : SetupLists) (requests past : List WholeRequest) (seen
   -- what has begun on each channel A is its front
   pub heard : IsHeard setup.config bridge seen.begun
   -- what is left to tell of each source is the reply to its live request
-  pub told : (client source : ℕ) → TellsWhole (replies_to setup seen client source) (seen.told client source) (owed (shown_at setup requests) bridge.requests.live client source)
+  pub told : (client source : ℕ) → TellsWhole (replies_to (from_zeros setup) seen client source) (seen.told client source) (owed (shown_at setup requests) bridge.requests.live client source)
   -- and the same bursts are outstanding
   pub open_bursts : open_after_all nothing_open seen.axi ≡ bridge.open_bursts
 
 -- and it is right
 pub record Accords (setup : SetupLists) (requests past : List WholeRequest) (before : List ObservedBeat) (bridge : BridgeState) : Type 0 where
-  pub right : IsRight setup before
+  pub right : IsRight (from_zeros setup) before
   pub seen : IsSeen setup requests past (observed_in before) bridge
 
 -- before the first event
 accords_opening : (setup : SetupLists) (requests : List WholeRequest) → Accords setup requests [] [] (opening_world setup).bridge
 accords_opening setup requests =
     record {
-      right = right_nothing setup;
+      right = right_nothing (from_zeros setup);
       seen = record {
         accepted = refl;
         count = refl;
@@ -134,11 +138,11 @@ accords_opening setup requests =
 
 -- one beat more
 accords_with : (setup : SetupLists) (requests past : List WholeRequest) (before : List ObservedBeat) (bridge : BridgeState) (seen : ObservedBeat) (new : Observed) → with_seen (observed_in before) seen ≡ new
-    → IsRight setup before → HasClient setup.config.clients seen → IsContiguous setup (observed_in before) seen → IsRightNow setup new → IsSeen setup requests past new bridge
+    → IsRight (from_zeros setup) before → HasClient setup.config.clients seen → IsContiguous (from_zeros setup) (observed_in before) seen → IsRightNow (from_zeros setup) new → IsSeen setup requests past new bridge
     → Accords setup requests past (before ++ seen ∷ []) bridge
 accords_with setup requests past before bridge seen new same right client contiguous now is =
     record {
-      right = right_with setup before seen right client contiguous (subst (IsRightNow setup) (sym same) now);
+      right = right_with (from_zeros setup) before seen right client contiguous (subst (IsRightNow (from_zeros setup)) (sym same) now);
       seen = subst (λ (o : Observed). IsSeen setup requests past o bridge) (sym (observed-append nothing_observed before seen ∙ same)) is;
     }
 
@@ -150,7 +154,7 @@ module _ (setup : SetupLists) (requests past : List WholeRequest) (before : List
   abbrev old : Observed
   old = observed_in before
 
-  now : IsRightNow setup old
+  now : IsRightNow (from_zeros setup) old
   now = now_of setup before accords.right
 
   -- what is known of an event: the requests of the run with the one that it makes accepted, the laws after it, the fronts after it, and the reply
@@ -209,11 +213,12 @@ module _ (setup : SetupLists) (requests past : List WholeRequest) (before : List
       new = after_begun state.bridge client beat
 
       -- nothing is left of the source of a message that has begun
-      free_at : (c : ℕ) (begun : List ABeat) (front : Option HeldMessage) → held_of c begun ≡ front → IfSome front (IsFreeFront new.requests c) → IsFree setup old c begun
+      free_at : (c : ℕ) (begun : List ABeat) (front : Option HeldMessage) → held_of c begun ≡ front → IfSome front (IsFreeFront new.requests c) → IsFree (from_zeros setup) old c begun
       free_at c [] front held free = tt
       free_at c (first ∷ rest) front held free =
           let is_free = subst (λ (o : Option HeldMessage). IfSome o (IsFreeFront new.requests c)) (sym held) free in
-          (accords.seen.told c first.source).tells.left_is ∙ owed_none (shown_at setup requests) state.bridge.requests.live c first.source is_free.source
+          (accords.seen.told c first.source).tells.left_is
+          ∙ ap (λ (beats : List DBeat). dues_of no_footprint beats) (owed_none (shown_at setup requests) state.bridge.requests.live c first.source is_free.source)
 
   accepts_seen : (client : ℕ) (beat : ABeat) → IsAccepted state.bridge client beat
       → Goes (step.Offer client beat) (changed (after_accepted state.bridge client beat) state.memory (answer.Accepted state.bridge.requests.accepted))
@@ -223,8 +228,10 @@ module _ (setup : SetupLists) (requests past : List WholeRequest) (before : List
       let source = message.source in
       let q = request_of message in
       let new = with_whole client beats old in
-      let replies = replies_to setup old client source in
+      let replies = replies_to (from_zeros setup) old client source in
       let reply = (meaning (faults_of setup) setup.regions q (bytes_of_all setup (requests_in old))).reply in
+      let given = given_after (from_zeros setup) (requests_in old) q in
+      let plain : dues_given given q ≡ dues_of no_footprint (shown q reply) = dues_from_zeros setup (requests_in old) q (shown q reply) in
       let live = state.bridge.requests.live in
       let fresh = newly_live state.bridge.requests message in
       let held = completed_heard setup.config state.bridge old.begun client beat accords.seen.heard in
@@ -236,26 +243,26 @@ module _ (setup : SetupLists) (requests past : List WholeRequest) (before : List
       let asked : asks client source fresh ≡ true = rw (own, eqb_same client, eqb_same source) refl in
       let alone = free_before live fresh client source (known.laws.bridge_laws.requests.flights.own_sources client source) asked in
       let before_it = (accords.seen.told client source).tells in
-      let none_left : left_of replies (old.told client source) ≡ [] = before_it.left_is ∙ ap (owed_to (shown_at setup requests)) alone in
-      let done : IsCompleted setup old client beats message reply = record { held = held; client = own; spelled = spelled; free = none_left; reply_is = refl } in
+      let none_left : left_of replies (old.told client source) ≡ [] = before_it.left_is ∙ ap (λ (beats : List DBeat). dues_of no_footprint beats) (ap (owed_to (shown_at setup requests)) alone) in
+      let done : IsCompleted (from_zeros setup) old client beats message given = record { held = held; client = own; spelled = spelled; free = none_left; given_is = refl } in
       -- and its reply is the one of its number
       let its_reply : shown_at setup requests state.bridge.requests.accepted ≡ shown q reply =
       ap (λ (qs : List WholeRequest). shown_at setup qs state.bridge.requests.accepted) (known.all ∙ append_assoc past (q ∷ []) known.later)
       ∙ shown_next setup past known.later q state.bridge.requests.accepted accords.seen.count
       ∙ ap (λ (qs : List WholeRequest). shown q (meaning (faults_of setup) setup.regions q (bytes_of_all setup qs)).reply) (sym accords.seen.accepted) in
-      let on = told-reply replies (old.told client source) (shown q reply) before_it.is_told none_left in
+      let on = told-reply replies (old.told client source) (dues_of no_footprint (shown q reply)) before_it.is_told none_left in
       accords_with setup requests (past ++ q ∷ []) before (after_accepted state.bridge client beat) (A client beat) new same accords.right (there client is.taken.known) tt
-      (right_whole setup old client beats message reply done now)
+      (right_whole (from_zeros setup) old client beats message given done now)
       (record {
         accepted = requests_whole old client beats message held ∙ ap (λ (qs : List WholeRequest). qs ++ q ∷ []) accords.seen.accepted;
         count = length-append past (q ∷ []) ∙ ap (λ n. n + 1) accords.seen.count;
         heard = known.heard;
         told =
-            at_source (λ number other. TellsWhole (replies_to setup new number other) (old.told number other) (owed (shown_at setup requests) (live ++ fresh ∷ []) number other)) client source
-            (rw (own_replies setup old client beats message reply done, find-append (asks client source) live (fresh ∷ []), alone, asked, its_reply)
-            (record { tells = on; whole = λ partly. omega (arith, partly.some_told, ap length on.left_is, ap length (last_of-append replies (shown q reply))) }))
+            at_source (λ number other. TellsWhole (replies_to (from_zeros setup) new number other) (old.told number other) (owed (shown_at setup requests) (live ++ fresh ∷ []) number other)) client source
+            (rw (own_replies (from_zeros setup) old client beats message given done, plain, find-append (asks client source) live (fresh ∷ []), alone, asked, its_reply)
+            (record { tells = on; whole = λ partly. omega (arith, partly.some_told, ap length on.left_is, ap length (last_of-append replies (dues_of no_footprint (shown q reply)))) }))
             (λ number other differs.
-            rw (other_replies setup old client beats message reply number other done differs, find-append-fails (asks number other) live fresh (asks_other fresh client source number other own refl differs))
+            rw (other_replies (from_zeros setup) old client beats message given number other done differs, find-append-fails (asks number other) live fresh (asks_other fresh client source number other own refl differs))
             (accords.seen.told number other));
         open_bursts = accords.seen.open_bursts;
       })
@@ -326,9 +333,9 @@ module _ (setup : SetupLists) (requests past : List WholeRequest) (before : List
       let served = all-find (IsServed state.bridge.requests.config state.bridge.requests.regions) (is_done_for client) live request sound.bridge_laws.requests.served first in
       let are : AreOf source beats = subst (λ n. AreOf n beats) (sym served.flight.source) (shown_source (request_of request.message) (gathered (outline_in request) request.gathering)) in
       let its_beats : shown_at setup requests request.flight.number ≡ beats = rw (known.handed.0.accepted, known.handed.0.carried_out) (sym known.handed.0.beats) in
-      let replies = replies_to setup old client source in
+      let replies = replies_to (from_zeros setup) old client source in
       let told = old.told client source in
-      let on = subst (TellsOn replies told) (before_it ∙ its_beats) (accords.seen.told client source).tells in
+      let on = subst (λ (left : List DBeat). TellsOn replies told (dues_of no_footprint left)) (before_it ∙ its_beats) (accords.seen.told client source).tells in
       let all_told = told_beats replies told beats on in
       record {
         right = right_told setup before client source beats (there client known_client) are accords.right on (λ other differs. (accords.seen.told client other).whole);
@@ -337,7 +344,7 @@ module _ (setup : SetupLists) (requests past : List WholeRequest) (before : List
           count = accords.seen.count;
           heard = known.heard;
           told =
-              at_source (λ number other. TellsWhole (replies_to setup old number other) (new.told number other) (owed (shown_at setup requests) left number other)) client source
+              at_source (λ number other. TellsWhole (replies_to (from_zeros setup) old number other) (new.told number other) (owed (shown_at setup requests) left number other)) client source
               (rw (more_own old client source beats source refl, find-taken-own (is_done_for client) (asks client source) live request first asked few)
               (record { tells = all_told; whole = λ partly. omega (arith, partly.some_left, ap length all_told.left_is) }))
               (λ number other differs.
@@ -375,15 +382,15 @@ rest_holds P (Some y) xs all = all.1
 -- the requests of the whole run are those that are accepted so far, and those that the other events make accepted
 right_along : (setup : SetupLists) (requests past : List WholeRequest) (heard : Heard) (state : WorldState) (events : List Step) (before : List ObservedBeat) → IsHeard setup.config state.bridge heard
     → requests ≡ past ++ requests_of (messages_along heard state events) → AreSoundAlong state events → AllByRecursion (IsReplyTo requests (replies_of setup requests)) (handed_in state events)
-    → Accords setup requests past before state.bridge → IsRight setup (before ++ seen_from state events)
-right_along setup requests past heard state [] before is all along handed accords = subst (IsRight setup) (sym (append-nil before)) accords.right
+    → Accords setup requests past before state.bridge → IsRight (from_zeros setup) (before ++ seen_from state events)
+right_along setup requests past heard state [] before is all along handed accords = subst (IsRight (from_zeros setup)) (sym (append-nil before)) accords.right
 right_along setup requests past heard state (event ∷ events) before is all along handed accords =
     let outcome = next state event in
     let accepts = request_at state.bridge event outcome.answer in
     let later = requests_of (messages_along (heard_after heard event outcome.answer) outcome.state events) in
     let split = accepted_at_step setup.config state.bridge heard event outcome.answer (zip events (answers_of outcome.state events)) is ∙ cons_option-list accepts later in
     let all_later = all ∙ ap (λ (others : List WholeRequest). past ++ others) split ∙ sym (append_assoc past (option_to_list accepts) later) in
-    subst (IsRight setup) (append_assoc before (seen_of event outcome) (seen_from outcome.state events))
+    subst (IsRight (from_zeros setup)) (append_assoc before (seen_of event outcome) (seen_from outcome.state events))
     (right_along setup requests (past ++ option_to_list accepts) (heard_after heard event outcome.answer) outcome.state events (before ++ seen_of event outcome)
     (heard_next setup.config state heard event is) all_later along.1
     (rest_holds (IsReplyTo requests (replies_of setup requests)) (handed_at event outcome.answer outcome.reply) (handed_in outcome.state events) handed)
@@ -397,7 +404,7 @@ right_along setup requests past heard state (event ∷ events) before is all alo
     })))
 
 -- of every run
-pub observed_right : (setup : SetupLists) (events : List Step) → AreSoundAlong (opening_world setup) events → IsRight setup (observed setup events)
+pub observed_right : (setup : SetupLists) (events : List Step) → AreSoundAlong (opening_world setup) events → IsRight (from_zeros setup) (observed setup events)
 observed_right setup events along =
     right_along setup (run_requests setup events) [] heard_nothing (opening_world setup) events [] (heard_at_first setup) refl along (is_carried_out setup events along).replies
     (accords_opening setup (run_requests setup events))

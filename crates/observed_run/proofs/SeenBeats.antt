@@ -17,6 +17,9 @@ use Rattle.axi_checker.specs.Rules.{AxiPortLimits, beats_sent, first_axi_fault, 
 use Rattle.config.specs.Configs.{axi_port_of}
 use Rattle.setups.specs.Setups.{SetupLists}
 use Rattle.scoreboard.specs.Observed.{Observed, nothing_observed, observed_in, with_all, with_axi_beat, with_reply_beat, with_seen}
+use Rattle.scoreboard.specs.Boards.{from_zeros}
+use Rattle.scoreboard.specs.Flights.{no_footprint}
+use Rattle.scoreboard.specs.InTurn.{DueBeat, dues_of}
 use Rattle.scoreboard.specs.Right.{IsFree, IsPartly, IsRight, IsRightNow, IsTold, left_of, replies_to}
 use Rattle.observed_run.specs.SeenRuns.{seen_of_burst, seen_of_reply}
 use Rattle.scoreboard.specs.declared.ObservedBeat.{ObservedBeat}
@@ -33,7 +36,7 @@ observed-more observed [] more = refl
 observed-more observed (first ∷ before) more = observed-more (with_seen observed first) before more
 
 -- what is right now, of what is right
-pub now_of : (setup : SetupLists) (before : List ObservedBeat) → IsRight setup before → IsRightNow setup (observed_in before)
+pub now_of : (setup : SetupLists) (before : List ObservedBeat) → IsRight (from_zeros setup) before → IsRightNow (from_zeros setup) (observed_in before)
 now_of setup before right = right.always before [] (sym (append-nil before))
 
 -- ---- beats of the AXI4 port
@@ -61,17 +64,17 @@ fault_before port open_bursts [] more none = refl
 fault_before port open_bursts (beat ∷ beats) more none = grind (arith, none, fault_before port (open_after open_bursts beat) beats more)
 
 -- beats of the AXI4 port of which none breaks a rule are right, one after another
-pub right_on_axi : (setup : SetupLists) (before : List ObservedBeat) (beats : List AxiBeat) → IsRight setup before → first_axi_fault (axi_port_of setup.config) nothing_open ((observed_in before).axi ++ beats) ≡ None
-    → IsRight setup (before ++ map Axi beats)
-right_on_axi setup before [] right none = subst (IsRight setup) (sym (append-nil before)) right
+pub right_on_axi : (setup : SetupLists) (before : List ObservedBeat) (beats : List AxiBeat) → IsRight (from_zeros setup) before → first_axi_fault (axi_port_of setup.config) nothing_open ((observed_in before).axi ++ beats) ≡ None
+    → IsRight (from_zeros setup) (before ++ map Axi beats)
+right_on_axi setup before [] right none = subst (IsRight (from_zeros setup)) (sym (append-nil before)) right
 right_on_axi setup before (beat ∷ beats) right none =
     let axi = (observed_in before).axi ++ beat ∷ [] in
     let now = now_of setup before right in
     let all : first_axi_fault (axi_port_of setup.config) nothing_open (axi ++ beats) ≡ None = rw (append_assoc (observed_in before).axi (beat ∷ []) beats) none in
     let fine = fault_before (axi_port_of setup.config) nothing_open axi beats all in
-    subst (IsRight setup) (append_assoc before (Axi beat ∷ []) (map Axi beats))
+    subst (IsRight (from_zeros setup)) (append_assoc before (Axi beat ∷ []) (map Axi beats))
     (right_on_axi setup (before ++ Axi beat ∷ []) beats
-    (right_with setup before (Axi beat) right tt tt (record { spelled = now.spelled; as_many = now.as_many; begun = now.begun; told = now.told; free = now.free; axi = fine }))
+    (right_with (from_zeros setup) before (Axi beat) right tt tt (record { spelled = now.spelled; as_many = now.as_many; begun = now.begun; told = now.told; free = now.free; axi = fine }))
     (rw (observed-append nothing_observed before (Axi beat)) all))
 
 -- ---- beats of a reply
@@ -103,22 +106,22 @@ pub more_others : (old : Observed) (client source : ℕ) (beats : List DBeat) (n
 more_others old client source beats number other differs = grind (arith, differs)
 
 -- all of the beats that were left
-pub told_beats : (replies : List (List DBeat)) (told beats : List DBeat) → TellsOn replies told beats → TellsOn replies (told ++ beats) []
+pub told_beats : (replies : List (List DueBeat)) (told beats : List DBeat) → TellsOn replies told (dues_of no_footprint beats) → TellsOn replies (told ++ beats) []
 told_beats replies told [] on = rw (append-nil told) on
 told_beats replies told (beat ∷ beats) on =
-    rw (← append_assoc told (beat ∷ []) beats) (told_beats replies (told ++ beat ∷ []) beats (told-beat replies told beat beats on.is_told on.left_is))
+    rw (← append_assoc told (beat ∷ []) beats) (told_beats replies (told ++ beat ∷ []) beats (told-beat replies told _ beat (dues_of no_footprint beats) on.is_told on.left_is refl))
 
 -- a beat of those that were left is right
-right_beat : (setup : SetupLists) (observed : Observed) (client : ℕ) (beat : DBeat) (rest : List DBeat) → IsRightNow setup observed
-    → TellsOn (replies_to setup observed client beat.source) (observed.told client beat.source) (beat ∷ rest)
-    → IsRightNow setup (with_reply_beat client beat observed)
+right_beat : (setup : SetupLists) (observed : Observed) (client : ℕ) (beat : DBeat) (rest : List DBeat) → IsRightNow (from_zeros setup) observed
+    → TellsOn (replies_to (from_zeros setup) observed client beat.source) (observed.told client beat.source) (dues_of no_footprint (beat ∷ rest))
+    → IsRightNow (from_zeros setup) (with_reply_beat client beat observed)
 right_beat setup observed client beat rest right on =
     record {
       spelled = right.spelled;
       as_many = right.as_many;
       begun = right.begun;
       told =
-          at_source (λ number source. IsTold (replies_to setup observed number source) (new.told number source)) client beat.source own
+          at_source (λ number source. IsTold (replies_to (from_zeros setup) observed number source) (new.told number source)) client beat.source own
           (λ number source differs. rw (more_others observed client beat.source (beat ∷ []) number source differs) (right.told number source));
       free = λ number. free_at number (observed.begun number) (right.free number);
       axi = right.axi;
@@ -127,32 +130,32 @@ right_beat setup observed client beat rest right on =
     new : Observed
     new = with_reply_beat client beat observed
 
-    own : IsTold (replies_to setup observed client beat.source) (new.told client beat.source)
+    own : IsTold (replies_to (from_zeros setup) observed client beat.source) (new.told client beat.source)
     own =
         rw (more_own observed client beat.source (beat ∷ []) beat.source refl)
-        (told-beat (replies_to setup observed client beat.source) (observed.told client beat.source) beat rest on.is_told on.left_is).is_told
+        (told-beat (replies_to (from_zeros setup) observed client beat.source) (observed.told client beat.source) _ beat (dues_of no_footprint rest) on.is_told on.left_is refl).is_told
 
     -- nothing was left of the source of a message that has begun, so the beat isn't of it
-    free_at : (number : ℕ) (begun : List ABeat) → IsFree setup observed number begun → IsFree setup new number begun
+    free_at : (number : ℕ) (begun : List ABeat) → IsFree (from_zeros setup) observed number begun → IsFree (from_zeros setup) new number begun
     free_at number [] free = tt
     free_at number (first ∷ more) free =
-        at_source (λ n s. left_of (replies_to setup observed n s) (observed.told n s) ≡ [] → left_of (replies_to setup observed n s) (new.told n s) ≡ []) client beat.source
+        at_source (λ n s. left_of (replies_to (from_zeros setup) observed n s) (observed.told n s) ≡ [] → left_of (replies_to (from_zeros setup) observed n s) (new.told n s) ≡ []) client beat.source
         (λ none. absurd (cc (on.left_is, none))) (λ n s differs none. rw (more_others observed client beat.source (beat ∷ []) n s differs) none) number first.source free
 
 -- where no other reply to the client has begun, the beats that are left of one of its sources are right, one after another
-pub right_told : (setup : SetupLists) (before : List ObservedBeat) (client source : ℕ) (beats : List DBeat) → client < setup.config.clients → AreOf source beats → IsRight setup before
-    → TellsOn (replies_to setup (observed_in before) client source) ((observed_in before).told client source) beats
-    → ((other : ℕ) → other ≢ source → IsPartly (replies_to setup (observed_in before) client other) ((observed_in before).told client other) → ⊥)
-    → IsRight setup (before ++ seen_of_reply client beats)
-right_told setup before client source [] below are right on alone = subst (IsRight setup) (sym (append-nil before)) right
+pub right_told : (setup : SetupLists) (before : List ObservedBeat) (client source : ℕ) (beats : List DBeat) → client < setup.config.clients → AreOf source beats → IsRight (from_zeros setup) before
+    → TellsOn (replies_to (from_zeros setup) (observed_in before) client source) ((observed_in before).told client source) (dues_of no_footprint beats)
+    → ((other : ℕ) → other ≢ source → IsPartly (replies_to (from_zeros setup) (observed_in before) client other) ((observed_in before).told client other) → ⊥)
+    → IsRight (from_zeros setup) (before ++ seen_of_reply client beats)
+right_told setup before client source [] below are right on alone = subst (IsRight (from_zeros setup)) (sym (append-nil before)) right
 right_told setup before client source (beat ∷ beats) below are right on alone =
     let old = observed_in before in
-    let here = subst (λ n. TellsOn (replies_to setup old client n) (old.told client n) (beat ∷ beats)) (sym are.0) on in
+    let here = subst (λ n. TellsOn (replies_to (from_zeros setup) old client n) (old.told client n) (dues_of no_footprint (beat ∷ beats))) (sym are.0) on in
     let more = observed-append nothing_observed before (D client beat) in
-    subst (IsRight setup) (append_assoc before (D client beat ∷ []) (seen_of_reply client beats))
+    subst (IsRight (from_zeros setup)) (append_assoc before (D client beat ∷ []) (seen_of_reply client beats))
     (right_told setup (before ++ D client beat ∷ []) client source beats below are.1
-    (right_with setup before (D client beat) right below
+    (right_with (from_zeros setup) before (D client beat) right below
     (λ other partly. elim (cases_eq other source) [ inl same ↦ same ∙ sym are.0 | inr differs ↦ absurd (alone other differs partly) ])
     (right_beat setup old client beat beats (now_of setup before right) here))
-    (rw (more, more_own old client beat.source (beat ∷ []) source (sym are.0)) (told-beat (replies_to setup old client source) (old.told client source) beat beats on.is_told on.left_is))
+    (rw (more, more_own old client beat.source (beat ∷ []) source (sym are.0)) (told-beat (replies_to (from_zeros setup) old client source) (old.told client source) _ beat (dues_of no_footprint beats) on.is_told on.left_is refl))
     (λ other differs. rw (more, more_others old client beat.source (beat ∷ []) client other (inr (λ same. differs (same ∙ are.0)))) (alone other differs)))

@@ -5,6 +5,7 @@ ghost use Rattle.world.specs.Laws.{IsSoundWorld};
 ghost use Rattle.setups.specs.Setups.{lists_of, setup_fault};
 ghost use Rattle.world.specs.World.{next};
 ghost use Rattle.setups.specs.declared.SetupFault.TheVariants.{NoMemory};
+ghost use Rattle.scoreboard.specs.Boards.{from_zeros};
 ghost use Rattle.scoreboard.specs.Right.{IsRight};
 ghost use Rattle.observed_run.specs.SeenRuns.{observed, seen_by, seen_of, seen_of_burst, seen_of_reply};
 ghost use Rattle.axi_checker.specs.declared.AxiBeat.TheVariants.{W as OnW};
@@ -118,7 +119,7 @@ pub fn observed(
     ensures shows { IfOk result (λ seen. seen.items ≡ observed (lists_of setup.now) steps.now) }
 
     // Whatever the steps are, the scoreboard finds nothing wrong in it.
-    ensures right { IfOk result (λ seen. IsRight (lists_of setup.now) seen.items) }
+    ensures right { IfOk result (λ seen. IsRight (from_zeros (lists_of setup.now)) seen.items) }
 {
     let mut world = match World::new(alloc, setup) {
         Ok(world) => world,

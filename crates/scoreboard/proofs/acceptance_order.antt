@@ -1,6 +1,8 @@
 pub mod BoardClients
 pub mod BoardOf
 pub mod DueLists
+pub mod Fixed
+pub mod KnownLanes
 pub mod Meanings
 pub mod Owed
 pub mod Reached

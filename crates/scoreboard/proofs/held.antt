@@ -8,6 +8,8 @@ pub mod FailedResponses
 pub mod FootprintBytes
 pub mod FreeFronts
 pub mod Marks
+pub mod MoreRoom
 pub mod Others
 pub mod RequestAnswered
 pub mod Sources
+pub mod ToldLanes

@@ -30,6 +30,7 @@ use Rattle.std.specs.Option.{option_or}
 use Rattle.scoreboard.specs.AxiPorts.{PortBoard, drained, none_early, port_after, port_wrong}
 use Rattle.scoreboard.specs.FailedBursts.{Span, after_hit, failed_span, hit, hit_flight}
 use Rattle.scoreboard.specs.Flights.{Flights, Footprint, InFlight, each_flight, flights_after, in_flight, is_busy, next_reply, no_flights, no_footprint, replies_left, with_flight}
+use Rattle.scoreboard.specs.InTurn.{DueBeat, after_turn, as_known, dues_of, unless_fixed}
 use Rattle.scoreboard.specs.Races.{after_given, after_joining, alone, beside, flight_beside, joining, unless_failed}
 use Rattle.serial_memory.specs.SerialMemory.{Memory, carried_out, meaning_in, place_in}
 use Rattle.scoreboard.specs.declared.Errors.{Errors}
@@ -56,7 +57,7 @@ pub record ClientBoard : Type 0 where
   pub told : Bool
 
 -- each client by its number; the memory as the accepted requests leave it in order of acceptance; which of its bytes they may not leave the same in every
--- order; what is outstanding on the AXI4 port, and early; and how errors may be told, which stays
+-- order, or aren't known; what is outstanding on the AXI4 port, and early; and how errors may be told, which stays
 pub record Board : Type 0 where
   pub clients : List ClientBoard
   pub memory : Memory
@@ -95,6 +96,11 @@ wrong_by due (Some broken) = Some (Reply broken (Some due))
 abbrev pub wrong_beat : List DBeat → DBeat → Option Wrong
 wrong_beat [] beat = Some (Reply rule.Unasked None)
 wrong_beat (due ∷ rest) beat = wrong_by due (first_broken (reply_rules due beat))
+
+-- the same in order of acceptance, where what isn't known of a beat that is due isn't compared
+abbrev pub wrong_in_turn : List DueBeat → DBeat → Option Wrong
+wrong_in_turn [] beat = Some (Reply rule.Unasked None)
+wrong_in_turn (due ∷ rest) beat = wrong_beat (due.beat ∷ []) (as_known due beat)
 
 -- whether two payloads differ in a lane of beat k of a reply, and the byte there is determined
 abbrev pub differs_in : Footprint → ℕ → ℕ → ℕ → ℕ → Bool
@@ -142,7 +148,7 @@ wrong_told footprint told (due ∷ rest) beat =
 -- what is wrong with a beat, by whether the reply that has begun was denied, and by the request whose reply has its next beat there
 abbrev pub wrong_reply : Policy → Option Bool → Option InFlight → DBeat → Option Wrong
 wrong_reply policy told None beat = Some (Reply rule.Unasked None)
-wrong_reply AcceptanceOrder told (Some flight) beat = wrong_beat flight.beats beat
+wrong_reply AcceptanceOrder told (Some flight) beat = wrong_in_turn (dues_of flight.footprint flight.beats) beat
 wrong_reply RealTime told (Some flight) beat = wrong_told flight.footprint told flight.beats beat
 
 -- whether the reply that has begun to a client was denied in its first beat, if one has begun
@@ -209,6 +215,11 @@ with_taken board number client q footprint =
       clients = slice_set board.clients number (with_accepted (flight_for board.memory footprint q) client);
       memory = carried_out board.memory q;
     }
+
+-- the board where a client's request takes effect in its turn
+abbrev pub in_turn_on : Board → ℕ → ClientBoard → WholeRequest → Footprint → Board
+in_turn_on board number client q footprint =
+    record (with_taken board number client q (unless_fixed footprint)) { indeterminate = after_turn board.indeterminate footprint q.bytes }
 
 -- whether a reply tells an error in some beat
 abbrev pub tells_error : List DBeat → Bool
@@ -295,9 +306,10 @@ abbrev pub whole_on : Board → ℕ → ClientBoard → WholeRequest → Bool �
 whole_on board number client q false = joined_on board number client q (joining_on board q)
 whole_on board number client q true = given_on board number client q (coming_on board q client.coming)
 
--- the board where a client's message is accepted, by whether it had begun before. Where requests take effect in order of acceptance no footprint is kept
+-- the board where a client's message is accepted, by whether it had begun before. Where requests take effect in order of acceptance that plays no part
 abbrev pub accepted_on : Policy → Board → ℕ → ClientBoard → HeldMessage → Bool → Board
-accepted_on AcceptanceOrder board number client message begun = with_taken board number client (request_of message) no_footprint
+accepted_on AcceptanceOrder board number client message begun =
+    in_turn_on board number client (request_of message) (alone board.indeterminate (place_in board.memory (request_of message)) (request_of message))
 accepted_on RealTime board number client message begun = whole_on board number client (request_of message) begun
 
 -- in real time, by whether it had begun: with its first beat a request joins the others, and its reply may come early; a later one changes nothing, but

@@ -156,10 +156,9 @@ client_changed change client = record client { flights = each_flight (flight_cha
 
 -- ---- what stays so
 
--- how many words the footprints have room for
-abbrev pub room_by : Policy → ℕ
-room_by AcceptanceOrder = 1
-room_by RealTime = 512
+-- how many words the footprints have room for: those of a page
+abbrev pub most_words : ℕ
+most_words = 512
 
 -- all have this room
 abbrev pub HaveRoom : ℕ → List FlightState → Type 0

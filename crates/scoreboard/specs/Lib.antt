@@ -1,7 +1,9 @@
 pub mod AxiPorts
 pub mod Boards
 pub mod FailedBursts
+pub mod Filling
 pub mod Flights
+pub mod InTurn
 pub mod InsideBoards
 pub mod Names
 pub mod Observed
@@ -10,4 +12,5 @@ pub mod Places
 pub mod Races
 pub mod RealTime
 pub mod Right
+pub mod Telling
 pub mod Wider

@@ -65,6 +65,13 @@ with_seen observed (D client beat) = with_reply_beat client beat observed
 with_seen observed (OnAxi beat) = with_axi_beat beat observed
 with_seen observed Drained = record observed { axi = [] }
 
+-- whether it is a beat on a channel A
+abbrev pub is_request : ObservedBeat → Bool
+is_request (A client beat) = true
+is_request (D client beat) = false
+is_request (OnAxi beat) = false
+is_request Drained = false
+
 -- ---- a list of beats
 
 -- each of them more

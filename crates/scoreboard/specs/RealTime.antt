@@ -203,11 +203,11 @@ abbrev pub asked_on : Board → ℕ → DBeat → Asked
 asked_on board client beat =
     record { errors = board.errors; told = option_flatten (option_map told_to (slice_get board.clients client)); client = client; beat = beat }
 
--- what the laws say of a board, by its beats so far and its verdict on one more: a beat on channel D that it blames is wrong in every order that keeps
--- real time, whatever the requests become that aren't whole, and whatever those leave that have failed, and by the rule that is blamed; and a byte that
--- isn't indeterminate, and that none of those may write that aren't whole, is what every such order leaves. There is one: that of first beats, where
--- nothing more comes, and all are carried out as they came. The beats so far may have been wrong; where none was, a list of them is one by which the
--- board is reached
+-- what the laws say of a board, by its beats so far and its verdict on one more: a beat on channel D that it blames is wrong in every
+-- order that keeps real time, whatever the memory began with where nobody knows that, whatever the requests become that aren't whole, and
+-- whatever those leave that have failed, and by the rule that is blamed; and a byte that isn't indeterminate, and that none of those may
+-- write that aren't whole, is what every such order leaves. There is one: that of first beats, where nothing more comes, and all are
+-- carried out as they came. The beats so far may have been wrong; where none was, a list of them is one by which the board is reached
 pub record JudgesRightly (old : Board) (seen : ObservedBeat) (verdict : Option Wrong) : Type 0 where
   pub some : (errors : Errors) (beginning : Beginning) (before : List ObservedBeat)
       → IsOrderOf errors beginning before (range_with_len 0 (length (begun_in errors beginning before)))

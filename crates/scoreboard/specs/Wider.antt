@@ -4,7 +4,7 @@ use Rattle.std.specs.Prelude.{◌≡◌, ◌⊎◌, ⊤, Bool, true, false, ◌|
 use Rattle.tl_checker.specs.declared.TlRule.TheVariants.{SourceBusy}
 use Rattle.setups.specs.Setups.{SetupLists}
 use Rattle.scoreboard.specs.AxiPorts.{tells_no_write}
-use Rattle.scoreboard.specs.Boards.{Board, ClientBoard, after_all, after_seen, opening_board, opening_with, wrong_at}
+use Rattle.scoreboard.specs.Boards.{Board, ClientBoard, after_all, after_seen, from_zeros, opening_board, opening_with, wrong_at}
 use Rattle.scoreboard.specs.Flights.{InFlight, each_flight, no_footprint}
 use Rattle.scoreboard.specs.Right.{IsRight}
 use Rattle.scoreboard.specs.declared.Errors.{Errors}
@@ -72,4 +72,4 @@ IsWiderAlong board seen verdict =
 abbrev pub LetsRightPass : Board → ObservedBeat → Option Wrong → Type 0
 LetsRightPass board seen verdict =
     (errors : Errors) (setup : SetupLists) (before : List ObservedBeat) → board ≡ after_all RealTime (opening_with errors setup) before
-    → IsRight setup (before ++ seen ∷ []) → verdict ≡ None
+    → IsRight (from_zeros setup) (before ++ seen ∷ []) → verdict ≡ None

@@ -3,16 +3,17 @@ ghost use Rattle.std.specs.Prelude.{◌≡◌, ◌<◌, ◌≤◌, ◌%◌, ◌�
 ghost use Rattle.std.specs.List.{range_with_len};
 ghost use Rattle.tl_messages.specs.Operations.{has_data, reply_has_data};
 ghost use Rattle.tl_messages.specs.Requests.{bytes_given, request_of};
-ghost use Rattle.meaning.specs.InTurn.{bytes_of_all};
+ghost use Rattle.meaning.specs.Meaning.{bytes_after_all};
 ghost use Rattle.score_setup.specs.ScoreSetups.{is_valid_to_score, limits_of, lists_of, ranges_of, score_setup_fault};
-ghost use Rattle.setups.specs.Setups.{SetupLists};
+ghost use Rattle.setups.specs.Setups.{faults_of};
 ghost use Rattle.setups.specs.declared.SetupFault.TheVariants.{NoMemory};
 ghost use Rattle.subordinate.specs.Faults.{is_good, standing_at};
 ghost use Rattle.scoreboard.specs.Boards.{acting, beginning_of, client_beside, early_due, fails, footprints_of, hit_client, opening_client, opening_from, replies_open};
 ghost use Rattle.scoreboard.specs.FailedBursts.{after_hit};
 ghost use Rattle.serial_memory.specs.SerialMemory.{HasRoomToGive, IsCheckedRequest, byte_at, carried_out, doubts_of, memory_of, place_in, rooms_of};
-ghost use Rattle.scoreboard.specs.InsideBoards.{ClientsHaveRoom, HasRoomForBeat, HasRoomToWrite, HaveRoomToWrite, IsAskedBy, IsMarkedAlone, client_of, footprint_of, room_by};
-ghost use Rattle.scoreboard.specs.Races.{after_given, after_joining, beside_all, beside_dependent};
+ghost use Rattle.scoreboard.specs.InsideBoards.{ClientsHaveRoom, HasRoomForBeat, HasRoomToWrite, HaveRoomToWrite, IsAskedBy, IsMarkedAlone, client_of, footprint_of, most_words};
+ghost use Rattle.scoreboard.specs.InTurn.{after_turn, unless_fixed};
+ghost use Rattle.scoreboard.specs.Races.{after_given, after_joining, alone, beside_all, beside_dependent};
 
 use crate::clients::Client;
 use crate::early_port::EarlyPort;
@@ -20,7 +21,7 @@ use crate::failed_bursts::Span;
 use crate::footprint::Footprint;
 use crate::in_flight::InFlight;
 use crate::marks::mark_given;
-use crate::{Errors, ObservedBeat, Policy, Wrong};
+use crate::{Errors, FillFault, ObservedBeat, Policy, Telling, Wrong};
 use axi_checker::AxiBeat;
 use burst_plan::PageMap;
 use score_setup::{ScoreConfig, ScoreSetup, score_setup_fault};
@@ -31,6 +32,9 @@ use std::marker::Model;
 use tl_checker::{Progress, TlRule};
 use tl_messages::{ABeat, DBeat, Operation, Request};
 
+/// For how many words a footprint has room: those of a page.
+const MOST_WORDS: usize = 512;
+
 /// Tells of each beat that was observed at the ports of a bridge whether it can be right: that the requests and the AXI4
 /// beats keep their rules, and that the replies are those of the accepted requests, carried out whole, one at a time, in an order
 /// that its policy allows: in order of acceptance, or in any in which a request that was whole, and whose whole reply was seen,
@@ -38,7 +42,9 @@ use tl_messages::{ABeat, DBeat, Operation, Request};
 /// them, or in any way that TileLink allows; by this a reply is due from its request's first beat on.
 ///
 /// A beat that breaks a rule changes nothing, but a beat of a due reply counts as come whatever it shows, and an AW that is wrong
-/// for the data before it alone opens its burst. All room is taken by `new`; no other call takes memory.
+/// for the data before it alone opens its burst. Of bytes that nobody knows, and that no request gave so far, nothing is compared, nor of
+/// those that an atomic made of them. All room is taken by `new`, but for pages: each takes its own when it is first given a byte, by
+/// `fill` or, in `judge`, by a request.
 pub struct Scoreboard {
     policy: Policy,
     errors: Errors,
@@ -53,14 +59,14 @@ impl Model for Scoreboard {
     ghost use Rattle.std.specs.Prelude.{◌≡◌, ◌≤◌, length, map};
     ghost use Rattle.serial_memory.specs.SerialMemory.{rooms_of};
     ghost use Rattle.scoreboard.specs.Boards.{footprints_of};
-    ghost use Rattle.scoreboard.specs.InsideBoards.{HaveRoomToWrite, BoardState, ClientsHaveRoom, client_of, room_by};
+    ghost use Rattle.scoreboard.specs.InsideBoards.{HaveRoomToWrite, BoardState, ClientsHaveRoom, client_of, most_words};
 
     ghost Value = { BoardState };
 
     ghost view = { λ b. record { policy = b.policy; errors = b.errors; clients = b.clients.items; memory = b.serial; axi = b.axi; request = b.request; joining = b.joining } };
 
-    ghost invariant = { λ b. (length b.clients.items ≤ 8) × ClientsHaveRoom (room_by b.policy) b.clients.items
-        × (length b.joining.footprint.determined ≡ room_by b.policy)
+    ghost invariant = { λ b. (length b.clients.items ≤ 8) × ClientsHaveRoom most_words b.clients.items
+        × (length b.joining.footprint.determined ≡ most_words)
         × HaveRoomToWrite (rooms_of b.serial) (footprints_of (map client_of b.clients.items)) };
 }
 
@@ -76,17 +82,6 @@ impl Drop for Scoreboard {
             request: _,
             joining: _,
         } = self;
-    }
-}
-
-/// For how many words a footprint needs room.
-fn room_by(policy: Policy) -> usize
-    ensures room { result ≡ room_by policy }
-    ensures some { 1 ≤ result }
-{
-    match policy {
-        Policy::AcceptanceOrder => 1,
-        Policy::RealTime => 512,
     }
 }
 
@@ -254,7 +249,7 @@ fn hit(clients: &mut [Client], span: Span)
 }
 
 impl Scoreboard {
-    ghost use Rattle.scoreboard.specs.Boards.{ClientBoard, IsReached, a_wrong, accepted_on, after_a, after_axi, after_d, after_seen, answer_to, beginning_of, begun_on, coming_on, continued_on, d_wrong, flight_for, given_on, has_replied, hit_on, is_spoiled, joined_on, joining_on, opening_board, opening_from, with_client, with_taken, with_whole, wrong_at};
+    ghost use Rattle.scoreboard.specs.Boards.{Beginning, ClientBoard, IsReached, a_wrong, accepted_on, after_a, after_axi, after_d, after_seen, answer_to, beginning_of, begun_on, coming_on, continued_on, d_wrong, flight_for, given_on, has_replied, hit_on, in_turn_on, is_spoiled, joined_on, joining_on, opening_from, with_client, with_taken, with_whole, wrong_at};
     ghost use Rattle.scoreboard.specs.Flights.{no_footprint};
     ghost use Rattle.scoreboard.specs.Races.{unless_failed};
     ghost use Rattle.scoreboard.specs.InsideBoards.{IsFirstBeat, IsFreeOf, board_of, flight_of, front_after, span_told};
@@ -263,14 +258,20 @@ impl Scoreboard {
     ghost use Rattle.tl_checker.specs.Ports.{joined};
     ghost use Rattle.tl_checker.specs.declared.Progress.TheVariants.{More, Whole};
     ghost use Rattle.axi_checker.specs.OpenBursts.{open_count};
-    ghost use Rattle.scoreboard.specs.Observed.{observed_in, requests_in};
+    ghost use Rattle.scoreboard.specs.Observed.{is_request, observed_in, requests_in};
     ghost use Rattle.scoreboard.specs.RealTime.{JudgesRightly};
+    ghost use Rattle.scoreboard.specs.Boards.{Beginning};
+    ghost use Rattle.scoreboard.specs.Filling.{filled_beginning, filled_on};
+    ghost use Rattle.scoreboard.specs.declared.Errors.{Errors};
+    ghost use Rattle.serial_memory.specs.SerialMemory.{can_fill};
+    ghost use Rattle.serial_memory.specs.declared.FillFault.TheVariants.{NoMemory as NoRoom, Place};
     ghost use Rattle.scoreboard.specs.Right.{IsRight};
+    ghost use Rattle.scoreboard.specs.Telling.{telling_of};
     ghost use Rattle.scoreboard.specs.Wider.{IsWiderAlong, LetsRightPass};
     ghost use Rattle.scoreboard.specs.declared.Policy.TheVariants.{AcceptanceOrder, RealTime};
 
     /// A scoreboard of a set-up, of which nothing was observed: its clients, limits and regions are those that the observed
-    /// ports allow, and all bytes of its good pages are zero.
+    /// ports allow, and all bytes of its good pages are zero, or nobody knows them, by the kind of the page.
     ///
     /// It refuses what `score_setup_fault` does, with that fault; its one other error is NoMemory.
     pub fn new(
@@ -301,20 +302,19 @@ impl Scoreboard {
         requires { score_setup_fault (lists_of setup.now) ≡ None }
         ensures { IfOk result (λ board. (board_of board ≡ opening_from errors (beginning_of (ranges_of setup.now))) × (board.policy ≡ policy)) }
     {
-        let Ok(map) = PageMap::new(alloc, setup.regions.as_slice()) else {
+        let Ok(map) = PageMap::of_observed(alloc, setup.regions.as_slice()) else {
             return Err(AllocError);
         };
-        let room = room_by(policy);
         let serial = SerialMemory::new(
             alloc,
             map,
             setup.pages.as_slice(),
             setup.bad_words.as_slice(),
         )?;
-        let clients = opening_clients(alloc, &setup.config, room)?;
+        let clients = opening_clients(alloc, &setup.config, MOST_WORDS)?;
         let axi = EarlyPort::new(alloc, &setup.config)?;
         let request = Request::new(alloc)?;
-        let joining = InFlight::new(alloc, room)?;
+        let joining = InFlight::new(alloc, MOST_WORDS)?;
         Ok(Scoreboard {
             policy,
             errors,
@@ -326,11 +326,12 @@ impl Scoreboard {
         })
     }
 
-    /// What is wrong with the next beat that was observed; none where nothing is.
+    /// What is wrong with the next beat that was observed; none where nothing is. The one error is that memory was refused for a page that
+    /// a beat on channel A gives bytes: then nothing was judged, and the beat may be handed over again.
     ///
     /// Where requests take effect in order of acceptance, nothing is wrong with a beat, if none was before it, exactly where all of them are
-    /// right together. Where they take effect in real time, nothing is wrong with beats that are right in order of acceptance,
-    /// however errors may be told. Where these are told as this project's bridge tells them, what is said of any beat is what is said of
+    /// right together, as far as the memory's first bytes are known. Where they take effect in real time, nothing is wrong with beats that are right in order of acceptance,
+    /// from a memory of zeros, however errors may be told. Where these are told as this project's bridge tells them, what is said of any beat is what is said of
     /// it in order of acceptance, or nothing where that is SOURCE_BUSY, W_WITHOUT_AW or PAYLOAD, up to the first SOURCE_BUSY or
     /// W_WITHOUT_AW. And a beat of a reply that is found wrong is wrong, by that rule, in each order of the requests that have begun in
     /// which none stands behind one that began after it was whole and its whole reply had come, whatever those become of which beats
@@ -339,11 +340,12 @@ impl Scoreboard {
         ensures answer { IfOk result (λ wrong. wrong ≡ wrong_at self.old.policy (board_of self.old) seen.now) }
         ensures state { OnOk result (board_of self.new ≡ after_seen self.old.policy (board_of self.old) seen.now) }
         ensures refused { OnErr result (board_of self.new ≡ board_of self.old) }
+        ensures grows { OnErr result (is_request seen.now ≡ true) }
         ensures policy { self.new.policy ≡ self.old.policy }
-        ensures exactly { IfOk result (λ wrong. self.old.policy ≡ AcceptanceOrder → (setup : SetupLists) (before : List ObservedBeat) → IsReached AcceptanceOrder (opening_board setup) before (board_of self.old)
-            → (wrong ≡ None) ↔ IsRight setup (before ++ seen.now ∷ [])) }
-        ensures memory { self.old.policy ≡ AcceptanceOrder → (setup : SetupLists) (before : List ObservedBeat) → IsReached AcceptanceOrder (opening_board setup) before (board_of self.old)
-            → (board_of self.old).memory.bytes ≡ bytes_of_all setup (requests_in (observed_in before)) }
+        ensures exactly { IfOk result (λ wrong. self.old.policy ≡ AcceptanceOrder → (errors : Errors) (beginning : Beginning) (before : List ObservedBeat) → IsReached AcceptanceOrder (opening_from errors beginning) before (board_of self.old)
+            → (wrong ≡ None) ↔ IsRight beginning (before ++ seen.now ∷ [])) }
+        ensures memory { self.old.policy ≡ AcceptanceOrder → (errors : Errors) (beginning : Beginning) (before : List ObservedBeat) → IsReached AcceptanceOrder (opening_from errors beginning) before (board_of self.old)
+            → (board_of self.old).memory.bytes ≡ bytes_after_all (faults_of beginning.lists) beginning.lists.regions (requests_in (observed_in before)) beginning.bytes }
         ensures right { IfOk result (λ wrong. self.old.policy ≡ RealTime → LetsRightPass (board_of self.old) seen.now wrong) }
         ensures wider { IfOk result (λ wrong. self.old.policy ≡ RealTime → IsWiderAlong (board_of self.old) seen.now wrong) }
         ensures rightly { IfOk result (λ wrong. self.old.policy ≡ RealTime → JudgesRightly (board_of self.old) seen.now wrong) }
@@ -356,6 +358,7 @@ impl Scoreboard {
         ensures answer { IfOk result (λ wrong. wrong ≡ wrong_at self.old.policy (board_of self.old) seen.now) }
         ensures state { OnOk result (board_of self.new ≡ after_seen self.old.policy (board_of self.old) seen.now) }
         ensures refused { OnErr result (board_of self.new ≡ board_of self.old) }
+        ensures grows { OnErr result (is_request seen.now ≡ true) }
         ensures policy { self.new.policy ≡ self.old.policy }
     {
         match seen {
@@ -526,10 +529,12 @@ impl Scoreboard {
         requires room { HasRoomToGive self.old.memory (acting self.old.errors (request_of self.old.request)) }
         requires free { (found : ClientBoard) → slice_get (board_of self.old).clients client ≡ Some found → IsFreeOf self.old.request.source found }
         ensures state { (found : ClientBoard) → slice_get (board_of self.old).clients client ≡ Some found
-            → board_of self.new ≡ with_taken (board_of self.old) client found (request_of self.old.request) no_footprint }
+            → board_of self.new
+            ≡ in_turn_on (board_of self.old) client found (request_of self.old.request)
+            (alone (board_of self.old).indeterminate (place_in (board_of self.old).memory (request_of self.old.request)) (request_of self.old.request)) }
         ensures policy { self.new.policy ≡ self.old.policy }
     {
-        self.carry_out();
+        self.take_turn();
         self.put_in(client, false);
     }
 
@@ -566,14 +571,17 @@ impl Scoreboard {
         self.put_in(client, false);
     }
 
-    /// The request that came whole is carried out, without a footprint.
-    fn carry_out(&mut self)
+    /// The request that came whole is carried out in its turn. What it reads that isn't known is kept as its footprint.
+    fn take_turn(&mut self)
         requires checked { IsCheckedRequest self.old.request }
         requires room { HasRoomToGive self.old.memory (request_of self.old.request) }
-        ensures footprint { footprint_of self.new.joining.footprint ≡ no_footprint }
+        ensures footprint { footprint_of self.new.joining.footprint
+            ≡ unless_fixed (alone (doubts_of self.old.memory) (place_in (memory_of self.old.memory) (request_of self.old.request)) (request_of self.old.request)) }
         ensures memory { memory_of self.new.memory ≡ carried_out (memory_of self.old.memory) (request_of self.old.request) }
         ensures flight { flight_of self.new.joining ≡ flight_for (memory_of self.old.memory) (footprint_of self.new.joining.footprint) (request_of self.old.request) }
-        ensures doubts { doubts_of self.new.memory ≡ doubts_of self.old.memory }
+        ensures room { HasRoomToWrite (rooms_of self.new.memory) (footprint_of self.new.joining.footprint) }
+        ensures bytes { doubts_of self.new.memory
+            ≡ after_turn (doubts_of self.old.memory) (alone (doubts_of self.old.memory) (place_in (memory_of self.old.memory) (request_of self.old.request)) (request_of self.old.request)) (bytes_given self.old.request) }
         ensures rooms { rooms_of self.new.memory ≡ rooms_of self.old.memory }
         ensures rest { self.new ≡ record self.old { memory = self.new.memory; joining = self.new.joining } }
     {
@@ -583,8 +591,16 @@ impl Scoreboard {
             joining,
             ..
         } = self;
-        joining.clear_footprint();
+        if serial.knows_all() {
+            joining.clear_footprint();
+            joining.carry_out(serial, request);
+            return;
+        }
+        let place = serial.place(request);
+        joining.start_footprint(serial, place, request);
         joining.carry_out(serial, request);
+        mark_own(serial, joining.footprint(), request);
+        joining.clear_if_fixed();
     }
 
     /// Whether the reply to the request that has begun came already.
@@ -754,5 +770,33 @@ impl Scoreboard {
         ensures { result ≡ byte_at (board_of self.now).memory address }
     {
         self.serial.byte(address)
+    }
+    /// How much a beat tells that may come next, and how much of that is compared. What was observed stays.
+    pub fn telling(&self, seen: &ObservedBeat) -> Telling
+        ensures { result ≡ telling_of self.now.policy (board_of self.now) seen.now }
+    {
+        let ObservedBeat::D(client, beat) = seen else {
+            return Telling::nothing();
+        };
+        match self.clients.get(usize::from(*client)) {
+            None => Telling::nothing(),
+            Some(found) => found.telling(self.policy, beat.source),
+        }
+    }
+    /// The bytes from an address on become these, and are known: a tester says what the memory began with. So a board of which nothing
+    /// was observed is one that began with them. It fails only where one of them is of no good page, or memory was refused; then nothing
+    /// has changed.
+    pub fn fill(&mut self, address: u32, bytes: &[u8]) -> Result<(), FillFault>
+        ensures filled { OnOk result (board_of self.new ≡ filled_on (board_of self.old) address bytes.now) }
+        ensures opening { OnOk result ((errors : Errors) (beginning : Beginning) → board_of self.old ≡ opening_from errors beginning
+            → board_of self.new ≡ opening_from errors (filled_beginning beginning address bytes.now)) }
+        ensures kept { OnErr result (board_of self.new ≡ board_of self.old) }
+        ensures place { can_fill (board_of self.old).memory.faults address (length bytes.now) ≡ false → result ≡ Err Place }
+        ensures err { IfErr result (λ fault. ((can_fill (board_of self.old).memory.faults address (length bytes.now) ≡ false) × (fault ≡ Place))
+            ⊎ ((can_fill (board_of self.old).memory.faults address (length bytes.now) ≡ true) × (fault ≡ NoRoom))) }
+        ensures good { OnOk result (can_fill (board_of self.old).memory.faults address (length bytes.now) ≡ true) }
+        ensures policy { self.new.policy ≡ self.old.policy }
+    {
+        self.serial.fill(address, bytes)
     }
 }

@@ -11,13 +11,14 @@ ghost use Rattle.scoreboard.specs.Flights.{flights_after, is_of_source, next_rep
 ghost use Rattle.serial_memory.specs.SerialMemory.{IsCheckedRequest, doubts_of, rooms_of};
 ghost use Rattle.scoreboard.specs.InsideBoards.{HaveRoomToWrite, IsAskedBy, IsFirstBeat, IsMarkedAlone, client_of, early_of, flight_of, flights_of, footprint_of, front_after};
 ghost use Rattle.scoreboard.specs.Races.{beside_all, beside_dependent, unless_failed};
+ghost use Rattle.scoreboard.specs.Telling.{flight_telling};
 
 use crate::failed_bursts::Span;
 use crate::flights::Flights;
 use crate::footprint::Footprint;
 use crate::in_flight::{InFlight, wrong_told};
 use crate::marks::{mark_dependent, mark_shared};
-use crate::{Errors, Policy, ReplyRule, Wrong};
+use crate::{Errors, Policy, ReplyRule, Telling, Wrong};
 use score_setup::ScoreConfig;
 use serial_memory::SerialMemory;
 use std::alloc::{AllocError, Global};
@@ -300,5 +301,19 @@ impl Client {
     {
         self.flights.hit(span);
         self.coming.hit(span);
+    }
+    /// How much a beat of a source on channel D tells.
+    pub(crate) fn telling(&self, policy: Policy, source: u8) -> Telling
+        ensures { result ≡ flight_telling policy (next_to policy (client_of self.now) source) }
+    {
+        if self.flights.has_next(source) {
+            return self.flights.telling(policy, source);
+        }
+        match (policy, self.early) {
+            (Policy::RealTime, Some(due)) if due.source == source => {
+                Telling::of_due(policy, &self.coming, 1, &due)
+            }
+            _ => Telling::nothing(),
+        }
     }
 }

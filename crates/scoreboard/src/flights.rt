@@ -9,12 +9,13 @@ ghost use Rattle.scoreboard.specs.Flights.{begun_after, due_to, each_flight, fli
 ghost use Rattle.serial_memory.specs.SerialMemory.{doubts_of, rooms_of};
 ghost use Rattle.scoreboard.specs.InsideBoards.{HaveRoom, HaveRoomToWrite, IsMarkedAlone, flight_of, flights_of, footprint_of};
 ghost use Rattle.scoreboard.specs.Races.{beside_all, beside_dependent, flight_beside};
+ghost use Rattle.scoreboard.specs.Telling.{flight_telling};
 
 use crate::failed_bursts::Span;
 use crate::footprint::Footprint;
 use crate::in_flight::InFlight;
 use crate::marks::{mark_dependent, mark_shared};
-use crate::{Policy, ReplyRule, Wrong};
+use crate::{Policy, ReplyRule, Telling, Wrong};
 use serial_memory::SerialMemory;
 use std::alloc::{AllocError, Global};
 use std::marker::Model;
@@ -316,6 +317,18 @@ impl Flights {
         hit_each(&mut self.due, span);
         if let Some(flight) = &mut self.begun {
             flight.hit(span);
+        }
+    }
+    /// How much a beat of a source tells.
+    pub(crate) fn telling(&self, policy: Policy, source: u8) -> Telling
+        ensures { result ≡ flight_telling policy (next_reply (flights_of self.now) source) }
+    {
+        if let Some(flight) = &self.begun {
+            return flight.telling(policy);
+        }
+        match place_of(&self.due, source) {
+            None => Telling::nothing(),
+            Some(place) => self.due[place].telling(policy),
         }
     }
 }

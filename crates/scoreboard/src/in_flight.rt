@@ -7,13 +7,16 @@ ghost use Rattle.responses.specs.Shown.{shown};
 ghost use Rattle.scoreboard.specs.Boards.{differs_in, due_beat, is_payload, kept_from, reply_rules, tells_error, tells_otherwise, unless_indeterminate, wrong_by, wrong_reply};
 ghost use Rattle.scoreboard.specs.FailedBursts.{hit_flight};
 ghost use Rattle.scoreboard.specs.Flights.{no_footprint};
+ghost use Rattle.scoreboard.specs.InTurn.{unless_fixed};
 ghost use Rattle.serial_memory.specs.SerialMemory.{HasRoomToGive, IsCheckedRequest, IsMemoryRange, carried_out, doubts_of, meaning_in, memory_of, rooms_of};
 ghost use Rattle.scoreboard.specs.InsideBoards.{fails_by, flight_of, footprint_of, words_of};
 ghost use Rattle.scoreboard.specs.Races.{alone, flight_beside, unless_failed};
+ghost use Rattle.scoreboard.specs.Telling.{left_telling};
 
 use crate::failed_bursts::Span;
 use crate::footprint::Footprint;
-use crate::{Errors, Policy, ReplyRule, Wrong};
+use crate::in_turn::wrong_in_turn;
+use crate::{Errors, Policy, ReplyRule, Telling, Wrong};
 use bus_words::{has_lane, lane_byte};
 use serial_memory::SerialMemory;
 use std::alloc::{AllocError, Global};
@@ -53,7 +56,7 @@ impl Drop for InFlight {
 }
 
 /// How a beat differs from the one that is due.
-fn difference(due: &DBeat, beat: &DBeat) -> Option<ReplyRule>
+pub(crate) fn difference(due: &DBeat, beat: &DBeat) -> Option<ReplyRule>
     ensures { result ≡ first_broken (reply_rules due.now beat.now) }
 {
     if beat.source != due.source {
@@ -106,7 +109,7 @@ fn tells_otherwise(footprint: &Footprint, k: u16, due: &DBeat, beat: &DBeat) -> 
 }
 
 /// Whether a rule is the one on payloads.
-fn is_payload(rule: ReplyRule) -> bool
+pub(crate) fn is_payload(rule: ReplyRule) -> bool
     ensures { result ≡ is_payload rule }
 {
     matches!(rule, ReplyRule::Payload)
@@ -136,7 +139,7 @@ fn tells_error(beats: &[DBeat]) -> bool
 }
 
 /// Which beat of a reply, from 0, is its next, where so many are left.
-fn beat_number(footprint: &Footprint, left: u16) -> u16
+pub(crate) fn beat_number(footprint: &Footprint, left: u16) -> u16
     ensures { result ≡ beats_of footprint.now.size true - left }
 {
     beats_of(footprint.size(), true).saturating_sub(left)
@@ -201,6 +204,17 @@ impl InFlight {
         ensures room { length self.new.footprint.determined ≡ length self.old.footprint.determined }
     {
         self.footprint.clear();
+    }
+
+    /// Its footprint becomes that of a request of which nobody asks, where all of its bytes are determined.
+    pub(crate) fn clear_if_fixed(&mut self)
+        ensures footprint { footprint_of self.new.footprint ≡ unless_fixed (footprint_of self.old.footprint) }
+        ensures room { length self.new.footprint.determined ≡ length self.old.footprint.determined }
+        ensures rest { self.new ≡ record self.old { footprint = self.new.footprint } }
+    {
+        if self.footprint.is_fixed() {
+            self.footprint.clear();
+        }
     }
 
     /// Its footprint becomes that of a request that acts at an address, where it acts on a good page, alone.
@@ -317,11 +331,10 @@ impl InFlight {
         let Some(due) = self.next_beat() else {
             return Some(Wrong::Reply(ReplyRule::Unasked, None));
         };
-        if policy == Policy::RealTime {
-            return wrong_told(&self.footprint, told, self.left(), &due, beat);
+        match policy {
+            Policy::AcceptanceOrder => wrong_in_turn(&self.footprint, self.left(), &due, beat),
+            Policy::RealTime => wrong_told(&self.footprint, told, self.left(), &due, beat),
         }
-        let rule = difference(&due, beat)?;
-        Some(Wrong::Reply(rule, Some(due)))
     }
 
     /// What another request may write isn't determined.
@@ -339,5 +352,14 @@ impl InFlight {
         ensures room { length self.new.footprint.determined ≡ length self.old.footprint.determined }
     {
         self.footprint.hit(span);
+    }
+    /// How much the next beat of its reply tells; nothing, where none is left.
+    pub(crate) fn telling(&self, policy: Policy) -> Telling
+        ensures { result ≡ left_telling policy (footprint_of self.now.footprint) self.now.beats }
+    {
+        match self.next_beat() {
+            None => Telling::nothing(),
+            Some(due) => Telling::of_due(policy, &self.footprint, self.left(), &due),
+        }
     }
 }

@@ -6,16 +6,22 @@ mod board;
 mod clients;
 mod early_port;
 mod failed_bursts;
+mod filling;
 mod flights;
 mod footprint;
 mod in_flight;
+mod in_turn;
 mod marks;
 mod names;
 mod places;
+mod tellings;
 
 use axi_checker::{AxiBeat, AxiRule};
 pub use board::Scoreboard;
+pub use filling::can_fill;
 pub use places::AxiPlaces;
+pub use serial_memory::FillFault;
+pub use tellings::Telling;
 use tl_checker::TlRule;
 use tl_messages::{ABeat, DBeat};
 

@@ -3,7 +3,9 @@ use super::{ACK, DATA, GET, PUT, REGION, SEEN, board_set_up, same};
 use axi_beats::ArBeat;
 use axi_checker::{AxiBeat, AxiRule};
 use burst_plan::{MapFault, Region};
-use scoreboard::{Errors, ObservedBeat, Policy, ReplyRule, Scoreboard, Wrong};
+use scoreboard::{
+    Errors, FillFault, ObservedBeat, Policy, ReplyRule, Scoreboard, Telling, Wrong, can_fill,
+};
 use setups::SetupFault;
 use sparse_memory::{PageRange, RangeKind};
 use std::test::Fail;
@@ -81,6 +83,33 @@ fn bytes_that_nobody_knows(rt: HostRuntime) -> Result<(), Fail> {
         same(&rt, place, board.judge(seen)?, *wrong);
     }
     Ok(())
+}
+
+#[test]
+fn bytes_that_a_memory_began_with(rt: HostRuntime) -> Result<(), Fail> {
+    let setup = board_set_up(REGION).expect(&rt, "room");
+    same(&rt, "the last byte", can_fill(&setup, 0x13fff, 1), true);
+    same(&rt, "one more", can_fill(&setup, 0x13fff, 2), false);
+    let reply = ObservedBeat::D(1, OTHER);
+    let (four, none) = ([4, 4], [0, 0]);
+    for policy in POLICIES {
+        let mut board = Scoreboard::new(rt.alloc(), policy, Errors::Strict, &setup)?;
+        let refused = board.fill(0x13fff, &[1, 2]).err();
+        same(&rt, policy, refused, Some(FillFault::Place));
+        same(&rt, policy, board.byte(0x13fff), Some(0));
+        same(&rt, policy, board.fill(0x1000c, &[0xff; 4]).err(), None);
+        same(&rt, policy, board.byte(0x1000f), Some(0xff));
+        same(&rt, policy, board.judge(&ObservedBeat::A(1, GET))?, None);
+        same(&rt, policy, counts(board.telling(&reply)), four);
+        same(&rt, policy, board.judge(&reply)?, None);
+        same(&rt, policy, counts(board.telling(&reply)), none);
+    }
+    Ok(())
+}
+
+/// How many bytes a beat tells, and how many of them are compared.
+fn counts(telling: Telling) -> [u8; 2] {
+    [telling.told, telling.compared]
 }
 
 /// Beats, and what is wrong with each.

@@ -14,7 +14,8 @@ fn an_input(rt: HostRuntime) {
     let mut output = Vec::new(rt.alloc());
     let ending = score_text(rt.alloc(), &mut INPUT.as_bytes(), &mut output);
     same(&rt, "something is wrong", ending, Ok(true));
-    let wanted = "= wrong 2 axi 6 W_WITHOUT_AW\n= judged 1 wrong 1 outstanding 0 open 0\n";
+    let wanted =
+        "= wrong 2 axi 6 W_WITHOUT_AW\n= judged 1 wrong 1 outstanding 0 open 0 compared 0 of 0\n";
     same(&rt, "text", output.as_slice(), wanted.as_bytes());
 }
 

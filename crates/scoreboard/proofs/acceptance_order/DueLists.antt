@@ -9,6 +9,7 @@ use Rattle.bus_words.proofs.FoundChanges.{find-append-fails}
 use Rattle.bus_words.proofs.PlaceChanges.{find-without_first-none}
 use Rattle.tl_messages.specs.declared.DBeat.{DBeat}
 use Rattle.scoreboard.specs.Flights.{InFlight, is_of_source, with_left}
+use Rattle.scoreboard.specs.InTurn.{DueBeat, dues_of}
 use Rattle.scoreboard.proofs.MappedLists.{find_other}
 
 -- beats that are all of a source
@@ -25,9 +26,18 @@ AreDues [] = ⊤
 AreDues (flight ∷ flights) = IsDue flight × (find (is_of_source flight.source) flights ≡ None) × AreDues flights
 
 -- the beats that are left of one, if there is one
-abbrev pub beats_in : Option InFlight → List DBeat
+abbrev pub beats_in : Option InFlight → List DueBeat
 beats_in None = []
-beats_in (Some flight) = flight.beats
+beats_in (Some flight) = dues_of flight.footprint flight.beats
+
+-- there are none only of none
+pub none_due : (next : Option InFlight) → ((flight : InFlight) → next ≡ Some flight → IsDue flight) → beats_in next ≡ [] → next ≡ None
+none_due None due none = refl
+none_due (Some flight) due none = absurd ((due flight refl).some (no_beats flight.beats none))
+  where
+    no_beats : (beats : List DBeat) → dues_of flight.footprint beats ≡ [] → beats ≡ []
+    no_beats [] is = refl
+    no_beats (beat ∷ beats) is = absurd (cc (is))
 
 pub any_found : {X : Type 0} (p : X → Bool) (xs : List X) → list_any p xs ≡ is_some (find p xs)
 any_found p [] = refl
@@ -64,7 +74,7 @@ dues_without_beat flights flight (beat ∷ rest) dues own = (
   dues_without (is_of_source flight.source) flights dues,
 )
 
-pub left_without_beat : (flights : List InFlight) (flight : InFlight) (rest : List DBeat) → AreDues flights → beats_in (find (is_of_source flight.source) (without_beat flights flight.source flight rest)) ≡ rest
+pub left_without_beat : (flights : List InFlight) (flight : InFlight) (rest : List DBeat) → AreDues flights → beats_in (find (is_of_source flight.source) (without_beat flights flight.source flight rest)) ≡ dues_of flight.footprint rest
 left_without_beat flights flight [] dues = ap beats_in (none_more flight.source flights dues)
 left_without_beat flights flight (beat ∷ rest) dues = rw (eq-eqb flight.source flight.source refl) refl
 

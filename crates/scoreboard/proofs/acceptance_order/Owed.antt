@@ -1,5 +1,5 @@
 -- What a scoreboard holds in flight of a client is what is left to tell it, source by source.
-use Rattle.std.proofs.Common.{◌≡◌, Bool, ℕ, ◌==◌, true, false, ◌&&◌, List, [], ◌∷◌, ◌++◌, length, Option, Some, None, ◌⊎◌, inl, inr, refl, sym, ◌∙◌, ap, subst, arith}
+use Rattle.std.proofs.Common.{◌≡◌, Bool, ℕ, ◌==◌, true, false, ◌&&◌, List, [], ◌∷◌, ◌++◌, length, Option, Some, None, if◌then◌else◌, ◌⊎◌, inl, inr, refl, sym, ◌∙◌, ap, subst, arith}
 use Rattle.std.specs.Prelude.{◌≢◌, is_some, nat_lt}
 use Rattle.std.specs.List.{find}
 use Rattle.std.specs.Option.{option_to_list}
@@ -12,11 +12,12 @@ use Rattle.bus_words.specs.Places.{without_first}
 use Rattle.bus_words.proofs.FoundChanges.{find-append-fails}
 use Rattle.bus_words.proofs.PlaceChanges.{find-passes}
 use Rattle.tl_messages.specs.declared.DBeat.{DBeat}
-use Rattle.scoreboard.specs.Boards.{wrong_beat, wrong_reply}
-use Rattle.scoreboard.specs.Flights.{Flights, InFlight, begun_after, begun_is_of, due_after, flights_after, is_busy, is_of_source, next_reply, with_flight, with_left}
+use Rattle.scoreboard.specs.Boards.{wrong_beat, wrong_in_turn, wrong_reply}
+use Rattle.scoreboard.specs.Flights.{Flights, Footprint, InFlight, begun_after, begun_is_of, due_after, flights_after, is_busy, is_of_source, next_reply, with_flight, with_left}
+use Rattle.scoreboard.specs.InTurn.{DueBeat, agrees_where_known, as_known, dues_of}
 use Rattle.scoreboard.specs.Right.{IsPartly, IsTold, left_of}
 use Rattle.scoreboard.specs.declared.Policy.TheVariants.{AcceptanceOrder}
-use Rattle.scoreboard.proofs.acceptance_order.DueLists.{AreDues, AreOf, IsDue, any_found, beats_in, due_found, dues_with, dues_without_beat, left_without_beat, other_without_beat, without_beat}
+use Rattle.scoreboard.proofs.acceptance_order.DueLists.{AreDues, AreOf, IsDue, any_found, beats_in, due_found, dues_with, dues_without_beat, left_without_beat, none_due, other_without_beat, without_beat}
 use Rattle.scoreboard.proofs.acceptance_order.SeenLists.{last_of-append}
 use Rattle.scoreboard.proofs.acceptance_order.Told.{told-beat, told-reply}
 
@@ -31,7 +32,7 @@ abbrev pub flying_of : Flights → ℕ → Option InFlight
 flying_of flights source = find (is_of_source source) (flying flights)
 
 -- what is left to tell of a source is what is left of the reply in flight, and a part of it was told where that has begun
-pub record IsOwed (replies : List (List DBeat)) (told : List DBeat) (flights : Flights) (source : ℕ) : Type 0 where
+pub record IsOwed (replies : List (List DueBeat)) (told : List DBeat) (flights : Flights) (source : ℕ) : Type 0 where
   pub is_told : IsTold replies told
   pub left_is : left_of replies told ≡ beats_in (flying_of flights source)
   pub has_begun : IsPartly replies told → begun_is_of source flights.begun ≡ true
@@ -50,16 +51,17 @@ busy_by : (flights : Flights) (source : ℕ) → is_busy AcceptanceOrder flights
 busy_by flights source = grind (arith, any_found (is_of_source source) flights.due)
 
 -- of a source that isn't busy nothing is left
-pub free-left : (replies : List (List DBeat)) (told : List DBeat) (flights : Flights) (source : ℕ) → IsOwed replies told flights source → is_busy AcceptanceOrder flights source ≡ false
+pub free-left : (replies : List (List DueBeat)) (told : List DBeat) (flights : Flights) (source : ℕ) → IsOwed replies told flights source → is_busy AcceptanceOrder flights source ≡ false
     → left_of replies told ≡ []
 free-left replies told flights source owed free = grind (arith, owed.left_is, busy_by flights source, free)
 
 -- and the other way round
-pub none_flying : (replies : List (List DBeat)) (told : List DBeat) (flights : Flights) (source : ℕ) → AreDues (flying flights) → IsOwed replies told flights source → left_of replies told ≡ []
+pub none_flying : (replies : List (List DueBeat)) (told : List DBeat) (flights : Flights) (source : ℕ) → AreDues (flying flights) → IsOwed replies told flights source → left_of replies told ≡ []
     → flying_of flights source ≡ None
-none_flying replies told flights source dues owed none = grind (arith, owed.left_is, none, due_found source (flying flights))
+none_flying replies told flights source dues owed none =
+    none_due (flying_of flights source) (λ flight found. due_found source (flying flights) flight dues found) (sym owed.left_is ∙ none)
 
-pub left-free : (replies : List (List DBeat)) (told : List DBeat) (flights : Flights) (source : ℕ) → AreDues (flying flights) → IsOwed replies told flights source → left_of replies told ≡ []
+pub left-free : (replies : List (List DueBeat)) (told : List DBeat) (flights : Flights) (source : ℕ) → AreDues (flying flights) → IsOwed replies told flights source → left_of replies told ≡ []
     → is_busy AcceptanceOrder flights source ≡ false
 left-free replies told flights source dues owed none = busy_by flights source ∙ ap is_some (none_flying replies told flights source dues owed none)
 
@@ -69,17 +71,44 @@ left-free replies told flights source dues owed none = busy_by flights source �
 next_right : (beat : DBeat) (rest : List DBeat) → wrong_beat (beat ∷ rest) beat ≡ None
 next_right beat rest = grind (arith, nat_tests, booleans_Decides)
 
--- so a beat that isn't wrong is the next of the reply that may come
+-- and one that breaks none is the one due
 pub right_next : (beats : List DBeat) (beat : DBeat) → wrong_beat beats beat ≡ None → (rest : List DBeat) × (beats ≡ beat ∷ rest)
 right_next [] beat none = absurd (cc (none))
 right_next (due ∷ rest) beat none = let same : due ≡ beat = grind (arith, nat_tests, booleans_Decides, none) in (rest, rw same refl)
 
+same_beat : (due beat : DBeat) → wrong_beat (due ∷ []) beat ≡ None → beat ≡ due
+same_beat due beat none = let next = right_next (due ∷ []) beat none in cc (next.1)
+
+-- of these beats one is the next
+record HasNext (footprint : Footprint) (beats : List DBeat) (beat : DBeat) : Type 0 where
+  due : DueBeat
+  rest : List DBeat
+  beats_are : beats ≡ due.beat ∷ rest
+  dues_are : dues_of footprint beats ≡ due ∷ dues_of footprint rest
+  same : as_known due beat ≡ due.beat
+
+-- so a beat that isn't wrong shows the next of the reply that may come
+next_shown : (footprint : Footprint) (beats : List DBeat) (beat : DBeat) → wrong_in_turn (dues_of footprint beats) beat ≡ None → HasNext footprint beats beat
+next_shown footprint [] beat none = absurd (cc (none))
+next_shown footprint (due ∷ rest) beat none = record { due = _; rest = rest; beats_are = refl; dues_are = refl; same = same_beat due _ none }
+
+-- which is of its source
+known_source : (due : DueBeat) (beat : DBeat) → as_known due beat ≡ due.beat → due.beat.source ≡ beat.source
+known_source due beat same = sym (ap (λ (b : DBeat). b.source) same) ∙ by_test (agrees_where_known due beat)
+  where
+    by_test : (b : Bool) → (if b then record beat { payload = due.beat.payload } else beat).source ≡ beat.source
+    by_test true = refl
+    by_test false = refl
+
 -- a beat on channel D that isn't wrong: the next of the reply to a request in flight, and what it leaves
 pub record Comes (flights : Flights) (beat : DBeat) : Type 0 where
   pub flight : InFlight
+  pub due : DueBeat
   pub rest : List DBeat
   pub own : flight.source ≡ beat.source
-  pub beats : flight.beats ≡ beat ∷ rest
+  pub beats : flight.beats ≡ due.beat ∷ rest
+  pub dues : dues_of flight.footprint flight.beats ≡ due ∷ dues_of flight.footprint rest
+  pub same : as_known due beat ≡ due.beat
   pub found : flying_of flights beat.source ≡ Some flight
   pub flying_is : flying (flights_after flights beat.source) ≡ without_beat (flying flights) beat.source flight rest
   pub begun_is : (flights_after flights beat.source).begun ≡ with_left flight rest
@@ -89,8 +118,8 @@ pub record Comes (flights : Flights) (beat : DBeat) : Type 0 where
 begun_left : (flight : InFlight) (beats : List DBeat) (source : ℕ) → begun_is_of source (with_left flight beats) ≡ (nat_lt 0 (length beats) && flight.source == source)
 begun_left flight beats source = grind (arith, nat_tests)
 
-left_begun : (flight : InFlight) (beat : DBeat) (rest : List DBeat) → flight.source ≡ beat.source → flight.beats ≡ beat ∷ rest → begun_after (Some flight) beat.source ≡ with_left flight rest
-left_begun flight beat rest own beats = rw (eq-eqb flight.source beat.source own, beats) refl
+left_begun : (flight : InFlight) (beat : DBeat) (due : DBeat) (rest : List DBeat) → flight.source ≡ beat.source → flight.beats ≡ due ∷ rest → begun_after (Some flight) beat.source ≡ with_left flight rest
+left_begun flight beat due rest own beats = rw (eq-eqb flight.source beat.source own, beats) refl
 
 -- the request in flight whose reply has the next beat, of which it is not wrong
 comes : (due : List InFlight) (begun : Option InFlight) (beat : DBeat) (flight : InFlight) → next_reply (record { due = due; begun = begun }) beat.source ≡ Some flight
@@ -98,9 +127,9 @@ comes : (due : List InFlight) (begun : Option InFlight) (beat : DBeat) (flight :
     → due_after begun due beat.source ≡ without_first (is_of_source beat.source) (option_to_list begun ++ due) → ((source : ℕ) → begun_is_of source begun ≡ true → source ≡ beat.source)
     → wrong_reply AcceptanceOrder None (Some flight) beat ≡ None → Comes (record { due = due; begun = begun }) beat
 comes due begun beat flight next own found others alone none =
-    let (rest, beats) = right_next flight.beats beat none in
-    let left = ap (λ (next : Option InFlight). begun_after next beat.source) next ∙ left_begun flight beat rest own beats in
-    record { flight = flight; rest = rest; own = own; beats = beats; found = found; flying_is = rw (left, others) refl; begun_is = left; alone = alone }
+    let has = next_shown flight.footprint flight.beats beat none in
+    let left = ap (λ (next : Option InFlight). begun_after next beat.source) next ∙ left_begun flight beat has.due.beat has.rest own has.beats_are in
+    record { flight = flight; due = has.due; rest = has.rest; own = own; beats = has.beats_are; dues = has.dues_are; same = has.same; found = found; flying_is = rw (left, others) refl; begun_is = left; alone = alone }
 
 pub right_comes : (flights : Flights) (beat : DBeat) → AreDues (flying flights) → wrong_reply AcceptanceOrder None (next_reply flights beat.source) beat ≡ None → Comes flights beat
 right_comes flights beat dues none = by_begun flights.due flights.begun dues none
@@ -114,7 +143,8 @@ right_comes flights beat dues none = by_begun flights.due flights.begun dues non
         → wrong_reply AcceptanceOrder None (next_reply (record { due = due; begun = begun }) beat.source) beat ≡ None → Comes (record { due = due; begun = begun }) beat
     by_begun due None are right = by_found due (find (is_of_source beat.source) due) refl right
     by_begun due (Some flight) are right =
-        let own : flight.source ≡ beat.source = sym (subst (AreOf flight.source) (right_next flight.beats beat right).1 are.0.own).0 in
+        let has = next_shown flight.footprint flight.beats beat right in
+        let own : flight.source ≡ beat.source = sym (subst (AreOf flight.source) has.beats_are are.0.own).0 ∙ known_source has.due beat has.same in
         let passes = eq-eqb flight.source beat.source own in
         comes due (Some flight) beat flight refl own (rw passes refl) (rw passes refl) (λ source is. sym (eqb-true flight.source source is) ∙ own) right
 
@@ -124,17 +154,17 @@ dues_after flights beat dues come =
     rw (come.flying_is, ← come.own) (dues_without_beat (flying flights) come.flight come.rest dues (subst (AreOf come.flight.source) come.beats are).1)
 
 -- what was left of its source
-pub left_before : {replies : List (List DBeat)} {told : List DBeat} (flights : Flights) (beat : DBeat) (come : Comes flights beat) → IsOwed replies told flights beat.source
-    → left_of replies told ≡ beat ∷ come.rest
-left_before flights beat come owed = owed.left_is ∙ ap beats_in come.found ∙ come.beats
+pub left_before : {replies : List (List DueBeat)} {told : List DBeat} (flights : Flights) (beat : DBeat) (come : Comes flights beat) → IsOwed replies told flights beat.source
+    → left_of replies told ≡ come.due ∷ dues_of come.flight.footprint come.rest
+left_before flights beat come owed = owed.left_is ∙ ap beats_in come.found ∙ come.dues
 
 -- is left without it
-pub owed_after : {replies : List (List DBeat)} {told : List DBeat} (flights : Flights) (beat : DBeat) → AreDues (flying flights) → Comes flights beat → IsOwed replies told flights beat.source
+pub owed_after : {replies : List (List DueBeat)} {told : List DBeat} (flights : Flights) (beat : DBeat) → AreDues (flying flights) → Comes flights beat → IsOwed replies told flights beat.source
     → IsOwed replies (told ++ beat ∷ []) (flights_after flights beat.source) beat.source
 owed_after {replies = replies} {told = told} flights beat dues come owed =
     let left = left_before flights beat come owed in
-    let on = told-beat replies told beat come.rest owed.is_told left in
-    let rest_left : beats_in (flying_of (flights_after flights beat.source) beat.source) ≡ come.rest = rw (come.flying_is, ← come.own) (left_without_beat (flying flights) come.flight come.rest dues) in
+    let on = told-beat replies told come.due beat (dues_of come.flight.footprint come.rest) owed.is_told left come.same in
+    let rest_left : beats_in (flying_of (flights_after flights beat.source) beat.source) ≡ dues_of come.flight.footprint come.rest = rw (come.flying_is, ← come.own) (left_without_beat (flying flights) come.flight come.rest dues) in
     let begun = ap (begun_is_of beat.source) come.begun_is ∙ begun_left come.flight come.rest beat.source in
     record {
       is_told = on.is_told;
@@ -147,7 +177,7 @@ owed_after {replies = replies} {told = told} flights beat dues come owed =
     }
 
 -- of the others what was left
-pub owed_beside : {replies : List (List DBeat)} {told : List DBeat} (flights : Flights) (beat : DBeat) (source : ℕ) → Comes flights beat → source ≢ beat.source
+pub owed_beside : {replies : List (List DueBeat)} {told : List DBeat} (flights : Flights) (beat : DBeat) (source : ℕ) → Comes flights beat → source ≢ beat.source
     → IsOwed replies told flights source → IsOwed replies told (flights_after flights beat.source) source
 owed_beside flights beat source come other owed =
     let same : flying_of (flights_after flights beat.source) source ≡ flying_of flights source =
@@ -161,18 +191,18 @@ owed_beside flights beat source come other owed =
     }
 
 -- a beat isn't wrong that is the next left of its source, where no reply of another source has begun
-pub left_comes : (flights : Flights) (beat : DBeat) (rest : List DBeat) → beats_in (flying_of flights beat.source) ≡ beat ∷ rest
+pub left_comes : (flights : Flights) (due : DueBeat) (beat : DBeat) (rest : List DueBeat) → beats_in (flying_of flights beat.source) ≡ due ∷ rest → as_known due beat ≡ due.beat
     → ((source : ℕ) → begun_is_of source flights.begun ≡ true → source ≡ beat.source) → wrong_reply AcceptanceOrder None (next_reply flights beat.source) beat ≡ None
-left_comes flights beat rest left alone = by_begun flights.due flights.begun left alone
+left_comes flights due beat rest left same alone = by_begun flights.due flights.begun left alone
   where
-    of_found : (next : Option InFlight) → beats_in next ≡ beat ∷ rest → wrong_reply AcceptanceOrder None next beat ≡ None
+    of_found : (next : Option InFlight) → beats_in next ≡ due ∷ rest → wrong_reply AcceptanceOrder None next beat ≡ None
     of_found None is = absurd (cc (is))
-    of_found (Some flight) is = rw is (next_right beat rest)
+    of_found (Some flight) is = rw (is, same) (next_right due.beat [])
 
-    by_begun : (due : List InFlight) (begun : Option InFlight) → beats_in (flying_of (record { due = due; begun = begun }) beat.source) ≡ beat ∷ rest
-        → ((source : ℕ) → begun_is_of source begun ≡ true → source ≡ beat.source) → wrong_reply AcceptanceOrder None (next_reply (record { due = due; begun = begun }) beat.source) beat ≡ None
-    by_begun due None is only = of_found (find (is_of_source beat.source) due) is
-    by_begun due (Some flight) is only = of_found (Some flight) (sym (rw (eq-eqb flight.source beat.source (only flight.source (eqb_same flight.source))) refl) ∙ is)
+    by_begun : (dues : List InFlight) (begun : Option InFlight) → beats_in (flying_of (record { due = dues; begun = begun }) beat.source) ≡ due ∷ rest
+        → ((source : ℕ) → begun_is_of source begun ≡ true → source ≡ beat.source) → wrong_reply AcceptanceOrder None (next_reply (record { due = dues; begun = begun }) beat.source) beat ≡ None
+    by_begun dues None is only = of_found (find (is_of_source beat.source) dues) is
+    by_begun dues (Some flight) is only = of_found (Some flight) (sym (rw (eq-eqb flight.source beat.source (only flight.source (eqb_same flight.source))) refl) ∙ is)
 
 -- ---- a request that is in flight from now on
 
@@ -183,21 +213,21 @@ pub flying_more : (flights : Flights) (flight : InFlight) → AreDues (flying fl
 flying_more flights flight dues due none = subst AreDues (sym (flying_with flights flight)) (dues_with (flying flights) flight dues due none)
 
 -- of a source of which nothing was left
-pub owed_own : (flights : Flights) (flight : InFlight) (replies : List (List DBeat)) (told : List DBeat) → flying_of flights flight.source ≡ None → IsOwed replies told flights flight.source
-    → IsOwed (replies ++ flight.beats ∷ []) told (with_flight flight flights) flight.source
+pub owed_own : (flights : Flights) (flight : InFlight) (replies : List (List DueBeat)) (told : List DBeat) → flying_of flights flight.source ≡ None → IsOwed replies told flights flight.source
+    → IsOwed (replies ++ dues_of flight.footprint flight.beats ∷ []) told (with_flight flight flights) flight.source
 owed_own flights flight replies told none owed =
     let left = owed.left_is ∙ ap beats_in none in
-    let on = told-reply replies told flight.beats owed.is_told left in
+    let on = told-reply replies told (dues_of flight.footprint flight.beats) owed.is_told left in
     let found_last : flying_of (with_flight flight flights) flight.source ≡ Some flight =
     ap (find (is_of_source flight.source)) (flying_with flights flight) ∙ find-append (is_of_source flight.source) (flying flights) (flight ∷ []) ∙ rw (none, eqb_same flight.source) refl in
     record {
       is_told = on.is_told;
       left_is = on.left_is ∙ sym (ap beats_in found_last);
-      has_begun = λ partly. absurd (omega (arith, partly.some_told, ap length on.left_is, ap length (last_of-append replies flight.beats)));
+      has_begun = λ partly. absurd (omega (arith, partly.some_told, ap length on.left_is, ap length (last_of-append replies (dues_of flight.footprint flight.beats))));
       partly = λ is. absurd (omega (arith, (owed.partly is).some_left, ap length left));
     }
 
-pub owed_other : (flights : Flights) (flight : InFlight) (other : ℕ) (replies : List (List DBeat)) (told : List DBeat) → other ≢ flight.source → IsOwed replies told flights other
+pub owed_other : (flights : Flights) (flight : InFlight) (other : ℕ) (replies : List (List DueBeat)) (told : List DBeat) → other ≢ flight.source → IsOwed replies told flights other
     → IsOwed replies told (with_flight flight flights) other
 owed_other flights flight other replies told differs owed =
     let same : flying_of (with_flight flight flights) other ≡ flying_of flights other =

@@ -8,11 +8,12 @@ use Rattle.bus_words.proofs.PlaceChanges.{all-append}
 use Rattle.bus_words.proofs.StoredPlaces.{there_is}
 use Rattle.tl_messages.specs.declared.ABeat.{ABeat}
 use Rattle.tl_messages.specs.declared.DBeat.{DBeat}
-use Rattle.meaning.specs.InTurn.{bytes_of_all}
-use Rattle.setups.specs.Setups.{SetupLists}
-use Rattle.scoreboard.specs.Boards.{Board, ClientBoard, IsReached, a_wrong, after_a, after_all, after_d, after_seen, answer_to, d_wrong, opening_board, wrong_at}
+use Rattle.meaning.specs.Meaning.{bytes_after_all}
+use Rattle.setups.specs.Setups.{faults_of}
+use Rattle.scoreboard.specs.Boards.{Beginning, Board, ClientBoard, IsReached, a_wrong, after_a, after_all, after_d, after_seen, answer_to, d_wrong, opening_from, wrong_at}
 use Rattle.scoreboard.specs.Observed.{Observed, nothing_observed, observed_in, requests_in, with_seen}
 use Rattle.scoreboard.specs.Right.{HasClient, IsContiguous, IsRight, IsRightNow}
+use Rattle.scoreboard.specs.declared.Errors.{Errors}
 use Rattle.scoreboard.specs.declared.Policy.TheVariants.{AcceptanceOrder}
 use Rattle.scoreboard.specs.declared.ObservedBeat.{ObservedBeat}
 use Rattle.serial_memory.specs.SerialMemory.{Memory}
@@ -25,56 +26,56 @@ use Rattle.scoreboard.proofs.acceptance_order.SeenLists.{all_parts, cut_of, obse
 -- ---- one beat
 
 -- what a beat that isn't wrong makes of what was observed and held
-record Goes (setup : SetupLists) (observed : Observed) (seen : ObservedBeat) (new : Board) : Type 0 where
-  client : HasClient setup.config.clients seen
-  contiguous : IsContiguous setup observed seen
-  board : IsBoardOf setup (with_seen observed seen) new
+record Goes (beginning : Beginning) (observed : Observed) (seen : ObservedBeat) (new : Board) : Type 0 where
+  client : HasClient beginning.lists.config.clients seen
+  contiguous : IsContiguous beginning observed seen
+  board : IsBoardOf beginning (with_seen observed seen) new
 
-goes_a : (setup : SetupLists) (observed : Observed) (old : Board) (number : ℕ) (beat : ABeat) (found : Option ClientBoard) → slice_get old.clients number ≡ found → IsBoardOf setup observed old
-    → a_wrong AcceptanceOrder found beat ≡ None → Goes setup observed (A number beat) (after_a AcceptanceOrder old number found beat)
-goes_a setup observed old number beat None there of none = absurd (cc (none))
-goes_a setup observed old number beat (Some client) there of none =
+goes_a : (beginning : Beginning) (observed : Observed) (old : Board) (number : ℕ) (beat : ABeat) (found : Option ClientBoard) → slice_get old.clients number ≡ found → IsBoardOf beginning observed old
+    → a_wrong AcceptanceOrder found beat ≡ None → Goes beginning observed (A number beat) (after_a AcceptanceOrder old number found beat)
+goes_a beginning observed old number beat None there of none = absurd (cc (none))
+goes_a beginning observed old number beat (Some client) there of none =
     record {
       client = omega (arith, slice_get_within old.clients number client there, of.count);
       contiguous = tt;
-      board = step_request setup observed old number client beat (answer_to AcceptanceOrder client beat) of there refl none;
+      board = step_request beginning observed old number client beat (answer_to AcceptanceOrder client beat) of there refl none;
     }
 
-goes_d : (setup : SetupLists) (observed : Observed) (old : Board) (number : ℕ) (beat : DBeat) (found : Option ClientBoard) → slice_get old.clients number ≡ found → IsBoardOf setup observed old
-    → d_wrong AcceptanceOrder found beat ≡ None → Goes setup observed (D number beat) (after_d old number found beat)
-goes_d setup observed old number beat None there of none = absurd (cc (none))
-goes_d setup observed old number beat (Some client) there of none =
+goes_d : (beginning : Beginning) (observed : Observed) (old : Board) (number : ℕ) (beat : DBeat) (found : Option ClientBoard) → slice_get old.clients number ≡ found → IsBoardOf beginning observed old
+    → d_wrong AcceptanceOrder found beat ≡ None → Goes beginning observed (D number beat) (after_d old number found beat)
+goes_d beginning observed old number beat None there of none = absurd (cc (none))
+goes_d beginning observed old number beat (Some client) there of none =
     record {
       client = omega (arith, slice_get_within old.clients number client there, of.count);
-      contiguous = next_contiguous setup observed number client beat (of.clients number client there) none;
-      board = step_reply setup observed old number client beat of there none;
+      contiguous = next_contiguous beginning observed number client beat (of.clients number client there) none;
+      board = step_reply beginning observed old number client beat of there none;
     }
 
-goes : (setup : SetupLists) (observed : Observed) (old : Board) (seen : ObservedBeat) → IsBoardOf setup observed old → wrong_at AcceptanceOrder old seen ≡ None → Goes setup observed seen (after_seen AcceptanceOrder old seen)
-goes setup observed old (A client beat) of none = goes_a setup observed old client beat (slice_get old.clients client) refl of none
-goes setup observed old (D client beat) of none = goes_d setup observed old client beat (slice_get old.clients client) refl of none
-goes setup observed old (OnAxi beat) of none = record { client = tt; contiguous = tt; board = step_axi setup observed old beat of none }
-goes setup observed old Drained of none = record { client = tt; contiguous = tt; board = step_drained setup observed old of }
+goes : (beginning : Beginning) (observed : Observed) (old : Board) (seen : ObservedBeat) → IsBoardOf beginning observed old → wrong_at AcceptanceOrder old seen ≡ None → Goes beginning observed seen (after_seen AcceptanceOrder old seen)
+goes beginning observed old (A client beat) of none = goes_a beginning observed old client beat (slice_get old.clients client) refl of none
+goes beginning observed old (D client beat) of none = goes_d beginning observed old client beat (slice_get old.clients client) refl of none
+goes beginning observed old (OnAxi beat) of none = record { client = tt; contiguous = tt; board = step_axi beginning observed old beat of none }
+goes beginning observed old Drained of none = record { client = tt; contiguous = tt; board = step_drained beginning observed old of }
 
 -- ---- lists
 
 -- what holds of an observation with one beat more
-pub right_with : (setup : SetupLists) (before : List ObservedBeat) (seen : ObservedBeat) → IsRight setup before → HasClient setup.config.clients seen → IsContiguous setup (observed_in before) seen
-    → IsRightNow setup (with_seen (observed_in before) seen) → IsRight setup (before ++ seen ∷ [])
-right_with setup before seen right client contiguous now =
+pub right_with : (beginning : Beginning) (before : List ObservedBeat) (seen : ObservedBeat) → IsRight beginning before → HasClient beginning.lists.config.clients seen → IsContiguous beginning (observed_in before) seen
+    → IsRightNow beginning (with_seen (observed_in before) seen) → IsRight beginning (before ++ seen ∷ [])
+right_with beginning before seen right client contiguous now =
     record {
-      clients = all-append (HasClient setup.config.clients) before seen right.clients client;
+      clients = all-append (HasClient beginning.lists.config.clients) before seen right.clients client;
       always = λ earlier later is. always_by earlier later (cut_of before earlier later seen is);
       contiguous = λ earlier later next is. contiguous_by earlier later next (cut_of before earlier (next ∷ later) seen is);
     }
   where
     always_by : (earlier later : List ObservedBeat) → ((earlier ≡ before ++ seen ∷ []) × (later ≡ [])) ⊎ ((rest : List ObservedBeat) × (before ≡ earlier ++ rest) × (later ≡ rest ++ seen ∷ []))
-        → IsRightNow setup (observed_in earlier)
+        → IsRightNow beginning (observed_in earlier)
     always_by earlier later (inl (all, none)) = rw (all, observed-append nothing_observed before seen) now
     always_by earlier later (inr (rest, part, end)) = right.always earlier rest part
 
     contiguous_by : (earlier later : List ObservedBeat) (next : ObservedBeat)
-        → ((earlier ≡ before ++ seen ∷ []) × (next ∷ later ≡ [])) ⊎ ((rest : List ObservedBeat) × (before ≡ earlier ++ rest) × (next ∷ later ≡ rest ++ seen ∷ [])) → IsContiguous setup (observed_in earlier) next
+        → ((earlier ≡ before ++ seen ∷ []) × (next ∷ later ≡ [])) ⊎ ((rest : List ObservedBeat) × (before ≡ earlier ++ rest) × (next ∷ later ≡ rest ++ seen ∷ [])) → IsContiguous beginning (observed_in earlier) next
     contiguous_by earlier later next (inl (all, none)) = absurd (cc (none))
     contiguous_by earlier later next (inr ([], part, end)) =
         let same : before ≡ earlier = part ∙ append-nil earlier in
@@ -83,73 +84,73 @@ right_with setup before seen right client contiguous now =
     contiguous_by earlier later next (inr (x ∷ rest, part, end)) = right.contiguous earlier rest next (cc (part, end))
 
 -- a board that holds a right observation
-record Holds (setup : SetupLists) (before : List ObservedBeat) (board : Board) : Type 0 where
-  held : IsBoardOf setup (observed_in before) board
-  right : IsRight setup before
+record Holds (beginning : Beginning) (before : List ObservedBeat) (board : Board) : Type 0 where
+  held : IsBoardOf beginning (observed_in before) board
+  right : IsRight beginning before
 
-pub right_nothing : (setup : SetupLists) → IsRight setup []
-right_nothing setup =
+pub right_nothing : (beginning : Beginning) → IsRight beginning []
+right_nothing beginning =
     record {
       clients = tt;
-      always = λ before after is. rw (nil_from_length before (omega (arith, ap length is, length-append before after))) (right_opens setup);
+      always = λ before after is. rw (nil_from_length before (omega (arith, ap length is, length-append before after))) (right_opens beginning);
       contiguous = λ before after next is. absurd (omega (arith, ap length is, length-append before (next ∷ after)));
     }
 
-holds_with : (setup : SetupLists) (before : List ObservedBeat) (old : Board) (seen : ObservedBeat) → Holds setup before old → wrong_at AcceptanceOrder old seen ≡ None → Holds setup (before ++ seen ∷ []) (after_seen AcceptanceOrder old seen)
-holds_with setup before old seen holds none =
-    let went = goes setup (observed_in before) old seen holds.held none in
+holds_with : (beginning : Beginning) (before : List ObservedBeat) (old : Board) (seen : ObservedBeat) → Holds beginning before old → wrong_at AcceptanceOrder old seen ≡ None → Holds beginning (before ++ seen ∷ []) (after_seen AcceptanceOrder old seen)
+holds_with beginning before old seen holds none =
+    let went = goes beginning (observed_in before) old seen holds.held none in
     record {
       held = rw (observed-append nothing_observed before seen) went.board;
-      right = right_with setup before seen holds.right went.client went.contiguous went.board.right;
+      right = right_with beginning before seen holds.right went.client went.contiguous went.board.right;
     }
 
-holds_after : (setup : SetupLists) (before rest : List ObservedBeat) (middle board : Board) → Holds setup before middle → IsReached AcceptanceOrder middle rest board → Holds setup (before ++ rest) board
-holds_after setup before [] middle board holds is = rw (append-nil before, is) holds
-holds_after setup before (seen ∷ rest) middle board holds (none, more) =
-    subst (λ (xs : List ObservedBeat). Holds setup xs board) (append_assoc before (seen ∷ []) rest)
-    (holds_after setup (before ++ seen ∷ []) rest (after_seen AcceptanceOrder middle seen) board (holds_with setup before middle seen holds none) more)
+holds_after : (beginning : Beginning) (before rest : List ObservedBeat) (middle board : Board) → Holds beginning before middle → IsReached AcceptanceOrder middle rest board → Holds beginning (before ++ rest) board
+holds_after beginning before [] middle board holds is = rw (append-nil before, is) holds
+holds_after beginning before (seen ∷ rest) middle board holds (none, more) =
+    subst (λ (xs : List ObservedBeat). Holds beginning xs board) (append_assoc before (seen ∷ []) rest)
+    (holds_after beginning (before ++ seen ∷ []) rest (after_seen AcceptanceOrder middle seen) board (holds_with beginning before middle seen holds none) more)
 
-reached_holds : (setup : SetupLists) (before : List ObservedBeat) (board : Board) → IsReached AcceptanceOrder (opening_board setup) before board → Holds setup before board
-reached_holds setup before board reached = holds_after setup [] before (opening_board setup) board (record { held = board_opens setup; right = right_nothing setup }) reached
+reached_holds : (errors : Errors) (beginning : Beginning) (before : List ObservedBeat) (board : Board) → IsReached AcceptanceOrder (opening_from errors beginning) before board → Holds beginning before board
+reached_holds errors beginning before board reached = holds_after beginning [] before (opening_from errors beginning) board (record { held = board_opens errors beginning; right = right_nothing beginning }) reached
 
 -- ---- the next beat
 
 -- a beat that may come isn't wrong
-not_wrong : (setup : SetupLists) (observed : Observed) (board : Board) (seen : ObservedBeat) → IsBoardOf setup observed board → HasClient setup.config.clients seen
-    → IsContiguous setup observed seen → IsRightNow setup (with_seen observed seen) → wrong_at AcceptanceOrder board seen ≡ None
-not_wrong setup observed board (A number beat) of below contiguous now =
+not_wrong : (beginning : Beginning) (observed : Observed) (board : Board) (seen : ObservedBeat) → IsBoardOf beginning observed board → HasClient beginning.lists.config.clients seen
+    → IsContiguous beginning observed seen → IsRightNow beginning (with_seen observed seen) → wrong_at AcceptanceOrder board seen ≡ None
+not_wrong beginning observed board (A number beat) of below contiguous now =
     let (client, there) = there_is board.clients number (omega (arith, below, of.count)) in
-    ap (λ (found : Option ClientBoard). a_wrong AcceptanceOrder found beat) there ∙ request_right setup observed number client beat (of.clients number client there) of.right now
-not_wrong setup observed board (D number beat) of below contiguous now =
+    ap (λ (found : Option ClientBoard). a_wrong AcceptanceOrder found beat) there ∙ request_right beginning observed number client beat (of.clients number client there) of.right now
+not_wrong beginning observed board (D number beat) of below contiguous now =
     let (client, there) = there_is board.clients number (omega (arith, below, of.count)) in
-    ap (λ (found : Option ClientBoard). d_wrong AcceptanceOrder found beat) there ∙ reply_right setup observed number client beat (of.clients number client there) now contiguous
-not_wrong setup observed board (OnAxi beat) of below contiguous now = axi_right setup observed board beat of now
-not_wrong setup observed board Drained of below contiguous now = refl
+    ap (λ (found : Option ClientBoard). d_wrong AcceptanceOrder found beat) there ∙ reply_right beginning observed number client beat (of.clients number client there) now contiguous
+not_wrong beginning observed board (OnAxi beat) of below contiguous now = axi_right beginning observed board beat of now
+not_wrong beginning observed board Drained of below contiguous now = refl
 
 -- of a board that was reached: a beat isn't wrong exactly where what was observed with it is right
-pub right_exactly : (setup : SetupLists) (before : List ObservedBeat) (old : Board) (seen : ObservedBeat) → IsReached AcceptanceOrder (opening_board setup) before old
-    → (wrong_at AcceptanceOrder old seen ≡ None) ↔ IsRight setup (before ++ seen ∷ [])
-right_exactly setup before old seen reached = (
-  (λ none. (holds_with setup before old seen holds none).right),
+pub right_exactly : (errors : Errors) (beginning : Beginning) (before : List ObservedBeat) (old : Board) (seen : ObservedBeat) → IsReached AcceptanceOrder (opening_from errors beginning) before old
+    → (wrong_at AcceptanceOrder old seen ≡ None) ↔ IsRight beginning (before ++ seen ∷ [])
+right_exactly errors beginning before old seen reached = (
+  (λ none. (holds_with beginning before old seen holds none).right),
   (λ right.
-      not_wrong setup (observed_in before) old seen holds.held (all_parts (HasClient setup.config.clients) before (seen ∷ []) right.clients).1.0 (right.contiguous before [] seen refl)
-      (subst (IsRightNow setup) (observed-append nothing_observed before seen) (right.always (before ++ seen ∷ []) [] (sym (append-nil (before ++ seen ∷ [])))))),
+      not_wrong beginning (observed_in before) old seen holds.held (all_parts (HasClient beginning.lists.config.clients) before (seen ∷ []) right.clients).1.0 (right.contiguous before [] seen refl)
+      (subst (IsRightNow beginning) (observed-append nothing_observed before seen) (right.always (before ++ seen ∷ []) [] (sym (append-nil (before ++ seen ∷ [])))))),
 )
   where
-    holds : Holds setup before old
-    holds = reached_holds setup before old reached
+    holds : Holds beginning before old
+    holds = reached_holds errors beginning before old reached
 
 -- and holds the bytes that the accepted requests leave
-pub memory_reached : (setup : SetupLists) (before : List ObservedBeat) (board : Board) → IsReached AcceptanceOrder (opening_board setup) before board → board.memory.bytes ≡ bytes_of_all setup (requests_in (observed_in before))
-memory_reached setup before board reached = ap (λ (m : Memory). m.bytes) (reached_holds setup before board reached).held.memory
+pub memory_reached : (errors : Errors) (beginning : Beginning) (before : List ObservedBeat) (board : Board) → IsReached AcceptanceOrder (opening_from errors beginning) before board → board.memory.bytes ≡ bytes_after_all (faults_of beginning.lists) beginning.lists.regions (requests_in (observed_in before)) beginning.bytes
+memory_reached errors beginning before board reached = ap (λ (m : Memory). m.bytes) (reached_holds errors beginning before board reached).held.memory
 
 -- ---- whole lists
 
 -- each first part of what is right is right
-pub right_front : (setup : SetupLists) (first rest : List ObservedBeat) → IsRight setup (first ++ rest) → IsRight setup first
-right_front setup first rest right =
+pub right_front : (beginning : Beginning) (first rest : List ObservedBeat) → IsRight beginning (first ++ rest) → IsRight beginning first
+right_front beginning first rest right =
     record {
-      clients = (all_parts (HasClient setup.config.clients) first rest right.clients).0;
+      clients = (all_parts (HasClient beginning.lists.config.clients) first rest right.clients).0;
       always = λ before after is. right.always before (after ++ rest) (longer (before ++ after) is ∙ append_assoc before after rest);
       contiguous = λ before after next is. right.contiguous before (after ++ rest) next (longer (before ++ next ∷ after) is ∙ append_assoc before (next ∷ after) rest);
     }
@@ -163,15 +164,15 @@ reached_next start [] seen reached none = (none, refl)
 reached_next start (first ∷ beats) seen (right, more) none = (right, reached_next (after_seen AcceptanceOrder start first) beats seen more none)
 
 -- by what is right a board is reached
-pub right_reached : (setup : SetupLists) (beats : List ObservedBeat) → IsRight setup beats → IsReached AcceptanceOrder (opening_board setup) beats (after_all AcceptanceOrder (opening_board setup) beats)
-right_reached setup beats right = from_front [] beats refl refl
+pub right_reached : (errors : Errors) (beginning : Beginning) (beats : List ObservedBeat) → IsRight beginning beats → IsReached AcceptanceOrder (opening_from errors beginning) beats (after_all AcceptanceOrder (opening_from errors beginning) beats)
+right_reached errors beginning beats right = from_front [] beats refl refl
   where
-    from_front : (done rest : List ObservedBeat) → beats ≡ done ++ rest → IsReached AcceptanceOrder (opening_board setup) done (after_all AcceptanceOrder (opening_board setup) done)
-        → IsReached AcceptanceOrder (opening_board setup) beats (after_all AcceptanceOrder (opening_board setup) beats)
+    from_front : (done rest : List ObservedBeat) → beats ≡ done ++ rest → IsReached AcceptanceOrder (opening_from errors beginning) done (after_all AcceptanceOrder (opening_from errors beginning) done)
+        → IsReached AcceptanceOrder (opening_from errors beginning) beats (after_all AcceptanceOrder (opening_from errors beginning) beats)
     from_front done [] is reached =
-        subst (λ (xs : List ObservedBeat). IsReached AcceptanceOrder (opening_board setup) xs (after_all AcceptanceOrder (opening_board setup) xs)) (sym (is ∙ append-nil done)) reached
+        subst (λ (xs : List ObservedBeat). IsReached AcceptanceOrder (opening_from errors beginning) xs (after_all AcceptanceOrder (opening_from errors beginning) xs)) (sym (is ∙ append-nil done)) reached
     from_front done (seen ∷ rest) is reached =
         let longer : beats ≡ (done ++ seen ∷ []) ++ rest = is ∙ sym (append_assoc done (seen ∷ []) rest) in
-        let next = right_front setup (done ++ seen ∷ []) rest (subst (IsRight setup) longer right) in
-        let none = (right_exactly setup done (after_all AcceptanceOrder (opening_board setup) done) seen reached).1 next in
-        from_front (done ++ seen ∷ []) rest longer (reached_next (opening_board setup) done seen reached none)
+        let next = right_front beginning (done ++ seen ∷ []) rest (subst (IsRight beginning) longer right) in
+        let none = (right_exactly errors beginning done (after_all AcceptanceOrder (opening_from errors beginning) done) seen reached).1 next in
+        from_front (done ++ seen ∷ []) rest longer (reached_next (opening_from errors beginning) done seen reached none)

@@ -1,11 +1,9 @@
 -- Lists with one element more at their end: what was observed, the messages, requests and replies in it, and the beats of the AXI4 port.
-use Rattle.std.proofs.Common.{◌≡◌, ℕ, suc, List, [], ◌∷◌, ◌++◌, length, zip, Some, None, if◌then◌else◌, ◌⊎◌, inl, inr, refl, sym, ◌∙◌, ap, arith}
+use Rattle.std.proofs.Common.{◌≡◌, ℕ, suc, Bool, List, [], ◌∷◌, ◌++◌, length, zip, Some, None, if◌then◌else◌, ◌⊎◌, inl, inr, refl, sym, ◌∙◌, ap, arith}
 use Rattle.std.specs.List.{AllByRecursion}
 use Rattle.std.proofs.lemmas.Grind.{flat_map-append}
 use Rattle.std.proofs.lemmas.List.{append-nil}
-use Rattle.std.proofs.Math.Seq.{drop-append_seam}
 use Rattle.tl_messages.specs.Requests.{WholeRequest}
-use Rattle.tl_messages.specs.declared.DBeat.{DBeat}
 use Rattle.axi_checker.specs.OpenBursts.{OpenBursts, open_after}
 use Rattle.axi_checker.specs.declared.AxiBeat.{AxiBeat}
 use Rattle.axi_checker.specs.Rules.{AxiPortLimits, axi_fault, first_axi_fault, open_after_all}
@@ -16,7 +14,10 @@ use Rattle.subordinate.specs.Faults.{Faults}
 use Rattle.meaning.specs.Meaning.{Bytes, bytes_after_all, meaning, replies_in_order}
 use Rattle.meaning.specs.InTurn.{AcceptedMessage, request_in, requests_of}
 use Rattle.scoreboard.specs.Observed.{Observed, with_all, with_seen}
-use Rattle.scoreboard.specs.Right.{all_beats, is_of, last_of, left_of, shown_to}
+use Rattle.setups.specs.Setups.{SetupLists, faults_of}
+use Rattle.scoreboard.specs.Flights.{Footprint}
+use Rattle.scoreboard.specs.InTurn.{DueBeat, dues_of}
+use Rattle.scoreboard.specs.Right.{acts, acts_in_turn, all_beats, is_of, last_of, shown_to, unknown_after, unknown_after_all}
 use Rattle.scoreboard.specs.declared.ObservedBeat.{ObservedBeat}
 
 -- ---- where a list with one element more is cut
@@ -56,37 +57,46 @@ pub bytes_after_all-append : (faults : Faults) (regions : List Region) (qs : Lis
 bytes_after_all-append faults regions [] q m = refl
 bytes_after_all-append faults regions (first ∷ qs) q m = bytes_after_all-append faults regions qs q (meaning faults regions first m).after
 
-pub replies-append : (faults : Faults) (regions : List Region) (qs : List WholeRequest) (q : WholeRequest) (m : Bytes)
-    → replies_in_order faults regions (qs ++ q ∷ []) m ≡ replies_in_order faults regions qs m ++ (meaning faults regions q (bytes_after_all faults regions qs m)).reply ∷ []
-replies-append faults regions [] q m = refl
-replies-append faults regions (first ∷ qs) q m =
-    ap (λ (rest : List Reply). (meaning faults regions first m).reply ∷ rest) (replies-append faults regions qs q (meaning faults regions first m).after)
-
-pub replies-count : (faults : Faults) (regions : List Region) (qs : List WholeRequest) (m : Bytes) → length (replies_in_order faults regions qs m) ≡ length qs
-replies-count faults regions [] m = refl
-replies-count faults regions (q ∷ qs) m = ap suc (replies-count faults regions qs (meaning faults regions q m).after)
-
 -- a request more: of the client and the source, or of another
-pub shown_to-append : (client source : ℕ) (qs : List WholeRequest) (replies : List Reply) (q : WholeRequest) (reply : Reply) → length replies ≡ length qs
-    → shown_to client source (qs ++ q ∷ []) (replies ++ reply ∷ []) ≡ shown_to client source qs replies ++ (if is_of client source q then shown q reply ∷ [] else [])
-shown_to-append client source [] [] q reply same = refl
-shown_to-append client source [] (r ∷ rs) q reply same = absurd (omega (arith, same))
-shown_to-append client source (p ∷ ps) [] q reply same = absurd (omega (arith, same))
-shown_to-append client source (p ∷ ps) (r ∷ rs) q reply same = grind (arith, shown_to-append client source ps rs q reply (omega (arith, same)))
+pub shown_to-append : (client source : ℕ) (qs : List WholeRequest) (replies : List (Footprint × Reply)) (q : WholeRequest) (footprint : Footprint) (reply : Reply) → length replies ≡ length qs
+    → shown_to client source (qs ++ q ∷ []) (replies ++ (footprint, reply) ∷ []) ≡ shown_to client source qs replies ++ (if is_of client source q then dues_of footprint (shown q reply) ∷ [] else [])
+shown_to-append client source [] [] q footprint reply same = refl
+shown_to-append client source [] (r ∷ rs) q footprint reply same = absurd (omega (arith, same))
+shown_to-append client source (p ∷ ps) [] q footprint reply same = absurd (omega (arith, same))
+shown_to-append client source (p ∷ ps) ((f, r) ∷ rs) q footprint reply same = grind (arith, shown_to-append client source ps rs q footprint reply (omega (arith, same)))
+
+-- ---- what isn't known
+
+pub unknown_after_all-append : (setup : SetupLists) (unknown : ℕ → Bool) (qs : List WholeRequest) (q : WholeRequest)
+    → unknown_after_all setup unknown (qs ++ q ∷ []) ≡ unknown_after setup (unknown_after_all setup unknown qs) q
+unknown_after_all-append setup unknown [] q = refl
+unknown_after_all-append setup unknown (first ∷ qs) q = unknown_after_all-append setup (unknown_after setup unknown first) qs q
+
+-- the replies to requests from these bytes, of which these aren't known
+abbrev pub pairs : SetupLists → (ℕ → Bool) → Bytes → List WholeRequest → List (Footprint × Reply)
+pairs setup unknown m qs = zip (acts_in_turn setup unknown qs) (replies_in_order (faults_of setup) setup.regions qs m)
+
+pub pairs-count : (setup : SetupLists) (unknown : ℕ → Bool) (m : Bytes) (qs : List WholeRequest) → length (pairs setup unknown m qs) ≡ length qs
+pairs-count setup unknown m [] = refl
+pairs-count setup unknown m (q ∷ qs) = ap suc (pairs-count setup (unknown_after setup unknown q) (meaning (faults_of setup) setup.regions q m).after qs)
+
+pub pairs-append : (setup : SetupLists) (unknown : ℕ → Bool) (m : Bytes) (qs : List WholeRequest) (q : WholeRequest)
+    → pairs setup unknown m (qs ++ q ∷ [])
+    ≡ pairs setup unknown m qs ++ (acts setup (unknown_after_all setup unknown qs) q, (meaning (faults_of setup) setup.regions q (bytes_after_all (faults_of setup) setup.regions qs m)).reply) ∷ []
+pairs-append setup unknown m [] q = refl
+pairs-append setup unknown m (first ∷ qs) q =
+    ap (λ (rest : List (Footprint × Reply)). (acts setup unknown first, (meaning (faults_of setup) setup.regions first m).reply) ∷ rest)
+    (pairs-append setup (unknown_after setup unknown first) (meaning (faults_of setup) setup.regions first m).after qs q)
 
 -- ---- the beats of replies
 
-pub all_beats-append : (replies : List (List DBeat)) (beats : List DBeat) → all_beats (replies ++ beats ∷ []) ≡ all_beats replies ++ beats
-all_beats-append replies beats = flat_map-append (λ (bs : List DBeat). bs) replies (beats ∷ []) ∙ ap (λ (rest : List DBeat). all_beats replies ++ rest) (append-nil beats)
+pub all_beats-append : (replies : List (List DueBeat)) (beats : List DueBeat) → all_beats (replies ++ beats ∷ []) ≡ all_beats replies ++ beats
+all_beats-append replies beats = flat_map-append (λ (bs : List DueBeat). bs) replies (beats ∷ []) ∙ ap (λ (rest : List DueBeat). all_beats replies ++ rest) (append-nil beats)
 
-pub last_of-append : (replies : List (List DBeat)) (beats : List DBeat) → last_of (replies ++ beats ∷ []) ≡ beats
+pub last_of-append : (replies : List (List DueBeat)) (beats : List DueBeat) → last_of (replies ++ beats ∷ []) ≡ beats
 last_of-append [] beats = refl
 last_of-append (first ∷ []) beats = refl
 last_of-append (first ∷ next ∷ more) beats = last_of-append (next ∷ more) beats
-
--- what is left, by what it is with what was told
-pub left_is : (replies : List (List DBeat)) (told left : List DBeat) → told ++ left ≡ all_beats replies → left_of replies told ≡ left
-left_is replies told left is = rw (← is) (drop-append_seam told left)
 
 -- ---- the AXI4 port
 

@@ -10,9 +10,10 @@ use Rattle.tl_messages.specs.Operations.{has_data}
 use Rattle.tl_messages.specs.Requests.{HeldMessage, WholeRequest, begun, bytes_given, request_of}
 use Rattle.tl_messages.specs.declared.ABeat.{ABeat}
 use Rattle.tl_messages.specs.declared.DBeat.{DBeat}
-use Rattle.scoreboard.specs.Boards.{Board, ClientBoard, acting, after_d, begun_on, client_beside, client_footprints, coming_on, early_after, early_due, fails, flight_for, footprints_of, given_on, has_replied, hit_client, joined_on, joining_on, told_to, with_accepted, with_client, with_taken, with_whole}
+use Rattle.scoreboard.specs.Boards.{Board, ClientBoard, acting, after_d, begun_on, client_beside, client_footprints, coming_on, early_after, early_due, fails, flight_for, footprints_of, given_on, has_replied, hit_client, in_turn_on, joined_on, joining_on, told_to, with_accepted, with_client, with_taken, with_whole}
 use Rattle.scoreboard.specs.FailedBursts.{Span}
 use Rattle.scoreboard.specs.Flights.{Footprint, InFlight, flights_after, is_of_source}
+use Rattle.scoreboard.specs.InTurn.{after_turn, unless_fixed}
 use Rattle.scoreboard.specs.InsideBoards.{HaveRoomToWrite, BoardState, ClientState, ClientsHaveRoom, FlightState, IsFreeOf, board_of, client_of, flight_of, flights_of, footprint_of}
 use Rattle.scoreboard.specs.Races.{after_given, after_joining, beside_dependent, flight_beside, joining, unless_failed}
 use Rattle.serial_memory.specs.SerialMemory.{HasRoomToGive, Memory, MemoryState, carried_out, doubts_of, memory_of, place_in, rooms_of}
@@ -117,15 +118,16 @@ put_taken old now number found replied is =
     put : InFlight → Board → Board
     put flight board = with_client number (with_whole replied flight found) board
 
--- without a footprint
-pub taken : (old now : BoardState) (number : ℕ) (found : ClientBoard) (footprint : Footprint) → IsCarriedOut old now
-    → now ≡ record old { memory = now.memory; joining = now.joining } → doubts_of now.memory ≡ doubts_of old.memory → footprint_of now.joining.footprint ≡ footprint
-    → with_client number (with_accepted (flight_of now.joining) found) (board_of now) ≡ with_taken (board_of old) number found (request_of old.request) footprint
-taken old now number found footprint is rest doubts own =
+-- in its turn
+pub turn_taken : (old now : BoardState) (number : ℕ) (found : ClientBoard) (footprint : Footprint) → IsCarriedOut old now
+    → now ≡ record old { memory = now.memory; joining = now.joining } → doubts_of now.memory ≡ after_turn (doubts_of old.memory) footprint (bytes_given old.request)
+    → footprint_of now.joining.footprint ≡ unless_fixed footprint
+    → with_client number (with_accepted (flight_of now.joining) found) (board_of now) ≡ in_turn_on (board_of old) number found (request_of old.request) footprint
+turn_taken old now number found footprint is rest marked own =
     put_taken old now number found false is
     ∙ ap (λ (b : BoardState). with_taken (record (board_of old) { clients = map client_of b.clients; indeterminate = doubts_of now.memory }) number found (request_of old.request) (footprint_of now.joining.footprint)) rest
-    ∙ ap {B = Board} (λ (indeterminate : ℕ → Bool). with_taken (record (board_of old) { indeterminate = indeterminate }) number found (request_of old.request) (footprint_of now.joining.footprint)) doubts
-    ∙ ap (with_taken (board_of old) number found (request_of old.request)) own
+    ∙ ap {B = Board} (λ (indeterminate : ℕ → Bool). with_taken (record (board_of old) { indeterminate = indeterminate }) number found (request_of old.request) (footprint_of now.joining.footprint)) marked
+    ∙ ap {B = Board} (λ (kept : Footprint). record (with_taken (board_of old) number found (request_of old.request) kept) { indeterminate = after_turn (doubts_of old.memory) footprint (bytes_given old.request) }) own
 
 -- of one that had begun the bytes are given besides
 pub given_taken : (old now : BoardState) (number : ℕ) (found : ClientBoard) (replied : Bool) → replied ≡ has_replied old.errors found → IsCarriedOut old now

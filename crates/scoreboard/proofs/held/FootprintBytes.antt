@@ -184,16 +184,21 @@ word_place a size k lane range below less low high = elim (sizes size) [
   | inr many ↦ omega (arith, whole_word a size range (omega (arith, many.0)), less, low, high)
 ]
 
--- none is determined after its last word
-pub past_words : (r : FootprintState) (k lane : ℕ) → IsMemoryRange r.address r.size → lane < 8 → words_of r.size ≤ k → determined_in r (word_address r.address + 8 * k + lane) ≡ false
-past_words r k lane range less past = by_test (covers (footprint_of r) (word_address r.address + 8 * k + lane)) refl
+-- none is its own after its last word
+pub past_own : (r : FootprintState) (k lane : ℕ) → IsMemoryRange r.address r.size → lane < 8 → words_of r.size ≤ k → covers (footprint_of r) (word_address r.address + 8 * k + lane) ≡ false
+past_own r k lane range less past = by_test (covers (footprint_of r) (word_address r.address + 8 * k + lane)) refl
   where
-    by_test : (b : Bool) → covers (footprint_of r) (word_address r.address + 8 * k + lane) ≡ b → determined_in r (word_address r.address + 8 * k + lane) ≡ false
-    by_test false is =
-        ap (λ (b : Bool). b && has_lane (get_or r.determined ((word_address r.address + 8 * k + lane) / 8 - r.address / 8) 0) ((word_address r.address + 8 * k + lane) % 8)) is
+    by_test : (b : Bool) → covers (footprint_of r) (word_address r.address + 8 * k + lane) ≡ b → covers (footprint_of r) (word_address r.address + 8 * k + lane) ≡ false
+    by_test false is = is
     by_test true is =
         let at = within r.address (2 ^ r.size) (word_address r.address + 8 * k + lane) is in
         absurd (omega (arith, place_below r.address r.size (word_address r.address + 8 * k + lane) range at.0 at.1, less, past))
+
+-- nor determined
+pub past_words : (r : FootprintState) (k lane : ℕ) → IsMemoryRange r.address r.size → lane < 8 → words_of r.size ≤ k → determined_in r (word_address r.address + 8 * k + lane) ≡ false
+past_words r k lane range less past =
+    ap (λ (b : Bool). b && has_lane (get_or r.determined ((word_address r.address + 8 * k + lane) / 8 - r.address / 8) 0) ((word_address r.address + 8 * k + lane) % 8))
+    (past_own r k lane range less past)
 
 -- a word of a range is in its page
 pub room_word : (rooms : ℕ → Bool) (address size k : ℕ) → IsMemoryRange address size → k < words_of size → rooms (address / 4096) ≡ true → rooms ((word_address address + 8 * k) / 4096) ≡ true

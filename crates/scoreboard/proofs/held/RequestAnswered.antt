@@ -11,10 +11,11 @@ use Rattle.tl_checker.specs.declared.Progress.{Progress}
 use Rattle.tl_checker.specs.declared.Progress.TheVariants.{More, Whole}
 use Rattle.tl_checker.specs.declared.TlRule.{TlRule}
 use Rattle.scoreboard.specs.Boards.{Board, ClientBoard, a_wrong, accepted_on, after_a, answer_to, answered_on, client_beside, client_footprints, coming_on, continued_on, fails, flight_for, footprints_of, has_replied, joining_on, place_on, with_accepted, with_client, with_whole, wrong_request}
-use Rattle.scoreboard.specs.Flights.{Footprint, InFlight, is_of_source, no_footprint}
+use Rattle.scoreboard.specs.Flights.{Footprint, InFlight, is_of_source}
+use Rattle.scoreboard.specs.InTurn.{after_turn, unless_fixed}
 use Rattle.scoreboard.specs.InsideBoards.{ClientState, IsFreeOf, client_of, flights_of, front_after}
-use Rattle.scoreboard.specs.Races.{after_given, after_joining, joining, unless_failed}
-use Rattle.serial_memory.specs.SerialMemory.{carried_out}
+use Rattle.scoreboard.specs.Races.{after_given, after_joining, alone, joining, unless_failed}
+use Rattle.serial_memory.specs.SerialMemory.{carried_out, place_in}
 use Rattle.scoreboard.specs.declared.Errors.{Errors}
 use Rattle.scoreboard.specs.declared.Errors.TheVariants.{Any, Strict}
 use Rattle.scoreboard.specs.declared.Policy.{Policy}
@@ -43,8 +44,13 @@ accepted_same : (policy : Policy) (board : Board) (number : ℕ) (client : Clien
     → accepted_on policy (with_client number (record client { front = None }) board) number (record client { front = None }) message begun
     ≡ accepted_on policy board number client message begun
 accepted_same AcceptanceOrder board number client message begun there =
-    ap {B = Board} (λ (clients : List ClientBoard). record board { clients = clients; memory = carried_out board.memory (request_of message) })
-    (set-set board.clients number (record client { front = None }) (with_accepted (flight_for board.memory no_footprint (request_of message)) client))
+    let footprint = alone board.indeterminate (place_in board.memory (request_of message)) (request_of message) in
+    ap {B = Board} (λ (clients : List ClientBoard). record board {
+      clients = clients;
+      memory = carried_out board.memory (request_of message);
+      indeterminate = after_turn board.indeterminate footprint (request_of message).bytes;
+    })
+    (set-set board.clients number (record client { front = None }) (with_accepted (flight_for board.memory (unless_fixed footprint) (request_of message)) client))
 accepted_same RealTime board number client message true there =
     let footprint = coming_on board (request_of message) client.coming in
     let changed : ClientBoard = record client { front = None } in

@@ -422,8 +422,8 @@ unasked : wrong_at RealTime (board_after Strict beginning []) (D 0 acknowledged)
 unfolding zero_words
 unasked = refl
 
-not_whatever_comes_next : ((before : List ObservedBeat) → IsRight setup before → wrong_at RealTime (board_after Strict beginning before) (D 0 acknowledged) ≡ None) → ⊥
-not_whatever_comes_next law = none-some (Reply Unasked None) (sym (law [] (right_nothing setup)) ∙ unasked)
+not_whatever_comes_next : ((before : List ObservedBeat) → IsRight beginning before → wrong_at RealTime (board_after Strict beginning before) (D 0 acknowledged) ≡ None) → ⊥
+not_whatever_comes_next law = none-some (Reply Unasked None) (sym (law [] (right_nothing beginning)) ∙ unasked)
 
 -- client 1 gets two words, and with the first of them asks for them again by the same source: a board of acceptance order finds the
 -- source busy

@@ -67,10 +67,10 @@ pub record Acts (carry : Bytes → Bytes) (footprint : Footprint) (bytes : List 
 -- ---- bytes that are given
 
 -- the 2^size bytes from an address on
-abbrev range_has : ℕ → ℕ → ℕ → Bool
+abbrev pub range_has : ℕ → ℕ → ℕ → Bool
 range_has address n x = nat_le address x && nat_lt x (address + n)
 
-given_within : (bytes : List (Option ℕ)) (a n x : ℕ) → length bytes ≡ n → is_some (given_at bytes a x) ≡ true → range_has a n x ≡ true
+pub given_within : (bytes : List (Option ℕ)) (a n x : ℕ) → length bytes ≡ n → is_some (given_at bytes a x) ≡ true → range_has a n x ≡ true
 given_within bytes a n x count some = grind (arith, nat_tests, given_before bytes a x, given_past bytes a x, count, some)
 
 -- bytes put over others are bytes

@@ -20,7 +20,7 @@ use Rattle.tl_checker.specs.declared.Progress.TheVariants.{More, Whole}
 use Rattle.tl_checker.specs.declared.TlRule.{TlRule}
 use Rattle.responses.specs.Shown.{Reply, beat_of_word, lacks_a_byte, shown}
 use Rattle.scoreboard.specs.AxiPorts.{port_after}
-use Rattle.scoreboard.specs.Boards.{Board, ClientBoard, IsReached, a_wrong, after_a, after_all, after_d, after_seen, answer_to, answered_on, client_beside, coming_on, d_wrong, due_beat, early_after, early_due, early_flight, failed_beat, flight_for, has_replied, hit_client, hit_on, is_spoiled, joining_on, more_on, opening_board, opening_with, told_to, whole_on, with_accepted, with_client, with_whole, wrong_at, wrong_beat, wrong_reply, wrong_told}
+use Rattle.scoreboard.specs.Boards.{Board, ClientBoard, IsReached, a_wrong, after_a, after_all, after_d, after_seen, answer_to, answered_on, client_beside, coming_on, d_wrong, due_beat, early_after, early_due, early_flight, failed_beat, flight_for, from_zeros, has_replied, hit_client, hit_on, is_spoiled, joining_on, more_on, opening_board, opening_with, told_to, whole_on, with_accepted, with_client, with_whole, wrong_at, wrong_beat, wrong_reply, wrong_told}
 use Rattle.scoreboard.specs.FailedBursts.{Span, failed_span}
 use Rattle.scoreboard.specs.Flights.{Footprint, InFlight, begun_after, flights_after, is_of_source, next_reply, with_left}
 use Rattle.scoreboard.specs.Races.{unless_failed}
@@ -30,6 +30,7 @@ use Rattle.scoreboard.specs.declared.Errors.TheVariants.{Any, Strict}
 use Rattle.scoreboard.specs.declared.Policy.TheVariants.{AcceptanceOrder, RealTime}
 use Rattle.scoreboard.specs.declared.ObservedBeat.{ObservedBeat}
 use Rattle.scoreboard.specs.declared.ObservedBeat.TheVariants.{A, D, Axi as OnAxi, Drained}
+use Rattle.scoreboard.proofs.acceptance_order.Fixed.{in_turn_alone}
 use Rattle.scoreboard.proofs.acceptance_order.Owed.{right_next}
 use Rattle.scoreboard.proofs.acceptance_order.Reached.{right_exactly, right_front, right_reached}
 use Rattle.scoreboard.proofs.real_time.Becoming.{errors_kept}
@@ -247,7 +248,7 @@ reply_right client beat all told none = by_next (next_reply client.flights beat.
     by_next (Some flight) is =
         let its = next_told client beat.source flight all told is in
         let right : wrong_beat flight.beats beat ≡ None =
-        sym (ap (λ (o : Option InFlight). wrong_reply AcceptanceOrder (told_to (client_alone client)) o beat)
+        sym (in_turn_alone flight.beats beat) ∙ sym (ap (λ (o : Option InFlight). wrong_reply AcceptanceOrder (told_to (client_alone client)) o beat)
         (next_alone client.flights beat.source ∙ ap (option_map flight_alone) is)) ∙ none in
         ap (λ (o : Option InFlight). wrong_reply RealTime (told_to client) (option_or o (early_flight client client.early beat.source)) beat) is
         ∙ next_passes flight (told_to client) its.0 beat its.1.0 its.1.1 right
@@ -277,7 +278,7 @@ reply_plain errors client beat all plain none = by_next (next_reply client.fligh
 
         right : wrong_beat flight.beats beat ≡ None
         right =
-            sym (ap (λ (o : Option InFlight). wrong_reply AcceptanceOrder (told_to (client_alone client)) o beat)
+            sym (in_turn_alone flight.beats beat) ∙ sym (ap (λ (o : Option InFlight). wrong_reply AcceptanceOrder (told_to (client_alone client)) o beat)
             (next_alone client.flights beat.source ∙ ap (option_map flight_alone) is)) ∙ none
 
         denied : beat.denied ≡ its.0
@@ -381,8 +382,8 @@ opens_on errors setup = record { holds = opens_alone setup; early = refl }
 pub lets_right_pass : (board : Board) (seen : ObservedBeat) → LetsRightPass board seen (wrong_at RealTime board seen)
 lets_right_pass board seen errors setup before is right =
     let compared = after_all AcceptanceOrder (opening_board setup) before in
-    let reached = right_reached setup before (right_front setup before (seen ∷ []) right) in
+    let reached = right_reached Strict (from_zeros setup) before (right_front (from_zeros setup) before (seen ∷ []) right) in
     let (plain, on) = subst (λ (b : Board). IsPlainBoard b × IsOn compared b) (sym is)
     (right_on (opening_board setup) (opening_with errors setup) before (plain_opens errors setup) (opens_on errors setup) reached) in
     passes board seen plain on.early
-    (ap (λ (b : Board). wrong_at AcceptanceOrder b seen) on.holds ∙ (right_exactly setup before compared seen reached).1 right)
+    (ap (λ (b : Board). wrong_at AcceptanceOrder b seen) on.holds ∙ (right_exactly Strict (from_zeros setup) before compared seen reached).1 right)

@@ -22,6 +22,8 @@ use Rattle.scoreboard.specs.declared.Errors.{Errors}
 use Rattle.scoreboard.specs.declared.Errors.TheVariants.{Any, Strict}
 use Rattle.scoreboard.specs.Wider.{AreTogether, IsWiderAlong, TellsNoMore, board_alone, client_alone, tells_apart, tells_busy}
 use Rattle.scoreboard.specs.declared.Policy.TheVariants.{AcceptanceOrder, RealTime}
+use Rattle.serial_memory.specs.SerialMemory.{place_in}
+use Rattle.scoreboard.proofs.acceptance_order.Fixed.{in_turn_known}
 use Rattle.scoreboard.specs.declared.ObservedBeat.{ObservedBeat}
 use Rattle.scoreboard.specs.declared.ObservedBeat.TheVariants.{A, D, Axi as OnAxi, Drained}
 use Rattle.scoreboard.proofs.held.EarlyBeats.{after_as}
@@ -79,7 +81,9 @@ request_on old number (Some client) beat waits none free = rw (same_answer clien
         → IsOn (answered_on AcceptanceOrder (board_alone old) number (client_alone client) message answer) (answered_on RealTime old number client message answer)
     by_answer (Err broken) = record { holds = refl; early = none }
     by_answer (Ok More) = more (is_some client.front)
-    by_answer (Ok Whole) = whole (is_some client.front) refl
+    by_answer (Ok Whole) =
+        subst (λ (b : Board). IsOn b (whole_on old number client (request_of message) (is_some client.front)))
+        (sym (in_turn_known (board_alone old) number (client_alone client) (request_of message) (place_in old.memory (request_of message)))) (whole (is_some client.front) refl)
 
 reply_on : (old : Board) (number : ℕ) (found : Option ClientBoard) (beat : DBeat) → old.axi.early ≡ []
     → IsOn (after_d (board_alone old) number (option_map client_alone found) beat) (after_d old number found beat)

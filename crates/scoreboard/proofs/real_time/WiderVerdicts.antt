@@ -25,6 +25,7 @@ use Rattle.scoreboard.specs.Boards.{Board, ClientBoard, a_wrong, answer_to, d_wr
 use Rattle.scoreboard.specs.Flights.{Footprint, InFlight, begun_is_of, is_of_source, next_reply}
 use Rattle.scoreboard.specs.Wider.{TellsNoMore, board_alone, client_alone, flight_alone, tells_apart, tells_busy, tells_payload}
 use Rattle.scoreboard.specs.declared.Policy.TheVariants.{AcceptanceOrder, RealTime}
+use Rattle.scoreboard.proofs.acceptance_order.Fixed.{in_turn_alone}
 use Rattle.scoreboard.specs.declared.ReplyRule.{ReplyRule}
 use Rattle.scoreboard.specs.declared.ObservedBeat.{ObservedBeat}
 use Rattle.scoreboard.specs.declared.ObservedBeat.TheVariants.{A, D, Axi as OnAxi, Drained}
@@ -118,7 +119,8 @@ reply_told : (before told : Option Bool) (next : Option InFlight) (beat : DBeat)
     → TellsNoMore (wrong_reply AcceptanceOrder before (option_map flight_alone next) beat) (wrong_reply RealTime told next beat)
 reply_told before told None beat unfailed = inl refl
 reply_told before told (Some flight) beat unfailed =
-    subst (TellsNoMore (wrong_beat flight.beats beat)) (sym (sure_told flight.footprint told flight.beats beat unfailed.0)) (told_less flight.footprint flight.beats beat)
+    rw (in_turn_alone flight.beats beat)
+    (subst (TellsNoMore (wrong_beat flight.beats beat)) (sym (sure_told flight.footprint told flight.beats beat unfailed.0)) (told_less flight.footprint flight.beats beat))
 
 -- the one whose reply has its next beat there is one of those in flight
 next_of_each : (client : ClientBoard) (source : ℕ) → IsOfEach IsUnfailed client → AllByRecursion IsUnfailed (option_to_list (next_reply client.flights source))

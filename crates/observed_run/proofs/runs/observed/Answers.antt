@@ -4,6 +4,7 @@ use Rattle.std.proofs.lemmas.List.{take_more}
 use Rattle.setups.specs.Setups.{lists_of, setup_fault}
 use Rattle.world.specs.declared.Step.{Step}
 use Rattle.world_run.proofs.RunLoop.{refused_later}
+use Rattle.scoreboard.specs.Boards.{from_zeros}
 use Rattle.scoreboard.specs.Right.{IsRight}
 use Rattle.observed_run.proofs.RunsSeen.{observed_right}
 use Rattle.observed_run.proofs.SeenSteps.{HasSeen, seen_more, seen_whole}
@@ -24,7 +25,7 @@ pub returns-clause-right : goal.returns-clause-right
 returns-clause-right c =
     let setup = lists_of c.args.setup.now in
     let has = seen_whole setup c.args.steps.now c.loop-step.step-index _ _ c.loop-step-test.false c.loop-step.invariant in
-    subst (IsRight setup) (sym has.shown) (observed_right setup c.args.steps.now has.along)
+    subst (IsRight (from_zeros setup)) (sym has.shown) (observed_right setup c.args.steps.now has.along)
 
 pub returns-clause-refused : goal.returns-clause-refused
 returns-clause-refused c = refused_later (setup_fault (lists_of c.args.setup.now)) _ _ c.in-Ok.ensures.refused

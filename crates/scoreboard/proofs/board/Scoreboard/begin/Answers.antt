@@ -8,7 +8,7 @@ use Rattle.tl_messages.specs.Requests.{HeldMessage, begun, request_of}
 use Rattle.tl_messages.specs.declared.DBeat.{DBeat}
 use Rattle.scoreboard.specs.Boards.{Board, ClientBoard, begun_on, client_beside, client_footprints, early_due, fails, footprints_of, joining_on, place_on}
 use Rattle.scoreboard.specs.Flights.{Footprint}
-use Rattle.scoreboard.specs.InsideBoards.{BoardState, ClientState, ClientsHaveRoom, FootprintState, HasRoomForBeat, HasRoomToWrite, HaveRoomToWrite, IsAskedBy, board_of, client_of, footprint_of, room_by}
+use Rattle.scoreboard.specs.InsideBoards.{BoardState, ClientState, ClientsHaveRoom, FootprintState, HasRoomForBeat, HasRoomToWrite, HaveRoomToWrite, IsAskedBy, board_of, client_of, footprint_of, most_words}
 use Rattle.serial_memory.specs.SerialMemory.{IsMemoryRange, doubts_of, memory_of, rooms_of}
 use Rattle.scoreboard.specs.Races.{alone, beside_all, beside_dependent, unless_failed}
 use Rattle.scoreboard.specs.contracts.board.Scoreboard.{the_view}
@@ -28,7 +28,7 @@ start_footprint-requires-clause-range c = placed_range c.begin.new.self.address 
 pub start_footprint-requires-clause-room : goal.start_footprint-requires-clause-room
 start_footprint-requires-clause-room c =
     let policy = ap (λ (b : BoardState). b.policy) c.self.view_is ∙ c.requires.policy in
-    let room = c.self.invariant.2 ∙ ap room_by policy in
+    let room = c.self.invariant.2 in
     omega (arith, few_bytes c.begin.new.self.size (own c).small, room)
 
 held : (c : After-index_mut) → (with_items c.self.inside.clients c.give_way.new.clients).items ≡ c.give_way.new.clients
@@ -40,9 +40,9 @@ given c =
     c.give_way.ensures.clients
     ∙ ap₂ (λ (f : FootprintState) (cs : List ClientState). map (client_beside (footprint_of f)) (map client_of cs)) c.footprint-footprint.ensures c.deref_mut.ensures.value
 
-kept : (c : After-index_mut) → AreKept (room_by c.self.inside.policy) (rooms_of c.self.inside.serial) c.give_way.new.clients
+kept : (c : After-index_mut) → AreKept most_words (rooms_of c.self.inside.serial) c.give_way.new.clients
 kept c =
-    let room = room_by c.self.inside.policy in
+    let room = most_words in
     beside_kept room (rooms_of c.self.inside.serial) c.self.inside.clients.items c.give_way.new.clients (footprint_of c.fail_if.new.self.footprint) (given c)
     (λ have. c.give_way.ensures.room room (subst (ClientsHaveRoom room) (sym c.deref_mut.ensures.value) have)) (c.self.invariant.0, c.self.invariant.1, c.self.invariant.3)
 
@@ -57,7 +57,7 @@ there c =
 pub begin-requires-2 : goal.begin-requires-2
 begin-requires-2 c =
     let at = (goal.at.begin-requires-2 c).After-index_mut in
-    let room = room_by c.self.inside.policy in
+    let room = most_words in
     let own_room = all-got (λ (client : ClientState). client.flights.room ≡ room) c.give_way.new.clients c.from.result c.index_mut.result.now (kept at).1 (there at) in
     record { room = c.fail_if.ensures.room ∙ c.limit.ensures.room ∙ c.start_footprint.ensures.room ∙ c.self.invariant.2 ∙ sym own_room }
 
@@ -85,7 +85,7 @@ own_room c =
 
 pub invariant_of-self : goal.invariant_of-self
 invariant_of-self c =
-    let room = room_by c.self.inside.policy in
+    let room = most_words in
     let rooms = rooms_of c.self.inside.serial in
     let one = c.index_mut.result.now in
     let at = (goal.at.invariant_of-self c).After-index_mut in

@@ -5,7 +5,7 @@ use Rattle.std.proofs.lemmas.List.{map-set}
 use Rattle.tl_messages.specs.Requests.{request_of}
 use Rattle.serial_memory.specs.SerialMemory.{rooms_of}
 use Rattle.scoreboard.specs.Boards.{Board, ClientBoard, client_footprints, is_spoiled, with_client}
-use Rattle.scoreboard.specs.InsideBoards.{HaveRoomToWrite, BoardState, ClientState, board_of, client_of, determined_in, room_by}
+use Rattle.scoreboard.specs.InsideBoards.{HaveRoomToWrite, BoardState, ClientState, board_of, client_of, determined_in, most_words}
 use Rattle.scoreboard.specs.Races.{unless_failed}
 use Rattle.scoreboard.specs.contracts.board.Scoreboard.{the_view}
 use Rattle.scoreboard.proofs.held.BoardSteps.{client_is, client_kept, there_at}
@@ -20,7 +20,7 @@ invariant_of-self c =
     let rooms = rooms_of c.self.inside.serial in
     let found = c.index_mut.result.now in
     let new = c.go_on.new.self in
-    let kept = client_kept (room_by c.self.inside.policy) rooms c.self.inside.clients.items c.args.client found new (there c) (ap (λ (client : ClientState). client.flights.room) c.go_on.ensures.rest)
+    let kept = client_kept most_words rooms c.self.inside.clients.items c.args.client found new (there c) (ap (λ (client : ClientState). client.flights.room) c.go_on.ensures.rest)
     (λ good. subst (λ (client : ClientState). HaveRoomToWrite rooms (client_footprints (client_of client))) (sym c.go_on.ensures.rest)
     (room_told rooms new.coming.failed (determined_in (record found.coming { failed = new.coming.failed; determined = new.coming.determined })) (client_of found) good))
     (c.self.invariant.0, c.self.invariant.1, c.self.invariant.3) in

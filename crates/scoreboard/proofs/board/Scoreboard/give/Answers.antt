@@ -4,7 +4,7 @@ use Rattle.std.specs.Prelude.{slice_get}
 use Rattle.tl_messages.specs.Requests.{request_of}
 use Rattle.scoreboard.specs.Boards.{ClientBoard, acting, coming_on, fails, flight_for, kept_from, place_on}
 use Rattle.scoreboard.specs.Flights.{Footprint}
-use Rattle.scoreboard.specs.InsideBoards.{BoardState, FlightState, HasRoomToWrite, board_of, footprint_of, room_by}
+use Rattle.scoreboard.specs.InsideBoards.{BoardState, FlightState, HasRoomToWrite, board_of, footprint_of}
 use Rattle.scoreboard.specs.Races.{alone, unless_failed}
 use Rattle.serial_memory.specs.SerialMemory.{HasRoomToGive, IsCheckedRequest, doubts_of, memory_of, rooms_of}
 use Rattle.scoreboard.specs.contracts.board.Scoreboard.{the_view}
@@ -26,7 +26,7 @@ start_footprint-requires-clause-range c =
 pub start_footprint-requires-clause-room : goal.start_footprint-requires-clause-room
 start_footprint-requires-clause-room c =
     let policy = ap (λ (b : BoardState). b.policy) c.self.view_is ∙ c.requires.policy in
-    let room = c.self.invariant.2 ∙ ap room_by policy in
+    let room = c.self.invariant.2 in
     omega (arith, few_bytes c.self.inside.request.size (own_range c.self.inside.request (checked c)).small, room)
 
 pub returns-clause-footprint : goal.returns-clause-footprint

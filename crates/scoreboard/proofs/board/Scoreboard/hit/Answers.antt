@@ -6,7 +6,7 @@ use Rattle.std.proofs.lemmas.List.{places, with_items_is}
 use Rattle.serial_memory.specs.SerialMemory.{Memory, doubts_of, rooms_of}
 use Rattle.scoreboard.specs.Boards.{Board, ClientBoard, footprints_of, hit_client, hit_on}
 use Rattle.scoreboard.specs.FailedBursts.{after_hit}
-use Rattle.scoreboard.specs.InsideBoards.{BoardState, ClientState, ClientsHaveRoom, HaveRoomToWrite, board_of, client_of, room_by}
+use Rattle.scoreboard.specs.InsideBoards.{BoardState, ClientState, ClientsHaveRoom, HaveRoomToWrite, board_of, client_of, most_words}
 use Rattle.scoreboard.specs.contracts.board.Scoreboard.{the_view}
 use Rattle.scoreboard.proofs.held.BoardSteps.{hit_kept}
 use Rattle.scoreboard.proofs.board.Scoreboard.hit.Goals as goal
@@ -19,7 +19,7 @@ struck c = c.hit.ensures.clients ∙ ap (λ (cs : List ClientState). map (hit_cl
 
 pub invariant_of-self : goal.invariant_of-self
 invariant_of-self c =
-    let room = room_by c.self.inside.policy in
+    let room = most_words in
     let kept = hit_kept room (rooms_of c.self.inside.serial) c.self.inside.clients.items c.hit.new.clients c.args.span (struck c)
     (λ have. c.hit.ensures.room room (subst (ClientsHaveRoom room) (sym c.deref_mut.ensures.value) have)) (c.self.invariant.0, c.self.invariant.1, c.self.invariant.3) in
     (rw (held c) kept.0, rw (held c) kept.1, c.self.invariant.2, rw (held c) (subst (λ rooms. HaveRoomToWrite rooms (footprints_of (map client_of c.hit.new.clients))) (sym c.mark_shared.ensures.rest.rooms) kept.2))

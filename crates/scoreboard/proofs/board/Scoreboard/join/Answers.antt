@@ -5,7 +5,7 @@ use Rattle.std.proofs.lemmas.List.{places, with_items_is}
 use Rattle.tl_messages.specs.Requests.{bytes_given, request_of}
 use Rattle.scoreboard.specs.Boards.{acting, client_beside, fails, flight_for, footprints_of, joining_on, place_on}
 use Rattle.scoreboard.specs.Flights.{Footprint}
-use Rattle.scoreboard.specs.InsideBoards.{BoardState, ClientState, ClientsHaveRoom, FlightState, FootprintState, HasRoomToWrite, HaveRoomToWrite, board_of, client_of, footprint_of, room_by}
+use Rattle.scoreboard.specs.InsideBoards.{BoardState, ClientState, ClientsHaveRoom, FlightState, FootprintState, HasRoomToWrite, HaveRoomToWrite, board_of, client_of, footprint_of, most_words}
 use Rattle.scoreboard.specs.Races.{after_joining, alone, beside_all, joining, unless_failed}
 use Rattle.serial_memory.specs.SerialMemory.{HasRoomToGive, IsCheckedRequest, doubts_of, memory_of, rooms_of}
 use Rattle.scoreboard.specs.contracts.board.Scoreboard.{the_view}
@@ -27,7 +27,7 @@ start_footprint-requires-clause-range c =
 pub start_footprint-requires-clause-room : goal.start_footprint-requires-clause-room
 start_footprint-requires-clause-room c =
     let policy = ap (λ (b : BoardState). b.policy) c.self.view_is ∙ c.requires.policy in
-    let room = c.self.invariant.2 ∙ ap room_by policy in
+    let room = c.self.invariant.2 in
     omega (arith, few_bytes c.self.inside.request.size (own_range c.self.inside.request (checked c)).small, room)
 
 held : (c : goal.After-self-1) → (with_items c.self.inside.clients c.give_way.new.clients).items ≡ c.give_way.new.clients
@@ -42,7 +42,7 @@ given c =
 pub invariant_of-self : goal.invariant_of-self
 invariant_of-self c =
     let clients = c.self.inside.clients.items in
-    let room = room_by c.self.inside.policy in
+    let room = most_words in
     let rooms = rooms_of c.self.inside.serial in
     let room_is = ap (λ (f : FlightState). length f.footprint.determined) c.carry_out.ensures.flight in
     let kept = beside_kept room rooms clients c.give_way.new.clients (footprint_of c.fail_by.new.self.footprint) (given c)

@@ -22,13 +22,13 @@ of_answer P Q (Err e) leads holds = tt
 pub returns-clause-exactly : goal.returns-clause-exactly
 returns-clause-exactly c =
     of_answer (λ (wrong : Option Wrong). wrong ≡ wrong_at c.args.self.now.policy (board_of c.args.self.now) c.args.seen.now) _ c.judge_by_board.result
-    (λ wrong is ordered setup before reached.
-    subst (λ (w : Option Wrong). (w ≡ None) ↔ IsRight setup (before ++ c.args.seen.now ∷ [])) (sym (is ∙ ap (λ (policy : Policy). wrong_at policy (board_of c.args.self.now) c.args.seen.now) ordered))
-    (right_exactly setup before (board_of c.args.self.now) c.args.seen.now reached))
+    (λ wrong is ordered errors beginning before reached.
+    subst (λ (w : Option Wrong). (w ≡ None) ↔ IsRight beginning (before ++ c.args.seen.now ∷ [])) (sym (is ∙ ap (λ (policy : Policy). wrong_at policy (board_of c.args.self.now) c.args.seen.now) ordered))
+    (right_exactly errors beginning before (board_of c.args.self.now) c.args.seen.now reached))
     c.judge_by_board.ensures.answer
 
 pub returns-clause-memory : goal.returns-clause-memory
-returns-clause-memory c ordered setup before reached = memory_reached setup before (board_of c.args.self.now) reached
+returns-clause-memory c ordered errors beginning before reached = memory_reached errors beginning before (board_of c.args.self.now) reached
 
 pub returns-clause-right : goal.returns-clause-right
 returns-clause-right c =

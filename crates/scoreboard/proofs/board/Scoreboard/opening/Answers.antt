@@ -10,23 +10,23 @@ use Rattle.scoreboard.specs.declared.Errors.TheVariants.{Strict}
 use Rattle.scoreboard.proofs.acceptance_order.BoardClients.{board_opens, device_fine, few_clients, nothing_written}
 use Rattle.scoreboard.proofs.board.Scoreboard.opening.Goals as goal
 
-pub new-requires-2 : goal.new-requires-2
-new-requires-2 c =
+pub new-requires : goal.new-requires
+new-requires c =
     record { fine = rw (c.as_slice-2.ensures.value, c.as_slice-3.ensures.value) (device_fine (lists_of c.args.setup.now) c.requires) }
 
 pub opening_clients-requires-clause-valid : goal.opening_clients-requires-clause-valid
 opening_clients-requires-clause-valid c = valid_to_score (lists_of c.args.setup.now) c.requires
 
-pub new-requires-3 : goal.new-requires-3
-new-requires-3 c = valid_to_score (lists_of c.args.setup.now) c.requires
+pub new-requires-2 : goal.new-requires-2
+new-requires-2 c = valid_to_score (lists_of c.args.setup.now) c.requires
 
 pub invariant_of-result : goal.invariant_of-result
 invariant_of-result c =
     let setup = lists_of c.args.setup.now in
     let few : length (map client_of c.in_ok-clients.clients.items) ≤ 8 = rw c.in_ok-clients.ensures.0 (few_clients setup c.requires) in (
       rw (length-map c.in_ok-clients.clients.items client_of) at few,
-      rw (← c.room_by-room.ensures.room) c.in_ok-clients.ensures.1,
-      c.in_ok-joining.ensures ∙ c.room_by-room.ensures.room,
+      c.in_ok-clients.ensures.1,
+      c.in_ok-joining.ensures,
       nothing_written (rooms_of c.in_ok-serial.serial) setup c.in_ok-clients.clients.items c.in_ok-clients.ensures.0,
     )
 

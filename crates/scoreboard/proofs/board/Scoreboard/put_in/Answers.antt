@@ -5,7 +5,7 @@ use Rattle.std.specs.Prelude.{slice_get}
 use Rattle.bus_words.proofs.PlaceChanges.{all-got}
 use Rattle.serial_memory.specs.SerialMemory.{rooms_of}
 use Rattle.scoreboard.specs.Boards.{ClientBoard, client_footprints, with_client, with_whole}
-use Rattle.scoreboard.specs.InsideBoards.{HaveRoomToWrite, BoardState, ClientState, IsFreeOf, HasRoomToWrite, board_of, client_of, flight_of, footprint_of, room_by}
+use Rattle.scoreboard.specs.InsideBoards.{HaveRoomToWrite, BoardState, ClientState, IsFreeOf, HasRoomToWrite, board_of, client_of, flight_of, footprint_of, most_words}
 use Rattle.scoreboard.specs.contracts.board.Scoreboard.{the_view}
 use Rattle.scoreboard.proofs.held.BoardSteps.{client_is, client_kept, client_there, put_there, there_at}
 use Rattle.scoreboard.proofs.held.ClientFootprints.{room_with_whole}
@@ -29,7 +29,7 @@ still c = there_at c.self.inside.clients.items c.args.client c.index_mut.result.
 
 pub invariant_of-self : goal.invariant_of-self
 invariant_of-self c =
-    let room = room_by c.self.inside.policy in
+    let room = most_words in
     let clients = c.self.inside.clients.items in
     let found = c.index_mut.result.now in
     let rooms = rooms_of c.self.inside.serial in

@@ -7,7 +7,7 @@ use Rattle.tl_checker.specs.Ports.{joined}
 use Rattle.tl_checker.specs.declared.Progress.{Progress}
 use Rattle.serial_memory.specs.SerialMemory.{rooms_of}
 use Rattle.scoreboard.specs.Boards.{Board, ClientBoard, answer_to, client_footprints, with_client}
-use Rattle.scoreboard.specs.InsideBoards.{HaveRoomToWrite, BoardState, ClientState, IsFreeOf, board_of, client_of, front_after, room_by}
+use Rattle.scoreboard.specs.InsideBoards.{HaveRoomToWrite, BoardState, ClientState, IsFreeOf, board_of, client_of, front_after, most_words}
 use Rattle.scoreboard.specs.contracts.board.Scoreboard.{the_view}
 use Rattle.scoreboard.proofs.held.BoardSteps.{client_is, client_kept, client_there, there_at}
 use Rattle.scoreboard.proofs.held.RequestAnswered.{free_whole}
@@ -30,7 +30,7 @@ take_beat-requires c =
 pub invariant_of-self : goal.invariant_of-self
 invariant_of-self c =
     let rooms = rooms_of c.self.inside.serial in
-    let kept = client_kept (room_by c.self.inside.policy) rooms c.self.inside.clients.items c.args.client c.index_mut.result.now c.take_beat.new.self (there c)
+    let kept = client_kept most_words rooms c.self.inside.clients.items c.args.client c.index_mut.result.now c.take_beat.new.self (there c)
     (ap (λ (client : ClientState). client.flights.room) c.take_beat.ensures.client)
     (subst (λ (client : ClientState). HaveRoomToWrite rooms (client_footprints (client_of client))) (sym c.take_beat.ensures.client)) (c.self.invariant.0, c.self.invariant.1, c.self.invariant.3) in
     (kept.0, kept.1, c.self.invariant.2, kept.2)
