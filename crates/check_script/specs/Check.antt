@@ -49,7 +49,7 @@ check_kind =
       passes = λ words. false;
       command_of = λ words. command_by_form check_command words (form_of (word_at words 1));
       opened = λ own setup. opened setup.config (is_valid setup.config);
-      commanded = λ table number command. (check_text table command, table_after table command);
+      commanded = λ table number command. Ok (check_text table command, table_after table command);
       ending = λ table. ([], table.refused);
     }
 

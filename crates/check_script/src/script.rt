@@ -122,6 +122,15 @@ impl Kind for CheckScript {
         }
     }
 
+    fn wrong_first(
+        _own: &(),
+        _setup: &Setup,
+        _number: u32,
+        _command: &CheckCommand,
+    ) -> Option<u32> {
+        None
+    }
+
     fn carry_out<W: Write>(
         &mut self,
         ports: &mut ClientPorts,

@@ -7,6 +7,7 @@ use Rattle.line_text.specs.Traces.{mem_text}
 use Rattle.line_text.proofs.TraceTexts.{some_after, some_before}
 use Rattle.run_script.specs.Answers.{answer_text}
 use Rattle.script_text.specs.Stages.{GivesSome}
+use Rattle.script_text.proofs.StageSteps.{some_given}
 use Rattle.run_script.specs.Run.{after_answer, before_answer, commanded, run_kind}
 use Rattle.run_script.specs.declared.lines.Command.{Command}
 use Rattle.run_script.specs.declared.lines.Command.TheVariants.{Event, Drain, Mem, Work}
@@ -41,4 +42,5 @@ commanded-some world (Mem address) = by_byte _
 commanded-some world Work = λ none. search rules
 
 pub run_gives : GivesSome run_kind
-run_gives world number command = some_before _ _ (commanded-some world command)
+run_gives world number command given is =
+    some_given (λ after. (run_kind.ending after).0) (commanded world command) given is (some_before _ _ (commanded-some world command))

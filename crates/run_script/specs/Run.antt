@@ -1,5 +1,5 @@
 -- `tlbridge run`: what each line of its script does (this project's profile).
-use Rattle.std.specs.Prelude.{ℕ, Bool, true, false, List, [], ◌∷◌, ◌++◌, None, Result, Err}
+use Rattle.std.specs.Prelude.{ℕ, Bool, true, false, List, [], ◌∷◌, ◌++◌, None, Result, Ok, Err}
 use Rattle.tl_messages.specs.Lines.{a_text}
 use Rattle.setups.specs.Setups.{SetupLists, setup_fault}
 use Rattle.world.specs.World.{WorldState, Outcome, opening_world, next, byte_of, drained, work_left}
@@ -84,7 +84,7 @@ run_kind =
       passes = λ words. false;
       command_of = λ words. command_by_form command_of words (form_of (word_at words 1));
       opened = λ own setup. unless_refused (opening_world setup) (setup_fault setup);
-      commanded = λ world number command. commanded world command;
+      commanded = λ world number command. Ok (commanded world command);
       ending = λ world. ([], false);
     }
 

@@ -151,6 +151,10 @@ impl Kind for RunScript {
         World::new(alloc, setup)
     }
 
+    fn wrong_first(_own: &(), _setup: &Setup, _number: u32, _command: &Command) -> Option<u32> {
+        None
+    }
+
     fn carry_out<W: Write>(
         &mut self,
         world: &mut World,

@@ -1,1 +1,2 @@
 mod FindingLines
+mod FillLaws

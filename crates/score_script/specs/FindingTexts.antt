@@ -9,6 +9,7 @@ use Rattle.scoreboard.specs.declared.ReplyRule.{ReplyRule}
 use Rattle.scoreboard.specs.declared.Wrong.{Wrong}
 use Rattle.scoreboard.specs.declared.Wrong.TheVariants.{NoClient, Request, Reply, Axi, Place}
 use Rattle.line_text.specs.Traces.{answer_line, mem_text}
+use Rattle.bus_words.specs.Text.{line}
 use Rattle.tl_checker.specs.Names.{name_of, number_of}
 use Rattle.tl_messages.specs.Lines.{d_text}
 
@@ -47,9 +48,20 @@ abbrev pub WritesText : {E : Type 0} → List ℕ → Option (List ℕ) → Opti
 WritesText text before after (Ok wrote) = Appends before after text × (wrote ≡ false → text ≡ []) × (wrote ≡ true → text ≢ [])
 WritesText text before after (Err fault) = text ≢ []
 
--- the last line: how many beats were judged, how many of them are wrong, how many replies weren't seen whole, and how many bursts are open
-abbrev pub last_text : ℕ → ℕ → ℕ → ℕ → List ℕ
-last_text judged wrong outstanding left_open =
-    answer_line
-    (codes "judged" ∷ decimal judged ∷ codes "wrong" ∷ decimal wrong ∷ codes "outstanding" ∷ decimal outstanding ∷ codes "open"
-    ∷ decimal left_open ∷ [])
+-- the beginning of the last line: how many beats were judged, how many of them are wrong, how many replies weren't seen whole, and how many bursts are
+-- open
+abbrev pub counts_text : ℕ → ℕ → ℕ → ℕ → List ℕ
+counts_text judged wrong outstanding left_open =
+    codes "= judged "
+    ++ (decimal judged
+    ++ (codes " wrong "
+    ++ (decimal wrong ++ (codes " outstanding " ++ (decimal outstanding ++ (codes " open " ++ (decimal left_open ++ codes " ")))))))
+
+-- its end: how many of the bytes that replies told were compared
+abbrev pub compared_text : ℕ → ℕ → List ℕ
+compared_text compared told = line (codes "compared" ∷ decimal compared ∷ codes "of" ∷ decimal told ∷ [])
+
+-- the last line
+abbrev pub last_text : ℕ → ℕ → ℕ → ℕ → ℕ → ℕ → List ℕ
+last_text judged wrong outstanding left_open compared told =
+    counts_text judged wrong outstanding left_open ++ compared_text compared told

@@ -1,4 +1,5 @@
 pub mod CommandTexts
+pub mod FillLines
 pub mod FindingTexts
 pub mod ObservedLines
 pub mod Profiles

@@ -13,6 +13,7 @@ use Rattle.line_text.specs.Fields.{Field, address_field, byte_field, flag_field,
 use Rattle.script_text.specs.Forms.{told_as}
 use Rattle.line_text.specs.OfferLines.{offer_line}
 use Rattle.line_text.specs.Words.{dec_at, hex_at, is_hex_to, word_at}
+use Rattle.score_script.specs.FillLines.{fill_line}
 use Rattle.score_script.specs.declared.lines.Channel.{Channel}
 use Rattle.score_script.specs.declared.lines.Channel.TheVariants as channel
 use Rattle.score_script.specs.declared.score.Command.{Command}
@@ -177,11 +178,13 @@ is_settling _ = false
 abbrev pub only_settles : List (List ℕ) → Bool
 only_settles words = is_answer words && is_settling (answer_command (word_at words 2))
 
--- what a line of a channel, or else a question, says, or the first wrong word
+-- what a line of a channel, or else a question or a filling, says, or the first wrong word
 abbrev pub asked_command : List (List ℕ) → Option Channel → Result Command ℕ
 asked_command words (Some channel) = told_as (λ beat. command.Observed beat) (seen_line channel words)
 asked_command words None =
-    if bytes_eq (word_at words 1) (codes "mem") then told_as (λ address. command.Byte address) (address_line words) else Err 1
+    if bytes_eq (word_at words 1) (codes "mem")
+    then told_as (λ address. command.Byte address) (address_line words)
+    else (if bytes_eq (word_at words 1) (codes "fill") then fill_line words else Err 1)
 
 -- what a line says that isn't one of the set-up, or the first wrong word; there are no other commands
 abbrev pub command_of : List (List ℕ) → Result Command ℕ

@@ -1,5 +1,5 @@
 -- What the lines of a set-up ask of a bridge, and the board that judges beats by it (this project's profile).
-use Rattle.std.specs.Prelude.{ℕ, Bool, true, false, ◌&&◌, ◌||◌, List, [], ◌∷◌, Option, Some, None, Result, Err, if◌then◌else◌, is_some, unwrap_or, codes}
+use Rattle.std.specs.Prelude.{ℕ, Bool, true, false, ◌&&◌, ◌||◌, List, [], ◌∷◌, Option, Some, None, Result, Err, if◌then◌else◌, is_some, length, unwrap_or, codes}
 use Rattle.std.specs.Str.{bytes_eq}
 use Rattle.line_text.specs.Fields.{Field, read_as}
 use Rattle.line_text.specs.Words.{word_at}
@@ -7,12 +7,15 @@ use Rattle.axi_checker.specs.OpenBursts.{open_count}
 use Rattle.score_script.specs.declared.profiles.Asked.{Asked}
 use Rattle.scoreboard.specs.Boards as boards
 use Rattle.scoreboard.specs.Boards.{Board, wrong_at}
-use Rattle.serial_memory.specs.SerialMemory.{byte_at}
+use Rattle.serial_memory.specs.SerialMemory.{byte_at, can_fill}
 use Rattle.scoreboard.specs.declared.Errors.{Errors}
 use Rattle.scoreboard.specs.declared.Errors.TheVariants.{Any, Strict}
 use Rattle.scoreboard.specs.declared.Policy.{Policy}
 use Rattle.scoreboard.specs.declared.Policy.TheVariants.{AcceptanceOrder, RealTime}
+use Rattle.scoreboard.specs.Filling.{filled_on}
+use Rattle.scoreboard.specs.Telling.{telling_of}
 use Rattle.scoreboard.specs.declared.ObservedBeat.{ObservedBeat}
+use Rattle.scoreboard.specs.declared.tellings.Telling.{Telling}
 use Rattle.scoreboard.specs.declared.Wrong.{Wrong}
 use Rattle.script_text.specs.Forms.{told_as}
 use Rattle.score_setup.specs.ScoreSetups.{RangeLists}
@@ -113,6 +116,18 @@ opening_board policy errors setup = record { policy = policy; board = boards.ope
 -- what is wrong with a beat, if anything is
 abbrev pub wrong_in : PolicyBoard → ObservedBeat → Option Wrong
 wrong_in judge seen = wrong_at judge.policy judge.board seen
+
+-- the board whose memory began with these bytes from an address on
+abbrev pub filled_in : PolicyBoard → ℕ → List ℕ → PolicyBoard
+filled_in judge address bytes = record judge { board = filled_on judge.board address bytes }
+
+-- whether it may have: whether they are all on good pages
+abbrev pub can_fill_in : PolicyBoard → ℕ → List ℕ → Bool
+can_fill_in judge address bytes = can_fill judge.board.memory.faults address (length bytes)
+
+-- how much a beat tells, and how much of that is compared
+abbrev pub telling_in : PolicyBoard → ObservedBeat → Telling
+telling_in judge seen = telling_of judge.policy judge.board seen
 
 -- the board after a beat
 abbrev pub after_seen : PolicyBoard → ObservedBeat → PolicyBoard

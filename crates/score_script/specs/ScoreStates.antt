@@ -12,4 +12,13 @@ board_of board = record { policy = board.policy; board = held.board_of board }
 -- a score, with its board said so
 abbrev pub score_of : HeldScore → Score
 score_of score =
-    record { board = board_of score.board; places = score.places; held = score.held; judged = score.judged; wrong = score.wrong }
+    record {
+      board = board_of score.board;
+      places = score.places;
+      begins = score.begins;
+      held = score.held;
+      judged = score.judged;
+      wrong = score.wrong;
+      told = score.told;
+      compared = score.compared;
+    }

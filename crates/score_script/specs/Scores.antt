@@ -1,9 +1,9 @@
 -- What each line of an observation does (this project's profile).
-use Rattle.std.specs.Prelude.{ℕ, ◌+◌, ◌^◌, ◌-◌, Bool, true, List, ◌++◌, min, Option, Some, None, if◌then◌else◌, is_some, nat_lt}
+use Rattle.std.specs.Prelude.{ℕ, ◌≡◌, ◌+◌, ◌^◌, ◌-◌, Bool, true, false, not, List, ◌++◌, min, Option, Some, None, Result, if◌then◌else◌, is_some, nat_lt}
 use Rattle.std.specs.Option.{option_or}
 use Rattle.score_script.specs.FindingTexts.{last_text, optional_text}
 use Rattle.score_script.specs.ObservedLines.{command_of, only_settles}
-use Rattle.score_script.specs.Profiles.{PolicyBoard, after_seen, bursts_open, byte_in, errors_of, nothing_asked, opening_board, own_line, policy_of, replies_open, wrong_in}
+use Rattle.score_script.specs.Profiles.{PolicyBoard, after_seen, bursts_open, byte_in, can_fill_in, errors_of, filled_in, nothing_asked, opening_board, own_line, policy_of, replies_open, telling_in, wrong_in}
 use Rattle.score_script.specs.declared.findings.Finding.{Finding}
 use Rattle.score_script.specs.declared.findings.Finding.TheVariants as finding
 use Rattle.score_script.specs.declared.score.Command.{Command}
@@ -15,19 +15,26 @@ use Rattle.scoreboard.specs.Places.{wrong_place}
 use Rattle.scoreboard.specs.declared.ObservedBeat.{ObservedBeat}
 use Rattle.scoreboard.specs.declared.ObservedBeat.TheVariants.{A, D, Axi, Drained}
 use Rattle.scoreboard.specs.declared.Wrong.{Wrong}
+use Rattle.line_text.specs.Fields.{unless_wrong}
 use Rattle.script_text.specs.Scripts.{Reading}
+use Rattle.script_text.specs.declared.faults.ScriptFault.{ScriptFault}
+use Rattle.script_text.specs.declared.faults.ScriptFault.TheVariants.{NoMemory, Script}
 use Rattle.script_text.specs.Stages.{Kind, Opening, Stage, reading_of, unless_refused}
 use Rattle.score_setup.specs.ScoreSetups.{RangeLists, one_by_one, score_setup_fault}
 use Rattle.script_text.specs.SetupRules.{score_rules}
 
--- the board; the regions to which bursts have to go, where that is asked for; the beat that is held, which is that of the last line, where that is an
--- A line; and how many beats were judged, and how many of them are wrong
+-- the board; the regions to which bursts have to go, where that is asked for; whether nothing was observed or asked yet; the beat that is
+-- held, which is that of the last line, where that is an A line; how many beats were judged, and how many of them are wrong; and how many
+-- bytes replies told, and how many of them were compared
 pub record Score : Type 0 where
   pub board : PolicyBoard
   pub places : Option (List Region)
+  pub begins : Bool
   pub held : Option HeldBeat
   pub judged : ℕ
   pub wrong : ℕ
+  pub told : ℕ
+  pub compared : ℕ
 
 -- a score of which nothing was observed
 abbrev pub opening_score : Asked → RangeLists → Score
@@ -35,16 +42,23 @@ opening_score asked setup =
     record {
       board = opening_board (policy_of asked.policy) (errors_of asked.errors) setup;
       places = if asked.strict then Some setup.regions else None;
+      begins = true;
       held = None;
       judged = 0;
       wrong = 0;
+      told = 0;
+      compared = 0;
     }
 
 -- ---- judging
 
--- a count and one more; it stays at 2^64 - 1
+-- a count and so many more; it stays at 2^64 - 1
+abbrev pub with_more : ℕ → ℕ → ℕ
+with_more count more = min (count + more) (2 ^ 64 - 1)
+
+-- a count and one more
 abbrev pub counted : ℕ → ℕ
-counted count = min (count + 1) (2 ^ 64 - 1)
+counted count = with_more count 1
 
 -- how many beats were judged, with what was observed last: that beats went unobserved is no beat
 abbrev pub beats_judged : ℕ → ObservedBeat → ℕ
@@ -72,6 +86,8 @@ score_after score seen verdict =
       board = after_seen score.board seen;
       judged = beats_judged score.judged seen;
       wrong = if is_some verdict then counted score.wrong else score.wrong;
+      told = with_more score.told (telling_in score.board seen).told;
+      compared = with_more score.compared (telling_in score.board seen).compared;
     }
 
 -- what is wrong with the place of a beat, where places are judged
@@ -117,18 +133,47 @@ finds score number (command.Byte address) =
     record { held = (settling score).0; own = Some (finding.Byte (byte_in (settling score).1.board address)); after = (settling score).1 }
 finds score number command.Withdrawal = record { held = None; own = None; after = record score { held = None } }
 finds score number command.Answer = record { held = (settling score).0; own = None; after = (settling score).1 }
+finds score number (command.Fill address bytes) = record { held = None; own = None; after = record score { board = filled_in score.board address bytes } }
+
+-- whether nothing was observed or asked yet, after a command
+abbrev pub begins_after : Bool → Command → Bool
+begins_after begins (command.Observed seen) = false
+begins_after begins (command.Byte address) = false
+begins_after begins _ = begins
+
+-- the wrong word of a filling: it stands before all that was observed or asked, and fills good pages
+abbrev pub wrong_fill : Score → ℕ → List ℕ → Option ℕ
+wrong_fill score address bytes = if not score.begins then Some 1 else (if can_fill_in score.board address bytes then None else Some 2)
+
+-- the wrong word of a command, if it may not stand: all others may
+abbrev pub wrong_command : Score → Command → Option ℕ
+wrong_command score (command.Fill address bytes) = wrong_fill score address bytes
+wrong_command score _ = None
+
+-- why a filling wasn't done: its line has this wrong word, or else memory was refused
+abbrev pub FillsNot : ℕ → Option ℕ → ScriptFault → Type 0
+FillsNot number (Some word) fault = fault ≡ Script number word
+FillsNot number None fault = fault ≡ NoMemory
+
+-- the score after a command
+abbrev pub commanded_score : Score → ℕ → Command → Score
+commanded_score score number said = record (finds score number said).after { begins = begins_after score.begins said }
 
 -- the lines of what a line finds
 abbrev pub finds_text : Finds → List ℕ
 finds_text given = optional_text given.held ++ optional_text given.own
 
+-- what a command writes, and the score after it, or its wrong word
+abbrev pub commanded : Score → ℕ → Command → Result (List ℕ × Score) ℕ
+commanded score number said = unless_wrong (finds_text (finds score number said), commanded_score score number said) (wrong_command score said)
+
 -- ---- a whole observation
 
--- the held beat is judged, and the last line tells how many beats were, with whether one is wrong
+-- the held beat is judged, and the last line tells how many beats were, and how many bytes were compared, with whether a beat is wrong
 abbrev pub closing : Option Finding × Score → List ℕ × Bool
 closing settled = (
   optional_text settled.0
-      ++ last_text settled.1.judged settled.1.wrong (replies_open settled.1.board) (bursts_open settled.1.board),
+      ++ last_text settled.1.judged settled.1.wrong (replies_open settled.1.board) (bursts_open settled.1.board) settled.1.compared settled.1.told,
   nat_lt 0 settled.1.wrong,
 )
 
@@ -146,7 +191,7 @@ score_kind =
       passes = only_settles;
       command_of = command_of;
       opened = λ asked setup. unless_refused (opening_score asked setup) (score_setup_fault (one_by_one setup));
-      commanded = λ score number said. (finds_text (finds score number said), (finds score number said).after);
+      commanded = commanded;
       ending = λ score. closing (settling score);
     }
 

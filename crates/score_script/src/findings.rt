@@ -1,7 +1,7 @@
 //! The lines of what is wrong, and of what was found at the end.
-ghost use Rattle.std.specs.Prelude.{◌++◌, OnOk};
+ghost use Rattle.std.specs.Prelude.{◌≡◌, None, ◌++◌, OnOk};
 ghost use Rattle.std.specs.Io.KnownBytes.{Appends};
-ghost use Rattle.score_script.specs.FindingTexts.{WritesText, expected_text, finding_text, last_text, optional_text, wrong_text};
+ghost use Rattle.score_script.specs.FindingTexts.{WritesText, compared_text, counts_text, expected_text, finding_text, optional_text, wrong_text};
 
 use line_text::{WriteFault, mem_line};
 use scoreboard::{ReplyRule, Wrong};
@@ -22,6 +22,19 @@ pub(crate) enum Finding {
 pub(crate) struct Findings {
     pub(crate) held: Option<Finding>,
     pub(crate) own: Option<Finding>,
+}
+
+impl Findings {
+    /// Nothing is found.
+    pub(crate) fn none() -> Findings
+        ensures held { result.held ≡ None }
+        ensures own { result.own ≡ None }
+    {
+        Findings {
+            held: None,
+            own: None,
+        }
+    }
 }
 
 /// Writes the beginning of a wrong reply's line, behind which the beat that was due stands.
@@ -113,20 +126,32 @@ pub(crate) fn findings_lines<W: Write>(
     Ok(true)
 }
 
-/// Writes the last line: how many beats were judged, how many of them are wrong, how many accepted requests have a reply
-/// that wasn't seen whole, and how many AXI bursts are open.
-pub(crate) fn last_line<W: Write>(
+/// Writes the beginning of the last line: how many beats were judged, how many of them are wrong, how many accepted requests have a
+/// reply that wasn't seen whole, and how many AXI bursts are open.
+pub(crate) fn last_counts<W: Write>(
     judged: u64,
     wrong: u64,
     outstanding: u16,
     open_bursts: usize,
     writer: &mut W,
 ) -> Result<(), WriteFault>
-    ensures { OnOk result (Appends (W.contents writer.old) (W.contents writer.new) (last_text judged wrong outstanding open_bursts)) }
+    ensures { OnOk result (Appends (W.contents writer.old) (W.contents writer.new) (counts_text judged wrong outstanding open_bursts)) }
 {
-    writeln!(
+    write!(
         writer,
-        "= judged {judged} wrong {wrong} outstanding {outstanding} open {open_bursts}"
+        "= judged {judged} wrong {wrong} outstanding {outstanding} open {open_bursts} "
     )?;
+    Ok(())
+}
+
+/// Writes its end: how many of the bytes that replies told were compared.
+pub(crate) fn last_compared<W: Write>(
+    compared: u64,
+    told: u64,
+    writer: &mut W,
+) -> Result<(), WriteFault>
+    ensures { OnOk result (Appends (W.contents writer.old) (W.contents writer.new) (compared_text compared told)) }
+{
+    writeln!(writer, "compared {compared} of {told}")?;
     Ok(())
 }

@@ -1,6 +1,7 @@
 //! What was observed at the ports of a bridge, as text: how its lines are read, judged and told.
 #![tactic(auto)]
 
+mod fills;
 mod findings;
 mod lines;
 mod profiles;

@@ -4,6 +4,7 @@ ghost use Rattle.line_text.specs.Fields.{Reads};
 ghost use Rattle.line_text.specs.Words.{word_at};
 ghost use Rattle.score_script.specs.ObservedLines.{address_line, answer_command, ar_line, asked_command, aw_line, b_line, channel_of, command_of, d_line, is_answer, is_withdrawal, only_settles, r_line, resp_field, resp_in, seen_line, w_line};
 
+use crate::fills::fill_line;
 use crate::score::Command;
 use axi_beats::{ArBeat, AwBeat, BBeat, RBeat, Resp, WBeat};
 use axi_checker::AxiBeat;
@@ -224,17 +225,18 @@ pub(crate) fn only_settles(words: &Words<'_>) -> bool
     is_answer(words) && matches!(answer_command(words.at(2)), Command::Answer)
 }
 
-/// What a line of a channel, or else a question, says, or its first wrong word.
+/// What a line of a channel, or else a question or a filling, says, or its first wrong word.
 fn asked_command(words: &Words<'_>, channel: Option<Channel>) -> Result<Command, u32>
     ensures { result ≡ asked_command words.now channel }
 {
     if let Some(channel) = channel {
         return Ok(Command::Observed(seen_line(channel, words)?));
     }
-    if words.at(1) != b"mem".as_slice() {
-        return Err(1);
+    match words.at(1) {
+        b"mem" => Ok(Command::Byte(address_line(words)?)),
+        b"fill" => fill_line(words),
+        _ => Err(1),
     }
-    Ok(Command::Byte(address_line(words)?))
 }
 
 /// What a line says that isn't one of the set-up, or its first wrong word.

@@ -3,12 +3,12 @@ ghost use Rattle.std.specs.Prelude.{true};
 ghost use Rattle.script_text.specs.Scripts.{EndsOrStops, text_before_failure, text_of};
 ghost use Rattle.score_script.specs.Scores.{opening_state, score_reading};
 
-use crate::findings::findings_lines;
+use crate::findings::{Findings, findings_lines};
 use crate::lines::{command_of, only_settles};
 use crate::profiles::Asked;
-use crate::score::{Command, Score};
+use crate::score::{Command, Score, wrong_at_first};
 use line_text::Words;
-use score_setup::ScoreSetup;
+use score_setup::{ScoreSetup, score_setup_fault};
 use script_text::{Form, Kind, ScriptFault, ScriptSetup, StagedScript, read_script};
 use setups::SetupFault;
 use std::alloc::Global;
@@ -91,6 +91,18 @@ impl Kind for ScoreScript {
         Score::new(alloc, *asked, setup)
     }
 
+    fn wrong_first(
+        _asked: &Asked,
+        setup: &ScoreSetup,
+        _number: u32,
+        command: &Command,
+    ) -> Option<u32> {
+        if score_setup_fault(setup).is_some() {
+            return None;
+        }
+        wrong_at_first(setup, command)
+    }
+
     fn carry_out<W: Write>(
         &mut self,
         score: &mut Score,
@@ -98,7 +110,8 @@ impl Kind for ScoreScript {
         command: &Command,
         writer: &mut W,
     ) -> Result<bool, ScriptFault> {
-        let findings = score.take(number, command)?;
+        let mut findings = Findings::none();
+        score.take(number, command, &mut findings)?;
         Ok(findings_lines(&findings, writer)?)
     }
 
@@ -112,8 +125,9 @@ impl Kind for ScoreScript {
 /// Judges what was observed at the ports of a bridge, and writes a line for each beat that can't be right, for each question,
 /// and at the end. The answer is whether a beat is wrong. A beat on channel A is judged once the line straight behind it, empty
 /// ones and comments aside, was read without fault and doesn't withdraw it, or at the input's end; each other beat with its own
-/// line. Each line's text stands before more is read. A page takes room at the beat that ends the first request that gives it a
-/// byte: where memory is refused there, the call ends with that fault, behind the text of the lines before.
+/// line. Each line's text stands before more is read. A page takes room when it is first given a byte: by a `fill`, or at a beat of the first
+/// request that does so, its last in order of acceptance, its first in real time. Where memory is refused there, the call ends with that
+/// fault, behind the text of the lines before.
 pub fn score_text<R: Read, W: Write>(
     alloc: Global,
     reader: &mut R,

@@ -1,11 +1,11 @@
 -- What a command makes of a script, and what a refused opening does.
-use Rattle.std.proofs.Common.{◌≡◌, ◌≢◌, ◌⊎◌, inl, inr, ℕ, List, [], Bool, true, false, Option, Some, None, IfSome, IfOk, IfErr, Result, Ok, Err, IsOk, refl, sym, ap, ◌∙◌, rules}
+use Rattle.std.proofs.Common.{◌≡◌, ◌≢◌, ◌++◌, ◌⊎◌, inl, inr, ℕ, List, [], Bool, true, false, Option, Some, None, IfSome, IfOk, IfErr, Result, Ok, Err, IsOk, refl, subst, sym, ap, ◌∙◌, rules}
 use Rattle.std.proofs.KnownBytes.{Appends-nil, Keeps-refl}
 use Rattle.burst_plan.specs.PageMap.{region_fault}
 use Rattle.config.specs.Configs.{is_valid}
 use Rattle.script_text.specs.Forms.{told_as}
 use Rattle.script_text.specs.Scripts.{LineStep}
-use Rattle.script_text.specs.Stages.{GivesSome, Kind, OpensAs, OpensStage, Opening, Running, SettingUp, Stage, Writes, command_step, is_misplaced, nothing_written, reading_of, set_up_with, setup_step, unless_refused, world_at}
+use Rattle.script_text.specs.Stages.{GivesSome, Kind, OpensAs, OpensStage, Opening, Running, SettingUp, Stage, Writes, command_step, commanded_step, is_misplaced, nothing_written, reading_of, set_up_as, set_up_with, setup_step, unless_refused, world_at, wrong_first, wrong_opened, wrong_word}
 use Rattle.script_text.specs.Steps.{GivesText, Stands, TakesStep}
 use Rattle.script_text.specs.declared.faults.ScriptFault.{ScriptFault}
 use Rattle.script_text.specs.declared.faults.ScriptFault.TheVariants.{Script, Setup, Read, Write, NoMemory}
@@ -47,49 +47,88 @@ OpensStage-running kind stage world number there = (world, ap (λ s. world_at ki
 
 -- ---- commands
 
-gives : {Z S W C : Type 0} (kind : Kind Z S W C) (found : Result W ScriptFault) (number : ℕ) (command : C) → GivesSome kind → IsOk found → GivesText (reading_of kind) (command_step kind found number command)
-gives kind (Ok world) number command some ok =
-    (record { text = (kind.commanded world number command).0; next = Running (kind.commanded world number command).1; step_is = refl; may_end = λ n. refl }, λ n. some world number command)
-gives kind (Err fault) number command some ok = search rules
+-- what it writes, where it may stand
+abbrev stands_so : {Z S W C : Type 0} (kind : Kind Z S W C) (found : Result W ScriptFault) (number : ℕ) (command : C) (given : List ℕ × W) → command_step kind found number command ≡ Ok (given.0, Running given.1)
+    → Stands (reading_of kind) (command_step kind found number command)
+stands_so kind found number command given is = record { text = given.0; next = Running given.1; step_is = is; may_end = λ n. refl }
+
+-- a command of what was made, by what it gives
+given_by : {Z S W C : Type 0} (kind : Kind Z S W C) (world : W) (number : ℕ) (command : C) → GivesSome kind → (r : Result (List ℕ × W) ℕ) → kind.commanded world number command ≡ r → wrong_word r ≡ None
+    → GivesText (reading_of kind) (command_step kind (Ok world) number command)
+given_by kind world number command some (Ok given) is right =
+    (stands_so kind (Ok world) number command given (ap (commanded_step number) is), λ n. some world number command given is)
+given_by kind world number command some (Err word) is right = search rules
+
+-- the first that may stand gives text
+gives_first : {Z S W C : Type 0} (kind : Kind Z S W C) (opened : Result W SetupFault) (number : ℕ) (command : C) → GivesSome kind → wrong_opened kind opened number command ≡ None → IsOk (set_up_as opened)
+    → GivesText (reading_of kind) (command_step kind (set_up_as opened) number command)
+gives_first kind (Ok world) number command some right ok = given_by kind world number command some (kind.commanded world number command) refl right
+gives_first kind (Err fault) number command some right ok = search rules
+
+gives : {Z S W C : Type 0} (kind : Kind Z S W C) (stage : Stage Z S W) (number : ℕ) (command : C) → GivesSome kind → wrong_first kind stage number command ≡ None → nothing_written stage ≡ true → IsOk (world_at kind stage number)
+    → GivesText (reading_of kind) (command_step kind (world_at kind stage number) number command)
+gives kind Opening number command some right silent ok = search rules
+gives kind (SettingUp setup own) number command some right silent ok = gives_first kind (kind.opened own setup) number command some right ok
+gives kind (Running world) number command some right silent ok = search rules
+
+-- the first that may not stand is at fault
+abbrev option_or_word : ℕ → Option ℕ → ℕ
+option_or_word other None = other
+option_or_word other (Some word) = word
+
+wrong_by : {Z S W : Type 0} (number word : ℕ) (r : Result (List ℕ × W) ℕ) → wrong_word r ≡ Some word → commanded_step {Z = Z} {S = S} {W = W} number r ≡ Err (Script number word)
+wrong_by number word (Ok given) is = search rules
+wrong_by number word (Err other) is = ap (λ (o : Option ℕ). Err (Script number (option_or_word other o))) is
+
+wrong_as_opened : {Z S W C : Type 0} (kind : Kind Z S W C) (opened : Result W SetupFault) (number word : ℕ) (command : C) → wrong_opened kind opened number command ≡ Some word
+    → command_step kind (set_up_as opened) number command ≡ Err (Script number word)
+wrong_as_opened kind (Ok world) number word command is = wrong_by number word (kind.commanded world number command) is
+wrong_as_opened kind (Err fault) number word command is = search rules
+
+pub wrong_step : {Z S W C : Type 0} (kind : Kind Z S W C) (stage : Stage Z S W) (number word : ℕ) (command : C) → wrong_first kind stage number command ≡ Some word
+    → command_step kind (world_at kind stage number) number command ≡ Err (Script number word)
+wrong_step kind Opening number word command is = search rules
+wrong_step kind (SettingUp setup own) number word command is = wrong_as_opened kind (kind.opened own setup) number word command is
+wrong_step kind (Running world) number word command is = search rules
 
 -- what a command works on wasn't made
-pub TakesStep-unopened : {Z S W C : Type 0} (kind : Kind Z S W C) (grows : Bool) (stage next : Stage Z S W) (number : ℕ) (command : C) (writer : Option (List ℕ)) (fault : ScriptFault) → GivesSome kind
+pub TakesStep-unopened : {Z S W C : Type 0} (kind : Kind Z S W C) (grows : Bool) (stage next : Stage Z S W) (number : ℕ) (command : C) (writer : Option (List ℕ)) (fault : ScriptFault) → GivesSome kind → wrong_first kind stage number command ≡ None
     → OpensStage (world_at kind stage number) (nothing_written stage) next (Err fault)
     → TakesStep (reading_of kind) grows (command_step kind (world_at kind stage number) number command) nothing_written stage next writer writer (Err fault)
-TakesStep-unopened kind grows stage next number command writer (Script line word) some refused = (ap (λ found. command_step kind found number command) refused, Keeps-refl writer)
-TakesStep-unopened kind grows stage next number command writer (Setup fault) some refused = (ap (λ found. command_step kind found number command) refused, Keeps-refl writer)
-TakesStep-unopened kind grows stage next number command writer Read some refused = refused
-TakesStep-unopened kind grows stage next number command writer Write some refused = absurd refused
-TakesStep-unopened kind grows stage next number command writer NoMemory some (silent, ok) = (inl (silent, gives kind (world_at kind stage number) number command some ok), Keeps-refl writer)
+TakesStep-unopened kind grows stage next number command writer (Script line word) some right refused = (ap (λ found. command_step kind found number command) refused, Keeps-refl writer)
+TakesStep-unopened kind grows stage next number command writer (Setup fault) some right refused = (ap (λ found. command_step kind found number command) refused, Keeps-refl writer)
+TakesStep-unopened kind grows stage next number command writer Read some right refused = refused
+TakesStep-unopened kind grows stage next number command writer Write some right refused = absurd refused
+TakesStep-unopened kind grows stage next number command writer NoMemory some right (silent, ok) = (inl (silent, gives kind stage number command some right silent ok), Keeps-refl writer)
 
--- a command, of what was made
-abbrev stands : {Z S W C : Type 0} (kind : Kind Z S W C) (stage : Stage Z S W) (number : ℕ) (world : W) (command : C) → world_at kind stage number ≡ Ok world → Stands (reading_of kind) (command_step kind (world_at kind stage number) number command)
-stands kind stage number world command found =
+-- a command's text was written, or it wasn't carried out, by what it gives
+carried_by : {Z S W C : Type 0} (kind : Kind Z S W C) (grows : Bool) (stage : Stage Z S W) (found : Result W ScriptFault) (number : ℕ) (next : W) (command : C) (before after : Option (List ℕ)) (r : Result (List ℕ × W) ℕ) (result : Result Bool ScriptFault)
+    → command_step kind found number command ≡ commanded_step number r → Writes grows number r next before after result
+    → TakesStep (reading_of kind) grows (command_step kind found number command) nothing_written stage (Running next) before after result
+carried_by kind grows stage found number next command before after (Ok given) (Ok wrote) is (written, made, quiet, speaks) =
     record {
-      text = (kind.commanded world number command).0;
-      next = Running (kind.commanded world number command).1;
-      step_is = ap (λ w. command_step kind w number command) found;
-      may_end = λ n. refl;
-    }
-
--- a command's text was written, or it wasn't carried out
-pub TakesStep-carried : {Z S W C : Type 0} (kind : Kind Z S W C) (grows : Bool) (stage : Stage Z S W) (number : ℕ) (world next : W) (command : C) (before after : Option (List ℕ)) (result : Result Bool ScriptFault) → world_at kind stage number ≡ Ok world
-    → Writes grows (kind.commanded world number command) next before after result
-    → TakesStep (reading_of kind) grows (command_step kind (world_at kind stage number) number command) nothing_written stage (Running next) before after result
-TakesStep-carried kind grows stage number world next command before after (Ok wrote) found (written, is, quiet, speaks) =
-    record {
-      text = (kind.commanded world number command).0;
-      step_is = ap (λ w. command_step kind w number command) found ∙ ap (λ w. Ok ((kind.commanded world number command).0, Running w)) (sym is);
+      text = given.0;
+      step_is = is ∙ ap (λ w. Ok (given.0, Running w)) (sym made);
       written = written;
       quiet = quiet;
       speaks = λ some. (speaks some, λ n. refl);
       silent = λ still. search rules;
     }
-TakesStep-carried kind grows stage number world next command before after (Err (Script line word)) found fails = absurd fails
-TakesStep-carried kind grows stage number world next command before after (Err (Setup fault)) found fails = absurd fails
-TakesStep-carried kind grows stage number world next command before after (Err Read) found fails = absurd fails
-TakesStep-carried kind grows stage number world next command before after (Err Write) found some = (stands kind stage number world command found, some)
-TakesStep-carried kind grows stage number world next command before after (Err NoMemory) found (may, kept) = (inr (may, stands kind stage number world command found), kept)
+carried_by kind grows stage found number next command before after (Ok given) (Err (Script line word)) is fails = absurd fails
+carried_by kind grows stage found number next command before after (Ok given) (Err (Setup fault)) is fails = absurd fails
+carried_by kind grows stage found number next command before after (Ok given) (Err Read) is fails = absurd fails
+carried_by kind grows stage found number next command before after (Ok given) (Err Write) is some = (stands_so kind found number command given is, some)
+carried_by kind grows stage found number next command before after (Ok given) (Err NoMemory) is (may, kept) = (inr (may, stands_so kind found number command given is), kept)
+carried_by kind grows stage found number next command before after (Err word) (Ok wrote) is fails = absurd fails
+carried_by kind grows stage found number next command before after (Err word) (Err fault) is (wrong, kept) =
+    rw wrong (is, kept)
+
+pub TakesStep-carried : {Z S W C : Type 0} (kind : Kind Z S W C) (grows : Bool) (stage : Stage Z S W) (number : ℕ) (world next : W) (command : C) (before after : Option (List ℕ)) (result : Result Bool ScriptFault) → world_at kind stage number ≡ Ok world
+    → Writes grows number (kind.commanded world number command) next before after result
+    → TakesStep (reading_of kind) grows (command_step kind (world_at kind stage number) number command) nothing_written stage (Running next) before after result
+TakesStep-carried kind grows stage number world next command before after result found =
+    carried_by kind grows stage (world_at kind stage number) number next command before after (kind.commanded world number command) result
+    (ap (λ w. command_step kind w number command) found)
 
 abbrev world_in : {Z S W : Type 0} → W → Stage Z S W → W
 world_in other Opening = other
@@ -99,6 +138,25 @@ world_in other (Running world) = world
 -- what was made is what a command works on
 pub opened_as : {Z S W : Type 0} (opened : Result W ScriptFault) (next : Stage Z S W) (world : W) → (made : W) × (opened ≡ Ok made) × (next ≡ Running made) → next ≡ Running world → opened ≡ Ok world
 opened_as opened next world (made, is, here) there = is ∙ ap (λ w. Ok (world_in made w)) (sym here ∙ there)
+
+-- ---- kinds whose commands may stand anywhere
+
+-- none is wrong as the first one
+pub never_wrong : {Z S W C : Type 0} (kind : Kind Z S W C) (opened : Result W SetupFault) (number : ℕ) (command : C) → ((world : W) → wrong_word (kind.commanded world number command) ≡ None)
+    → None ≡ wrong_opened kind opened number command
+never_wrong kind (Ok world) number command right = sym (right world)
+never_wrong kind (Err fault) number command right = refl
+
+abbrev given_or : {X : Type 0} → X → Result X ℕ → X
+given_or other (Ok given) = given
+given_or other (Err word) = other
+
+abbrev as_given : {X : Type 0} → X → Result X ℕ
+as_given given = Ok given
+
+-- what such a command gives has text
+pub some_given : {W : Type 0} (ending : W → List ℕ) (made given : List ℕ × W) → as_given made ≡ Ok given → made.0 ++ ending made.1 ≢ [] → given.0 ++ ending given.1 ≢ []
+some_given {W} ending made given is = subst (λ (g : List ℕ × W). g.0 ++ ending g.1 ≢ []) (ap (given_or made) is)
 
 -- ---- lines without text
 

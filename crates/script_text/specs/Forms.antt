@@ -42,6 +42,10 @@ range_count_field word = is_dec_to 1048576 word && nat_le 1 (digits_value 10 wor
 abbrev pub kind_field : Field
 kind_field word = bytes_eq word (codes "good") || bytes_eq word (codes "slverr")
 
+-- the same of a bridge that is only observed: a good page may begin with any bytes
+abbrev pub range_kind_field : Field
+range_kind_field word = kind_field word || bytes_eq word (codes "any")
+
 -- ---- a whole line
 
 -- what a line says, as part of what more forms say, or anything else that is told otherwise; a fault stays what it is

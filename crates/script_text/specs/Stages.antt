@@ -24,8 +24,8 @@ pub data Stage (Z S W : Type 0) : Type 0 where
 -- a kind of script: how many lines it may have; which set-up lines it has of those that scripts share, and what they add up to; what its own set-up
 -- lines have said before the first of them, and with one line more, or that line's first wrong word, where it is one of them; whether a line is passed
 -- over where it stands before the first command; what the words of a command's line say, or the first wrong word, which is word 1 where no command
--- begins so; what its commands work on, or why the set-up is refused; what a command writes, by the number of its line, and what is there after it;
--- and what is written at the input's end, with the result
+-- begins so; what its commands work on, or why the set-up is refused; what a command writes, by the number of its line, and what is there after it, or
+-- that line's wrong word, where it may not stand there; and what is written at the input's end, with the result
 pub record Kind (Z S W C : Type 0) : Type 0 where
   pub most_lines : ℕ
   pub takes : Form → Bool
@@ -35,7 +35,7 @@ pub record Kind (Z S W C : Type 0) : Type 0 where
   pub passes : List (List ℕ) → Bool
   pub command_of : List (List ℕ) → Result C ℕ
   pub opened : S → Z → Result W SetupFault
-  pub commanded : W → ℕ → C → List ℕ × W
+  pub commanded : W → ℕ → C → Result (List ℕ × W) ℕ
   pub ending : W → List ℕ × Bool
 
 -- whether no command was carried out yet
@@ -100,11 +100,31 @@ world_at kind Opening number = Err (Script number 1)
 world_at kind (SettingUp setup own) number = set_up_as (kind.opened own setup)
 world_at kind (Running world) number = Ok world
 
--- what a command writes, and what is there after it
+-- what a command makes of a script
+abbrev pub commanded_step : {Z S W : Type 0} → ℕ → Result (List ℕ × W) ℕ → LineStep (Stage Z S W)
+commanded_step number (Ok given) = Ok (given.0, Running given.1)
+commanded_step number (Err word) = Err (Script number word)
+
+-- what it writes, and what is there after it, or its line's wrong word
 abbrev pub command_step : {Z S W C : Type 0} → Kind Z S W C → Result W ScriptFault → ℕ → C → LineStep (Stage Z S W)
 command_step kind (Err fault) number command = Err fault
-command_step kind (Ok world) number command =
-    Ok ((kind.commanded world number command).0, Running (kind.commanded world number command).1)
+command_step kind (Ok world) number command = commanded_step number (kind.commanded world number command)
+
+-- the wrong word of a command's line, if it has one
+abbrev pub wrong_word : {W : Type 0} → Result (List ℕ × W) ℕ → Option ℕ
+wrong_word (Ok given) = None
+wrong_word (Err word) = Some word
+
+-- the same of the first command, by what was made for it; none where the set-up is refused
+abbrev pub wrong_opened : {Z S W C : Type 0} → Kind Z S W C → Result W SetupFault → ℕ → C → Option ℕ
+wrong_opened kind (Ok world) number command = wrong_word (kind.commanded world number command)
+wrong_opened kind (Err fault) number command = None
+
+-- by how far the script has come: none where a command is no first one
+abbrev pub wrong_first : {Z S W C : Type 0} → Kind Z S W C → Stage Z S W → ℕ → C → Option ℕ
+wrong_first kind Opening number command = None
+wrong_first kind (SettingUp setup own) number command = wrong_opened kind (kind.opened own setup) number command
+wrong_first kind (Running world) number command = None
 
 -- a line that says a command, or its first wrong word
 abbrev pub told_step : {Z S W C : Type 0} → Kind Z S W C → Stage Z S W → ℕ → Result C ℕ → LineStep (Stage Z S W)
@@ -181,21 +201,24 @@ FailsAt grows text before after Read = ⊥
 FailsAt grows text before after Write = text ≢ []
 FailsAt grows text before after NoMemory = (grows ≡ true) × Keeps before after
 
--- a text was written, and `wrote` tells whether there is any
-abbrev pub Writes : {W : Type 0} → Bool → List ℕ × W → W → Option (List ℕ) → Option (List ℕ) → Result Bool ScriptFault → Type 0
-Writes grows given new before after (Ok wrote) =
+-- a command's text was written, and `wrote` tells whether there is any; or its line has a wrong word, and that is told
+abbrev pub Writes : {W : Type 0} → Bool → ℕ → Result (List ℕ × W) ℕ → W → Option (List ℕ) → Option (List ℕ) → Result Bool ScriptFault → Type 0
+Writes grows number (Ok given) new before after (Ok wrote) =
     Appends before after given.0 × (new ≡ given.1) × (wrote ≡ false → given.0 ≡ []) × (wrote ≡ true → given.0 ≢ [])
-Writes grows given new before after (Err fault) = FailsAt grows given.0 before after fault
+Writes grows number (Ok given) new before after (Err fault) = FailsAt grows given.0 before after fault
+Writes grows number (Err word) new before after (Ok wrote) = ⊥
+Writes grows number (Err word) new before after (Err fault) = (fault ≡ Script number word) × Keeps before after
 
 -- a script's last text was written with its result
 abbrev pub WritesEnd : Bool → List ℕ × Bool → Option (List ℕ) → Option (List ℕ) → Result Bool ScriptFault → Type 0
 WritesEnd grows given before after (Ok answer) = Appends before after given.0 × (given.1 ≡ answer)
 WritesEnd grows given before after (Err fault) = FailsAt grows given.0 before after fault
 
--- a command has text, or a script that ends after it
+-- a command that may stand has text, or a script that ends after it
 abbrev pub GivesSome : {Z S W C : Type 0} → Kind Z S W C → Type 0
 GivesSome {Z} {S} {W} {C} kind =
-    (world : W) (number : ℕ) (command : C) → (kind.commanded world number command).0 ++ (kind.ending (kind.commanded world number command).1).0 ≢ []
+    (world : W) (number : ℕ) (command : C) (given : List ℕ × W) → kind.commanded world number command ≡ Ok given
+    → given.0 ++ (kind.ending given.1).0 ≢ []
 
 -- ---- what the state of a script is in a clause
 

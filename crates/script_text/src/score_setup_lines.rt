@@ -1,16 +1,16 @@
 //! The set-up of a bridge that is only observed, as lines add up to it.
 ghost use Rattle.std.specs.Prelude.{◌≡◌};
-ghost use Rattle.line_text.specs.Fields.{read_as};
-ghost use Rattle.score_setup.specs.ScoreSetups.{range_kind};
-ghost use Rattle.script_text.specs.SetupRules.{range_fields, range_in, too_many_ranges};
+ghost use Rattle.line_text.specs.Fields.{Reads, read_as};
+ghost use Rattle.line_text.specs.Words.{word_at};
+ghost use Rattle.script_text.specs.Forms.{range_kind_field};
+ghost use Rattle.script_text.specs.SetupRules.{range_fields, range_in, range_kind_in, too_many_ranges};
 
 use crate::keywords::Form;
 use crate::setup_lines::ScriptSetup;
-use crate::setup_parser::{bad_word, page_kind, range_count, region, score_config_line};
+use crate::setup_parser::{bad_word, range_count, region, score_config_line};
 use line_text::Words;
 use score_setup::ScoreSetup;
 use sparse_memory::{PageRange, RangeKind};
-use subordinate::PageKind;
 
 /// The most `page` lines of a set-up.
 const MOST_RANGES: usize = 1024;
@@ -31,13 +31,15 @@ fn too_many_ranges(held: usize, words: &Words<'_>) -> bool
     }
 }
 
-/// What the pages of a range are that begin as zeros.
-fn range_kind(kind: PageKind) -> RangeKind
-    ensures { result ≡ range_kind kind }
+/// What the pages of a range are.
+fn range_kind(words: &Words<'_>) -> Result<RangeKind, u32>
+    ensures { Reads (range_kind_field (word_at words.now 4)) (range_kind_in (word_at words.now 4)) 4 result }
 {
-    match kind {
-        PageKind::Good => RangeKind::Zeros,
-        PageKind::SlaveError => RangeKind::SlaveError,
+    match words.at(4) {
+        b"good" => Ok(RangeKind::Zeros),
+        b"slverr" => Ok(RangeKind::SlaveError),
+        b"any" => Ok(RangeKind::Unknown),
+        _ => Err(4),
     }
 }
 
@@ -47,7 +49,7 @@ fn page_range(words: &Words<'_>) -> Result<PageRange, u32>
 {
     let first = words.address(2)?;
     let count = range_count(words)?;
-    let kind = range_kind(page_kind(words)?);
+    let kind = range_kind(words)?;
     words.end(4)?;
     Ok(PageRange { first, count, kind })
 }

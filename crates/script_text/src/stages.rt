@@ -1,7 +1,7 @@
 //! What every kind of script has in common: a `config` line, other set-up lines, and then commands.
 ghost use Rattle.std.specs.Prelude.{◌≡◌, ◌<◌, [], false, true};
 ghost use Rattle.script_text.specs.Forms.{told_as};
-ghost use Rattle.script_text.specs.Stages.{OpensAs, Opening, OpensStage, TakesLine, Writes, WritesEnd, command_step, early_step, is_misplaced, nothing_written, other_step, reading_of, set_up_with, setup_step, stage_as, stage_ending, told_step, world_at};
+ghost use Rattle.script_text.specs.Stages.{OpensAs, Opening, OpensStage, TakesLine, Writes, WritesEnd, command_step, early_step, is_misplaced, nothing_written, other_step, reading_of, set_up_with, setup_step, stage_as, stage_ending, told_step, world_at, wrong_first};
 ghost use Rattle.script_text.specs.Steps.{TakesRest, TakesStep};
 
 use crate::driver::Script;
@@ -17,7 +17,7 @@ use std::marker::Model;
 /// A kind of script: the lines that it has, and what its commands do.
 pub trait Kind {
     ghost use Rattle.std.specs.Prelude.{Bool};
-    ghost use Rattle.script_text.specs.Stages.{GivesSome, Kind as Rules};
+    ghost use Rattle.script_text.specs.Stages.{GivesSome, Kind as Rules, wrong_opened};
 
     /// What its set-up lines add up to.
     type Setup: Drop;
@@ -96,8 +96,17 @@ pub trait Kind {
     ) -> Result<Self::World, SetupFault>
         ensures { OpensAs (rules.opened own.now (lists setup.now)) (told_as said result) };
 
+    /// The wrong word of a line whose command would be the first, by what would be made for it; none where the set-up is refused.
+    fn wrong_first(
+        own: &Self::Own,
+        setup: &Self::Setup,
+        number: u32,
+        command: &Self::Command,
+    ) -> Option<u32>
+        ensures { result ≡ wrong_opened rules (rules.opened own.now (lists setup.now)) number command.now };
+
     /// Carries out a command, by the number of its line, and writes its text. The answer is whether there was any. A fault is
-    /// that of the writer, or that memory was refused.
+    /// the line's wrong word, that of the writer, or that memory was refused.
     fn carry_out<W: Write>(
         &mut self,
         world: &mut Self::World,
@@ -105,7 +114,7 @@ pub trait Kind {
         command: &Self::Command,
         writer: &mut W,
     ) -> Result<bool, ScriptFault>
-        ensures { Writes grows (rules.commanded (said world.old) number command.now) (said world.new) (W.contents writer.old) (W.contents writer.new) result };
+        ensures { Writes grows number (rules.commanded (said world.old) number command.now) (said world.new) (W.contents writer.old) (W.contents writer.new) result };
 
     /// Writes the text of the input's end. The answer is what the script answers; a fault is as above.
     fn end<W: Write>(
@@ -298,6 +307,17 @@ impl<K: Kind> StagedScript<K> {
         }
     }
 
+    /// The wrong word of a line whose command would be the first; none of another.
+    #[inline]
+    fn wrong_first(&self, number: u32, command: &K::Command) -> Option<u32>
+        ensures { result ≡ wrong_first K.rules (stage_as K.lists K.said self.now) number command.now }
+    {
+        match &self.stage {
+            Stage::SettingUp(setup, own) => K::wrong_first(own, setup, number, command),
+            _ => None,
+        }
+    }
+
     fn carry_out<W: Write>(
         &mut self,
         alloc: Global,
@@ -307,6 +327,9 @@ impl<K: Kind> StagedScript<K> {
     ) -> Result<bool, ScriptFault>
         ensures { TakesStep (reading_of K.rules) K.grows (command_step K.rules (world_at K.rules (stage_as K.lists K.said self.old) number) number command.now) nothing_written (stage_as K.lists K.said self.old) (stage_as K.lists K.said self.new) (W.contents writer.old) (W.contents writer.new) result }
     {
+        if let Some(word) = self.wrong_first(number, command) {
+            return Err(ScriptFault::Script { line: number, word });
+        }
         self.open(alloc, number)?;
         let Stage::Running(world) = &mut self.stage else {
             unreachable!();

@@ -1,0 +1,9 @@
+-- No command is wrong as the first one.
+use Rattle.std.proofs.Common.{refl}
+use Rattle.setups.specs.Setups.{lists_of}
+use Rattle.script_text.proofs.StageSteps.{never_wrong}
+use Rattle.run_script.specs.Run.{run_kind}
+use Rattle.run_script.proofs.script.RunScriptKind.wrong_first.Goals as goal
+
+pub returns : goal.returns
+returns c = never_wrong run_kind (run_kind.opened tt (lists_of c.args._setup.now)) c.args._number c.args._command.now (λ world. refl)
