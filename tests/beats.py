@@ -457,7 +457,7 @@ def observed(rng: random.Random, port: AxiPort, counts: Counter) -> tuple[str, s
         if name:
             said.append(f"= wrong {number} axi {AXI_RULES.index(name) + 1} {name}")
     open_bursts = port.writes.count + port.reads.count
-    said.append(f"= judged {AXI_BEATS} wrong {len(said)} outstanding 0 open {open_bursts}")
+    said.append(f"= judged {AXI_BEATS} wrong {len(said)} outstanding 0 open {open_bursts} compared 0 of 0")
     return "\n".join(lines) + "\n", "\n".join(said) + "\n"
 
 

@@ -62,7 +62,10 @@ class Beats:
         return "R", [id, rng.getrandbits(64), rng.choice(("OKAY", "SLVERR")), int(burst is not None and burst.is_last())]
 
     def id_of(self, side: Side) -> int:
-        return self.rng.choice([*side.of_id] or [self.rng.randrange(self.port.ids)])
+        """An ID that has a burst on this side, but for one answer of so many: then any of the port's."""
+        if self.rng.randrange(SPOILS) and side.of_id:
+            return self.rng.choice([*side.of_id])
+        return self.rng.randrange(self.port.ids)
 
     def other(self, channel: str, place: int):
         """Another word at a place of a beat."""
@@ -94,7 +97,7 @@ def observed(rng: random.Random, port: AxiPort, count: int) -> tuple[str, str, C
         most = max(most, beats.opened())
         if name:
             said.append(f"= wrong {number} axi {AXI_RULES.index(name) + 1} {name}")
-    said.append(f"= judged {count} wrong {len(said)} outstanding 0 open {beats.opened()}")
+    said.append(f"= judged {count} wrong {len(said)} outstanding 0 open {beats.opened()} compared 0 of 0")
     return "\n".join(lines) + "\n", "\n".join(said) + "\n", counts, most
 
 

@@ -16,6 +16,7 @@ import sys
 from collections import Counter
 from dataclasses import dataclass
 
+from compared import compared
 from ends import started, told
 from model import ARITHMETIC, GET, INTENT, LOGICAL, PUT_FULL, PUT_PARTIAL, Memory, Setup
 
@@ -225,6 +226,9 @@ def fault_of(program, history, counts):
     counts.update(blamed=len(verdicts))
     if ran.status != 1 or ran.line:
         return f"status {ran.status}, not 1, and {ran.line!r} on standard error"
+    text = ran.text.decode()
+    if not text.endswith(f" {compared(history.lines, text)}\n"):
+        return f"{text.splitlines()[-1]}, not {compared(history.lines, text)}"
     for line, verdict in verdicts.items():
         due, said = history.told.get(line, (None, ()))
         if verdict != f"reply 7 PAYLOAD expected {due}":

@@ -1,10 +1,11 @@
 """The bridges in RTL under a simulator: the first one, in front of each memory, isn't found wrong, and each fault that is planted in
 it is told, by both profiles; the other one, whose Puts are seen as their beats come, isn't found wrong by what TileLink asks where
 no access fails. Then 20 runs of both as they are, as run.py --right makes them, in front of the memory too whose good pages fail by
-lot: none is found wrong, and those of the second one do what they are to show. By errors strict what fails so is found wrong. Where
-there is no simulator nothing is tried, and that is said.
+lot: none is found wrong, and those of the second one do what they are to show. By errors strict what fails so is found wrong. All of
+it once where the memory begins with zeros, and once where it begins with bytes that nobody told tlscore; these are found wrong where
+the set-up has zeros. Where there is no simulator nothing is tried, and that is said.
 
-    python3 tests/rtl_runs.py TLSCORE
+    python3 tests/rtl_runs.py TLSCORE [--right N]
 """
 
 import argparse
@@ -22,16 +23,26 @@ sys.path.append(str(Path(__file__).resolve().parent.parent / "examples/testbench
 import run
 
 
-RIGHT_RUNS = 20
-BLAMED = run.Bench("streaming_bridge", run.Asked("tilelink"), run.FAILING, is_calm=True)  # nothing but that memory fails there
 SOURCES, IDS, AT_ONCE = 2 * 16, 8, 4  # of both clients; of both sides; at the least
 
 
-def planted():
-    """A run of each testbench by the profiles that are its own."""
-    strict = run.Asked("bridge"), run.Asked("tilelink")
+def blamed(pages):
+    """What is found wrong of a bridge that is right: by errors strict that good pages fail, or bytes that the set-up has as zeros."""
+    yield run.Bench("streaming_bridge", run.Asked("tilelink", pages=pages), run.FAILING, is_calm=True)
+    if pages == "good":
+        yield from (run.Bench("bridge", run.Asked(profile), began="NOISE") for profile in run.PROFILES)
+
+
+def planted(pages):
+    """The testbenches by the profiles that are their own."""
+    strict = run.Asked("bridge", pages=pages), run.Asked("tilelink", pages=pages)
     benches = [bench for asked in strict for bench in run.benches("bridge", asked)]
-    return [(bench, [1]) for bench in benches + run.benches("streaming_bridge", run.Asked("tilelink"), is_calm=True) + [BLAMED]]
+    return benches + run.benches("streaming_bridge", run.Asked("tilelink", pages=pages), is_calm=True)
+
+
+def plan_of(pages, right):
+    """A run of each testbench, and so many runs of the right ones."""
+    return [(bench, [1]) for bench in (*planted(pages), *blamed(pages))] + run.right_plan(range(1, right + 1), pages)
 
 
 def idle(traffic):
@@ -47,23 +58,34 @@ def idle(traffic):
     return [name for name, is_there in counts.items() if not is_there]
 
 
-def cases(score):
+def cases(asked):
     """Each testbench, and what the right ones did."""
     simulator = next(filter(shutil.which, run.SIMULATORS), None)
     if not simulator:
         print(f"skipped: the bridges in RTL, as neither {' nor '.join(run.SIMULATORS)} is installed")
         return
-    given = argparse.Namespace(simulator=simulator, score=Path(score).resolve(), jobs=os.cpu_count() or 1)
-    plan, seen = planted() + run.right_plan(range(1, RIGHT_RUNS + 1)), []
-    with tempfile.TemporaryDirectory() as folder:
-        for variant in run.tried(plan, given, Path(folder)):
-            bench, asked = variant.bench, variant.bench.asked
-            name = f"{bench.device} in RTL, by profile {asked.profile} and errors {asked.errors}"
-            yield name, None if variant.is_well() != (bench == BLAMED) else str(variant)
-            seen += [variant.traffic] if bench.bridge == "streaming_bridge" and not bench.is_calm else []
-    lacking = idle(functools.reduce(operator.or_, seen, run.traffic.Traffic()))
-    yield "what the streaming bridge's runs show", f"none had {', '.join(lacking)}" if lacking else None
+    given = argparse.Namespace(simulator=simulator, score=Path(asked.tlscore).resolve(), jobs=os.cpu_count() or 1)
+    for pages in run.PAGES:
+        seen, wrong = [], [*blamed(pages)]
+        with tempfile.TemporaryDirectory() as folder:
+            for variant in run.tried(plan_of(pages, asked.right), given, Path(folder)):
+                yield name_of(variant.bench), None if variant.is_well() != (variant.bench in wrong) else str(variant)
+                seen += [variant.traffic] if variant.bench.bridge == "streaming_bridge" and not variant.bench.is_calm else []
+        lacking = idle(functools.reduce(operator.or_, seen, run.traffic.Traffic()))
+        yield f"what the streaming bridge's runs show, {pages}", f"none had {', '.join(lacking)}" if lacking else None
+
+
+def name_of(bench):
+    asked = bench.asked
+    return f"{bench.device} in RTL, by profile {asked.profile} and errors {asked.errors}, {asked.pages} pages"
+
+
+def main():
+    asked = argparse.ArgumentParser(description=__doc__)
+    asked.add_argument("tlscore")
+    asked.add_argument("--right", type=int, default=20, help="how many runs of the right bridges, by each kind of pages (20)")
+    return told(cases(asked.parse_args()))
 
 
 if __name__ == "__main__":
-    sys.exit(told(cases(*sys.argv[1:])))
+    sys.exit(main())

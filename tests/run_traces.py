@@ -14,6 +14,7 @@ import sys
 from collections import Counter
 from dataclasses import dataclass, field, replace
 
+from compared import compared
 from ends import told
 from model import GET
 
@@ -36,7 +37,7 @@ WANTED = {
     "= noclient behind = more": 100,
     "= noclient behind = accepted": 100,
 }
-ENDED = re.compile(r"= judged (\d+) wrong 0 outstanding \d+ open \d+\n")
+ENDED = re.compile(r"= judged (\d+) wrong 0 outstanding \d+ open \d+ (compared \d+ of \d+)\n")
 
 
 @dataclass
@@ -174,13 +175,17 @@ def taken_in(trace):
 
 
 def wrong(program, lines, beats):
-    """Tells in one line how the scoreboard finds something wrong, or judges another number of beats, or nothing."""
+    """Tells in one line how the scoreboard finds something wrong, judges another number of beats, or compares another number of bytes,
+    or nothing."""
     ran = subprocess.run([program], input="\n".join(lines).encode(), capture_output=True, timeout=SECONDS, check=False)
     text = ran.stdout.decode()
     ended = ENDED.fullmatch(text)
     if ran.returncode or ran.stderr or not ended:
         return f"status {ran.returncode}, {ran.stderr.decode()!r}, {text[:200]!r}"
-    return None if int(ended[1]) == beats else f"{ended[1]} beats are judged, and {beats} were taken"
+    if int(ended[1]) != beats:
+        return f"{ended[1]} beats are judged, and {beats} were taken"
+    wanted = compared(lines, text)
+    return None if ended[2] == wanted else f"{ended[2]}, not {wanted}"
 
 
 def cases(given):

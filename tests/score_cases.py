@@ -9,6 +9,8 @@ import re
 import sys
 from pathlib import Path
 
+import beginnings
+import compared
 import error_histories
 import script_cases
 from ends import started, told
@@ -666,7 +668,7 @@ def case_of(history: str) -> tuple[bytes, int, bytes, bytes]:
         elif said.startswith("set-up fault"):
             fault = said
         elif said.startswith("outstanding"):
-            text.append(f"= judged {beats} wrong {wrongs} {said}")
+            text.append(f"= judged {beats} wrong {wrongs} {said} {compared.compared(given, whole(text).decode())}")
         elif said.startswith("="):
             text.append(said)
         elif said:
@@ -685,7 +687,9 @@ def stored_by_tilelink(row: str) -> tuple[bytes, int, bytes, bytes]:
     text, line, status = ((TOP / f"examples/scoreboard/{row}.{kind}").read_bytes() for kind in ("out", "err", "status"))
     first, _, rest = (TOP / f"examples/scoreboard/{row}.in").read_bytes().partition(b"\n")
     later = re.sub(rb"(?m)^= wrong (\d+)", lambda found: b"= wrong %d" % (int(found[1]) + 1), text)
-    return first + b"\nprofile tilelink\n" + rest, int(status), later, line
+    given = first + b"\nprofile tilelink\n" + rest
+    counts = compared.compared(given.decode().splitlines(), later.decode())
+    return given, int(status), re.sub(rb"compared .*", counts.encode(), later), line
 
 
 def all_cases():
@@ -695,7 +699,7 @@ def all_cases():
             yield f"{name}, by profile {profile}", *case_of(f"{SETUP}\nbad 10018\nprofile {profile}\n{history.strip()}")
     for row in STORED:
         yield f"{row}, by profile tilelink", *stored_by_tilelink(row)
-    for name, history in (INPUTS | error_histories.histories()).items():
+    for name, history in (INPUTS | beginnings.HISTORIES | error_histories.histories()).items():
         yield name, *case_of(history)
 
 

@@ -1,9 +1,9 @@
 """Refuses each growth of memory of tlscore in turn, alone and with all after it.
 
-Words that can't be had come first (status 6), then want of memory before any text (status 4). A page takes room with the first
-request that gives it bytes, and with no other: by `profile bridge` at its last beat, by `profile tilelink` at its first. Where
+Words that can't be had come first (status 6), then want of memory before any text (status 4). A page takes room where a line
+says what it began with, or with the first request that gives it bytes, and with no other: by `profile bridge` at its last beat, by `profile tilelink` at its first. Where
 memory is refused there, the program ends with status 4 behind the text of the lines before. Where one growth alone is refused a
-vector may ask once more, for just what it needs: then nothing is wanting.
+vector may ask once more, for just what it needs, and so grow sooner again: then nothing is wanting.
 
     python3 tests/score_memory.py TLSCORE
 """
@@ -29,6 +29,9 @@ class Line(NamedTuple):
 
 # A beat on channel A is judged at the line behind it.
 LINES = (
+    # What a page began with.
+    Line("fill 11ffe 5 6", "", PROFILES),
+    Line("mem 11fff", "= mem 06"),
     Line("mem 10008", "= mem 00"),
     # A Get gives no byte.
     Line("A 0 4 0 3 1 1000 ff 0 0"),
@@ -51,7 +54,18 @@ LINES = (
     Line("mem 10018", "= mem 01"),
     Line("A 0 2 4 3 7 3000 ff 1 0"),
 )
-LAST = Line("", "= judged 8 wrong 0 outstanding 7 open 0", PROFILES)
+LAST = Line("", "= judged 8 wrong 0 outstanding 7 open 0 compared 0 of 0", PROFILES)
+
+
+class Script(NamedTuple):
+    """The set-up but for the profile, the lines behind it, and the last line that is printed."""
+
+    setup: tuple[str, ...]
+    lines: tuple[Line, ...]
+    last: Line
+
+    def given(self, profile: str) -> bytes:
+        return "".join(f"{line}\n" for line in (*self.setup, f"profile {profile}", *(line.given for line in self.lines))).encode()
 
 
 def text_of(lines) -> bytes:
@@ -59,47 +73,50 @@ def text_of(lines) -> bytes:
     return "".join(f"{line.text}\n" for line in lines if line.text).encode()
 
 
-def fronts(profile):
+def fronts(script, profile):
     """What may have been written where memory is refused, in this order: nothing, and what stands before a page takes room."""
-    lines = (*LINES, LAST)
-    yield b""
-    for place, line in enumerate(lines):
+    text = b""
+    yield text
+    for line in (*script.lines, script.last):
         if profile in line.takes_room:
-            yield text_of(lines[:place])
+            yield text
+        text += text_of((line,))
 
 
 def wrong_end(ran, ends):
     """Tells how a run in which memory was refused doesn't end as one of these, the first of which are done with."""
-    while ends and not (ran.status, ran.text) == ends[0]:
-        ends.pop(0)
-    if not ends:
-        return f"status {ran.status} behind {ran.text!r}"
+    place = next((place for place, end in enumerate(ends) if end == (ran.status, ran.text)), None)
+    if place is None:
+        return f"status {ran.status} behind {len(ran.text)} bytes of text that end in {ran.text[-80:]!r}"
+    del ends[:place]
     return ran.wrong(ran.status, ran.text, USAGE if ran.status == 6 else MEMORY)
 
 
-def growths(shim, profile):
-    """Each growth refused, the end that each gives, and that all ends were seen."""
-    given = "".join(f"{line}\n" for line in (*SETUP, f"profile {profile}", *(line.given for line in LINES))).encode()
-    text = text_of((*LINES, LAST))
+def growths(shim, script, profile, chosen=None):
+    """Growths refused, each or, of how many there are, those chosen, the end that each gives, and that all ends were seen."""
+    given, text = script.given(profile), text_of((*script.lines, script.last))
     free = shim.run([], given)
     yield "no growth refused", free.wrong(0, text, b"")
     asked, seen = free.counts["growth"], set()
-    ends = [(6, b""), *((4, front) for front in fronts(profile))]
+    ends = [(6, b""), *((4, front) for front in fronts(script, profile))]
     wanted = set(ends)
-    for at, alone, ran, name in shim.refused([], given, "growth", asked + 1):
-        if at > asked or alone and ran.status == 0 and ran.counts["growth"] == asked + 1:
+    calls = chosen(asked) if chosen else asked + 1
+    for at, alone, ran, name in shim.refused([], given, "growth", calls):
+        if at > asked or alone and ran.status == 0 and ran.counts["growth"] > asked:
             yield name, ran.wrong(0, text, b"")
             continue
         seen.add((ran.status, ran.text))
         yield name, wrong_end(ran, ends)
-    yield "each end was seen", None if seen == wanted else f"{seen ^ wanted}"
-    print(f"profile {profile}: {asked} growths refused")
+    if not chosen:
+        yield "each end was seen", None if seen == wanted else f"{len(seen ^ wanted)} of {len(wanted)} weren't, or others were"
+    print(f"profile {profile}: {asked if not chosen else len(calls)} of {asked} growths refused")
 
 
 def cases(program):
     shim = Shim(program)
     for profile in PROFILES:
-        yield from ((f"profile {profile}: {name}", why) for name, why in growths(shim, profile))
+        script = Script(SETUP, LINES, LAST)
+        yield from ((f"profile {profile}: {name}", why) for name, why in growths(shim, script, profile))
 
 
 if __name__ == "__main__":

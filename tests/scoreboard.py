@@ -14,6 +14,7 @@ import sys
 import time
 from pathlib import Path
 
+from compared import Counts
 from model import GET, LOGICAL, PUT_PARTIAL, Setup
 from observed import WITHDRAWN, Observation
 
@@ -93,11 +94,12 @@ def judged(lines):
             take(number, words)
     if held:
         take(*held)
-    return wrong, (board.taken, len(wrong), board.outstanding(), board.open())
+    counts = Counts(lines, "\n".join(f"= wrong {number} {kind} 0" for number, kind in wrong))
+    return wrong, (board.taken, len(wrong), board.outstanding(), board.open(), counts.compared, counts.told)
 
 
 WRONG = re.compile(r"= wrong (\d+) (request|reply|axi|client) ")
-ENDED = re.compile(r"= judged (\d+) wrong (\d+) outstanding (\d+) open (\d+)")
+ENDED = re.compile(r"= judged (\d+) wrong (\d+) outstanding (\d+) open (\d+) compared (\d+) of (\d+)")
 
 
 def answered(program, lines):

@@ -79,6 +79,7 @@ FAULTY = (
     ("work 0", 2),
     ("page 20 1 slverr x", 5),
     ("page 20 1 bad", 4),
+    ("page 20 1 any", 4),
     ("page 20 0 good", 3),
     ("page 20 65 good", 3),
     ("page 20 61 good x", 1),

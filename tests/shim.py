@@ -13,15 +13,16 @@ from ends import Ended
 
 HERE = Path(__file__).resolve().parent
 KINDS = ("growth", "read", "write", "thread")
-LAYOUT = struct.Struct("14q")
+LAYOUT = struct.Struct("15q")
 FOR_EVER = 1 << 62
 
 
 @dataclass(frozen=True)
 class Ran(Ended):
-    """How a run ended, and how many calls of each kind it made."""
+    """How a run ended, how many calls of each kind it made, and the most memory that it held, in KiB."""
 
     counts: dict
+    peak: int
 
 
 class Shim:
@@ -40,11 +41,12 @@ class Shim:
             raise SystemExit("a C compiler is needed, cc or gcc\n0 passed, 1 failed")
         subprocess.run([compiler, "-O1", "-shared", "-fPIC", "-o", self.library, str(HERE / "refuse.c"), "-ldl"], check=True)
 
-    def refused(self, words, given, kind, count, error=0, most=0, onward=True):
-        """Runs the program anew for each call of a kind up to a number, refused alone and, where that is asked for, with all after
-        it. Yields the call's number, whether it alone was refused, how the run ended, and a name."""
+    def refused(self, words, given, kind, calls, error=0, most=0, onward=True):
+        """Runs the program anew for each call of a kind, of so many or of those listed, refused alone and, where that is asked for,
+        with all after it. Yields the call's number, whether it alone was refused, how the run ended, and a name."""
         with_errno = f" with {errno.errorcode[error]}" if error else ""
-        for at in range(1, count + 1):
+        count = calls if isinstance(calls, int) else max(calls)
+        for at in range(1, count + 1) if isinstance(calls, int) else calls:
             for until in (at, FOR_EVER) if onward else (at,):
                 others = "" if until == at else ", and all after it,"
                 ran = self.run(words, given, kind, at, until, error, most)
@@ -57,11 +59,11 @@ class Shim:
         first, last = [0] * 4, [0] * 4
         if refuse:
             first[KINDS.index(refuse)], last[KINDS.index(refuse)] = at, until or at
-        Path(self.orders).write_bytes(LAYOUT.pack(0, 0, 0, 0, *first, *last, error, most))
+        Path(self.orders).write_bytes(LAYOUT.pack(0, 0, 0, 0, *first, *last, error, most, 0))
         environment = {"LD_PRELOAD": self.library, "REFUSE": self.orders}
         # From a file, since a pipe gives what is there at the time, and so any number of reads.
         Path(self.given).write_bytes(given)
         with open(self.given, "rb") as file:
             ran = subprocess.run([self.program, *words], stdin=file, capture_output=True, timeout=60, env=environment)
-        counts = LAYOUT.unpack(Path(self.orders).read_bytes())[:4]
-        return Ran(ran.returncode, ran.stdout, ran.stderr, dict(zip(KINDS, counts)))
+        orders = LAYOUT.unpack(Path(self.orders).read_bytes())
+        return Ran(ran.returncode, ran.stdout, ran.stderr, dict(zip(KINDS, orders)), orders[-1])

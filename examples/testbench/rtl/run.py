@@ -2,14 +2,16 @@
 what the monitor saw.
 
     python3 examples/testbench/rtl/run.py [--runs N] [--first SEED] [--jobs N] [--simulator NAME] [--score PROGRAM]
-                                          [--profile NAME] [--errors HOW] [--bridge NAME] [--habit NAME] [--calm]
+                                          [--profile NAME] [--errors HOW] [--pages KIND] [--bridge NAME] [--habit NAME] [--calm]
     python3 examples/testbench/rtl/run.py --right [--runs N] [--first SEED] [--jobs N] [--simulator NAME] [--score PROGRAM]
+                                          [--pages KIND]
 
 For each of them it prints how many runs were told wrong, and after how many beats the first wrong line came. It ends with status 0
 exactly where the right bridge is never blamed and each fault is told in some run, with 1 where not, with 2 for words that it doesn't
 know, with 3 where a simulator or tlscore can't do its work, and with 4 where there is no simulator. --bridge streaming_bridge has
 another one judged, which tells errors in its own way: it asks for --profile tilelink --errors any, or with --calm for the first alone.
-By --errors any, without --calm, the memory whose good pages fail by lot is among them.
+By --errors any, without --calm, the memory whose good pages fail by lot is among them. By --pages any each memory begins with bytes
+by lot, which nobody tells tlscore.
 
 --right has both bridges judged as they are, each by what it promises, N runs in all, and prints a table of them.
 """
@@ -36,13 +38,14 @@ SIMULATORS = ("iverilog", "verilator")
 BRIDGES = ("bridge", "streaming_bridge")
 PROFILES = ("bridge", "tilelink")
 ERRORS = ("strict", "any")
+PAGES = {"good": "ZEROS", "any": "NOISE"}  # by the kind of the pages what the memory begins with
 HABITS = ("EARLY", "QUIET")  # of the streaming bridge
 MEMORIES = ("ANY_ORDER", "IN_ORDER", "AS_BEATS_COME", "SLOW")
 FAILING = "FAILING"  # bursts to good pages fail by lot, which no set-up can say: for errors any alone
 RIGHT = "NONE"
 BUGS = ("LANE_SWAPPED", "STROBE_LOST", "OTHER_SOURCE", "REPLY_TWICE", "WLAST_EARLY", "PAGE_CROSSED", "REGION_UNASKED")
 WRONG = re.compile(r"^= wrong (\d+) (.*?)(?: expected .*)?$", re.MULTILINE)
-ENDED = re.compile(r"^= judged (\d+) wrong (\d+) outstanding (\d+) open (\d+)$", re.MULTILINE)
+ENDED = re.compile(r"^= judged (\d+) wrong (\d+) outstanding (\d+) open (\d+) compared \d+ of \d+$", re.MULTILINE)
 
 
 class Cannot(Exception):
@@ -50,14 +53,15 @@ class Cannot(Exception):
 
 
 class Asked(NamedTuple):
-    """What is asked of a bridge: the order of its requests, and how it may tell errors."""
+    """What is asked of a bridge, the order of its requests and how it may tell errors, and the kind of the pages behind it."""
 
     profile: str = PROFILES[0]
     errors: str = ERRORS[0]
+    pages: str = "good"
 
     @property
     def setup(self):
-        return f"{SETUP}profile {self.profile}\nerrors {self.errors}\n"
+        return f"{SETUP.replace('good', self.pages)}profile {self.profile}\nerrors {self.errors}\n"
 
     @property
     def memories(self):
@@ -73,6 +77,7 @@ class Bench(NamedTuple):
     bug: str = RIGHT
     habit: str = HABITS[0]
     is_calm: bool = False  # no access fails, and no beat is corrupt
+    began: str = ""  # what the memory begins with, where that isn't what the set-up says
 
     @property
     def name(self):
@@ -85,7 +90,8 @@ class Bench(NamedTuple):
     @property
     def defines(self):
         chosen = [f"-DBRIDGE={self.bridge}"] if self.bridge != BRIDGES[0] else []
-        return [*chosen, f"-DHABIT={self.habit}", f"-DMEMORY={self.memory}", f"-DBUG={self.bug}", f"-DCALM={int(self.is_calm)}"]
+        began = f"-DBEGAN={self.began or PAGES[self.asked.pages]}"
+        return [*chosen, f"-DHABIT={self.habit}", f"-DMEMORY={self.memory}", began, f"-DBUG={self.bug}", f"-DCALM={int(self.is_calm)}"]
 
 
 class Run(NamedTuple):
@@ -203,10 +209,10 @@ def benches(bridge, asked, is_calm=False, habit=HABITS[0]):
     return right + [Bench(bridge, asked, bug=bug) for bug in bugs]
 
 
-def right_plan(seeds):
+def right_plan(seeds, pages="good"):
     """Both bridges as they are, in front of each memory, by what each promises, but by errors any where good pages fail: each gets a
     seed in turn."""
-    strict, free = Asked(), Asked("tilelink", "any")
+    strict, free = Asked(pages=pages), Asked("tilelink", "any", pages)
     right = [Bench(BRIDGES[0], strict, memory) for memory in strict.memories] + [Bench(BRIDGES[0], free, FAILING)]
     right += [Bench(BRIDGES[1], free, memory, habit=habit) for habit in HABITS for memory in free.memories]
     return [(bench, seeds[at :: len(right)]) for at, bench in enumerate(right)]
@@ -216,8 +222,8 @@ def plan_of(given):
     """Each testbench that is asked for, with its seeds."""
     seeds = range(given.first, given.first + given.runs)
     if given.right:
-        return right_plan(seeds)
-    asked = Asked(given.profile, given.errors)
+        return right_plan(seeds, given.pages)
+    asked = Asked(given.profile, given.errors, given.pages)
     return [(bench, seeds) for bench in benches(given.bridge, asked, given.calm, given.habit)]
 
 
@@ -252,6 +258,7 @@ def words():
     asked.add_argument("--first", type=int, default=1, help="the seed of the first run, from 1; the others follow (1)")
     asked.add_argument("--profile", choices=PROFILES, help="what is asked of the bridge (bridge)")
     asked.add_argument("--errors", choices=ERRORS, help="how it may tell errors; any only by profile tilelink (strict)")
+    asked.add_argument("--pages", choices=PAGES, default="good", help="any: the memory begins with bytes that nobody knows (good)")
     asked.add_argument("--bridge", choices=BRIDGES, help="which bridge (the one that the faults are of)")
     asked.add_argument("--habit", choices=HABITS, help="how the streaming bridge tells errors (EARLY)")
     asked.add_argument("--calm", action="store_true", help="no access fails, and no beat is corrupt")

@@ -1,5 +1,0 @@
-use Rattle.std.proofs.Common.{rules}
-use Rattle.score_script.proofs.score.Score.take.Goals as goal
-
-pub returns-in-Withdrawal-clause-state : goal.returns-in-Withdrawal-clause-state
-returns-in-Withdrawal-clause-state c = search rules

@@ -1,0 +1,305 @@
+"""How many of the bytes that replies told were compared, by docs/SCOREBOARD.md ("What was compared"): of an input of tlscore, and of what it
+said of it. Which beats are wrong is taken from there; what each reply may show is followed here, as docs/RACES.md has it."""
+
+import re
+from dataclasses import dataclass, field
+
+from model import GET, INTENT, LETTERS, PUT_FULL, PUT_PARTIAL, Memory, Setup
+
+from client import ABeat, beats_of  # model.py says where it stands
+
+WRONG = re.compile(r"(?m)^= wrong (\d+) (\w+) (\d+)")
+WITHDRAWN = ("noclient", "refused", "notready", "exhausted")
+# What is wrong with an address that opens its burst all the same: its place alone, or the W data before it.
+OPENS = ("axi 15", "axi 7", "axi 8")
+
+
+@dataclass
+class Footprint:
+    """What a request does to the memory, and which of its bytes are determined."""
+
+    reads: bool = False
+    writes: bool = False
+    at: int = 0
+    size: int = 0
+    failed: bool = False
+    sure: set = field(default_factory=set)
+
+    @property
+    def span(self):
+        return range(self.at, self.at + 2**self.size)
+
+    def fail(self):
+        self.failed, self.sure = True, set()
+
+    def depends_on(self, other):
+        return self.reads and self.writes and other.writes and set(self.span) & set(other.span)
+
+
+@dataclass
+class Flight:
+    source: int
+    reply: list  # the beats that are left
+    footprint: Footprint
+
+
+@dataclass
+class Client:
+    front: list = field(default_factory=list)  # what came of the message that has begun
+    due: list = field(default_factory=list)
+    begun: Flight = None
+    coming: Footprint = field(default_factory=Footprint)
+    early: int = None  # the source of the reply that may come before its request is whole
+
+    def flights(self):
+        return self.due + [self.begun] * (self.begun is not None)
+
+
+class Kinds:
+    """What the pages of ranges are: good, or slverr."""
+
+    def __init__(self, ranges):
+        self.ranges = ranges
+
+    def get(self, page):
+        kind = next((kind for pages, kind in self.ranges if page in pages), None)
+        return "good" if kind == "any" else kind
+
+    def __contains__(self, page):
+        return self.get(page) is not None
+
+    def items(self):
+        return ()
+
+
+class GoodPages(dict):
+    """The bytes of good pages, which take room when they are looked at."""
+
+    def __init__(self, kinds):
+        super().__init__()
+        self.kinds = kinds
+
+    def __contains__(self, page):
+        return self.kinds.get(page) == "good"
+
+    def __missing__(self, page):
+        return self.setdefault(page, bytearray(4096))
+
+
+class Counts:
+    """Takes the lines of an input one after another, and counts the bytes that were told and compared."""
+
+    def __init__(self, lines, text):
+        self.wrong = {int(line): f"{kind} {rule}" for line, kind, rule in WRONG.findall(text)}
+        self.told = self.compared = 0
+        self.read_set_up(lines)
+        self.bursts = {"W": [], "R": []}
+        self.written = {}  # whether a byte is indeterminate that isn't as it was at the start
+        held = None
+        for number, line in enumerate(lines, 1):
+            words = line.split()
+            if not words or words[0].startswith("#"):
+                continue
+            if held and not (words[0] == "=" and words[1] in WITHDRAWN):
+                self.take_a(*held)
+            held = None
+            if words[0] == "A":
+                held = number, words
+            elif words[0] in ("D", "AW", "AR", "B", "R"):
+                {"D": self.take_d, "AW": self.open, "AR": self.open, "B": self.answered, "R": self.answered}[words[0]](number, words)
+            elif words[:2] == ["=", "drained"]:
+                self.bursts = {"W": [], "R": []}
+            elif words[0] == "fill":
+                self.fill(int(words[1], 16), words[2:])
+        if held:
+            self.take_a(*held)
+
+    def read_set_up(self, lines):
+        self.real_time = self.any = False
+        self.pages, regions, bad, limits = [], [], [], None
+        for words in (line.split() for line in lines):
+            if words[:1] == ["config"]:
+                limits = words[1:]
+            elif words[:1] == ["region"]:
+                regions.append((int(words[1], 16), int(words[2]), int(words[3], 16), words[4]))
+            elif words[:1] == ["page"]:
+                self.pages.append((range(int(words[1], 16), int(words[1], 16) + int(words[2])), words[3]))
+            elif words[:1] == ["bad"]:
+                bad.append(int(words[1], 16) & ~7)
+            elif words[:1] == ["profile"]:
+                self.real_time = words[1] == "tilelink"
+            elif words[:1] == ["errors"]:
+                self.any = words[1] == "any"
+        clients, quota, ids, depth, longest, largest = map(int, limits[:6])
+        kinds = Kinds(self.pages)
+        self.setup = Setup(clients, quota, ids, depth, longest, largest, 8, tuple(regions), kinds, tuple(bad))
+        self.memory = Memory(self.setup)
+        self.memory.pages = GoodPages(kinds)
+        self.clients = [Client() for _ in range(clients)]
+
+    # ---- bytes
+
+    def is_unsure(self, address):
+        return self.written.get(address, any(kind == "any" and address >> 12 in pages for pages, kind in self.pages))
+
+    def fill(self, address, words):
+        for at, word in enumerate(words, address):
+            self.memory.pages[at >> 12][at & 0xFFF] = int(word, 16)
+            self.written[at] = False
+
+    def place(self, beats):
+        """Where a request may act on a good page: corrupt, if errors are told in any way."""
+        first = beats[0]
+        for page, count, to, letters in self.setup.regions:
+            if page <= first.address >> 12 < page + count and LETTERS[first.opcode] in letters:
+                at = first.address + (to - page) * 4096
+                spoiled = any(it.corrupt for it in beats) and not self.any
+                return at if self.setup.pages.get(at >> 12) == "good" and not spoiled else None
+        return None
+
+    def alone(self, beats):
+        first, at = beats[0], self.place(beats)
+        puts = first.opcode in (PUT_FULL, PUT_PARTIAL)
+        footprint = Footprint(at is not None and not puts, at is not None and first.opcode not in (GET, INTENT), at or 0, first.size)
+        footprint.sure = {it for it in footprint.span if not (footprint.reads and self.is_unsure(it))}
+        return footprint
+
+    def footprints(self):
+        return [it.footprint for client in self.clients for it in client.flights()] + [client.coming for client in self.clients]
+
+    # ---- channel A
+
+    def take_a(self, number, words):
+        if number in self.wrong:
+            return
+        client = self.clients[int(words[1])]
+        client.front.append(ABeat(*(int(it, 16 if at in (6, 7, 8) else 10) for at, it in enumerate(words[2:], 2))))
+        beats, first = client.front, client.front[0]
+        if len(beats) < beats_of(first.size, first.opcode < GET):
+            if self.real_time:
+                self.go_on(client, beats)
+            return
+        client.front = []
+        self.accept(int(words[1]), client, beats)
+
+    def go_on(self, client, beats):
+        if len(beats) > 1:
+            if self.any and beats[-1].corrupt:
+                client.coming.fail()
+            return
+        footprint = self.joining(beats, beats[0].corrupt)
+        self.beside(footprint)
+        client.coming = footprint
+        client.early = beats[0].source if self.any else None
+
+    def accept(self, number, client, beats):
+        has_begun, replied = len(beats) > 1, False
+        reply = list(self.memory.carry_out(number, beats))
+        errors = any(it.denied or it.corrupt for it in reply)
+        if not self.real_time:
+            footprint = self.alone(beats)
+            self.give(footprint, beats)
+        elif has_begun:
+            footprint = self.alone(beats)
+            if self.any and (self.place(beats) is None or errors):
+                footprint.fail()
+            footprint.sure &= client.coming.sure
+            footprint.failed |= client.coming.failed
+            replied = self.any and client.early is None
+            self.give(footprint, beats)
+        else:
+            footprint = self.joining(beats, errors)
+            self.give(footprint, beats)
+            self.beside(footprint)
+        client.coming, client.early = Footprint(), None
+        if not replied:
+            client.due.append(Flight(beats[0].source, reply, footprint))
+
+    def joining(self, beats, errors):
+        footprint = self.alone(beats)
+        for other in self.footprints():
+            if other.writes:
+                footprint.sure -= set(other.span)
+        if self.any and (self.place(beats) is None or errors):
+            footprint.fail()
+        return footprint
+
+    def beside(self, footprint):
+        """Others lose what it may write; what those leave is indeterminate of which what they write may depend on it."""
+        for other in self.footprints():
+            if other.depends_on(footprint):
+                self.written.update(dict.fromkeys(other.span, True))
+            if footprint.writes:
+                other.sure -= set(footprint.span)
+
+    def give(self, footprint, beats):
+        if not footprint.writes:
+            return
+        is_fixed = not footprint.reads or set(footprint.span) <= footprint.sure
+        for at in footprint.span:
+            if beats[(at - footprint.at) // 8].mask >> at % 8 & 1:
+                self.written[at] = not (at in footprint.sure and is_fixed)
+
+    # ---- channel D
+
+    def take_d(self, number, words):
+        if int(words[1]) >= len(self.clients):
+            return
+        client, source = self.clients[int(words[1])], int(words[5])
+        flight = client.begun or next((it for it in client.due if it.source == source), None)
+        if flight is None:
+            if client.early == source:
+                client.early = None
+            return
+        self.count(flight)
+        if client.begun is None:
+            client.due.remove(flight)
+            client.begun = flight
+        if flight.source == source:
+            del flight.reply[0]
+        if not flight.reply:
+            client.begun = None
+
+    def count(self, flight):
+        """How much the next beat of a reply tells, and how much of that is compared."""
+        due, footprint = flight.reply[0], flight.footprint
+        if due.opcode != 1:
+            return
+        k = beats_of(footprint.size, True) - len(flight.reply)
+        told = [it for it in footprint.span if (it >> 3) - (footprint.at >> 3) == k]
+        self.told += len(told)
+        if not self.real_time:
+            self.compared += len([it for it in told if not (footprint.reads and it not in footprint.sure)])
+        elif not due.corrupt and not footprint.failed:
+            self.compared += len([it for it in told if it in footprint.sure])
+
+    # ---- the AXI4 port
+
+    def open(self, number, words):
+        if self.wrong.get(number, OPENS[0]) in OPENS:
+            id, address, length, size = int(words[1]), int(words[2], 16), int(words[3]), int(words[4])
+            last = address // 2**size * 2**size + (length + 1) * 2**size - 1
+            self.bursts[words[0][1]].append((id, range(address, last + 1)))
+
+    def answered(self, number, words):
+        if number in self.wrong:
+            return
+        bursts, resp = self.bursts["W" if words[0] == "B" else "R"], words[2 if words[0] == "B" else 3]
+        burst = next(it for it in bursts if it[0] == int(words[1]))
+        if words[0] == "B" or words[4] == "1":
+            bursts.remove(burst)
+        if self.any and resp in ("SLVERR", "DECERR"):
+            self.hit(burst[1])
+
+    def hit(self, span):
+        for footprint in self.footprints():
+            if (footprint.reads or footprint.writes) and footprint.at <= span[-1] and span[0] < footprint.span.stop:
+                if footprint.writes:
+                    self.written.update(dict.fromkeys(footprint.span, True))
+                footprint.fail()
+
+
+def compared(lines, text):
+    """The end of the last line."""
+    counts = Counts(lines, text)
+    return f"compared {counts.compared} of {counts.told}"
