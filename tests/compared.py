@@ -10,8 +10,6 @@ from client import ABeat, beats_of  # model.py says where it stands
 
 WRONG = re.compile(r"(?m)^= wrong (\d+) (\w+) (\d+)")
 WITHDRAWN = ("noclient", "refused", "notready", "exhausted")
-# What is wrong with an address that opens its burst all the same: its place alone, or the W data before it.
-OPENS = ("axi 15", "axi 7", "axi 8")
 
 
 @dataclass
@@ -131,6 +129,7 @@ class Counts:
             elif words[:1] == ["errors"]:
                 self.any = words[1] == "any"
         clients, quota, ids, depth, longest, largest = map(int, limits[:6])
+        self.width = int(limits[7]) if limits[7:] else 8
         kinds = Kinds(self.pages)
         self.setup = Setup(clients, quota, ids, depth, longest, largest, 8, tuple(regions), kinds, tuple(bad))
         self.memory = Memory(self.setup)
@@ -276,10 +275,15 @@ class Counts:
     # ---- the AXI4 port
 
     def open(self, number, words):
-        if self.wrong.get(number, OPENS[0]) in OPENS:
-            id, address, length, size = int(words[1]), int(words[2], 16), int(words[3]), int(words[4])
+        bursts, id, address, length, size = self.bursts[words[0][1]], int(words[1]), int(words[2], 16), int(words[3]), int(words[4])
+        if self.has_room(bursts, id, size):
             last = address // 2**size * 2**size + (length + 1) * 2**size - 1
-            self.bursts[words[0][1]].append((id, range(address, last + 1)))
+            bursts.append((id, range(address, last + 1)))
+
+    def has_room(self, bursts, id, size):
+        """Whether transfers fit the bus, and fewer than twice DEPTH bursts are open of an ID of the port's: then an address opens its burst,
+        whatever else is wrong with it."""
+        return 2**size <= self.width and id < self.setup.ids and [it[0] for it in bursts].count(id) < 2 * self.setup.depth
 
     def answered(self, number, words):
         if number in self.wrong:

@@ -76,7 +76,8 @@ class Side:
 
 
 class Observation:
-    """Beats are taken in the order observed. One that can't be right is left out, but that of a due reply counts as come."""
+    """Beats are taken in the order observed. One that can't be right is left out, but that of a due reply counts as come, and so does
+    write data; and an address opens its burst if its transfers fit the bus, and fewer than twice the depth are open of its ID."""
 
     def __init__(self, setup, levels):
         self.setup, self.memory = setup, Memory(setup)
@@ -142,11 +143,11 @@ class Observation:
 
     def address(self, side, id, address, len, size, burst):
         last = address // 2**size * 2**size + (len + 1) * 2**size - 1
-        legal = 2**size <= self.setup.width and burst == 1 and address // 4096 == last // 4096
-        if not legal or id >= self.setup.ids or sum(it.id == id for it in side.bursts) >= self.setup.depth:
+        opened = sum(it.id == id for it in side.bursts)
+        if 2**size > self.setup.width or id >= self.setup.ids or opened >= 2 * self.setup.depth:
             return False
         side.bursts.append(Burst(id, address, len, size))
-        return True
+        return burst == 1 and address // 4096 == last // 4096 and opened < self.setup.depth
 
     def aw(self, *beat):
         return self.address(self.writes, *beat)
@@ -159,10 +160,9 @@ class Observation:
         if burst is None:
             return False
         _, _, lanes = burst.transfer(self.setup.width)
-        if strobes & ~lanes or bool(last) != burst.is_last():
-            return False
+        is_right = not strobes & ~lanes and bool(last) == burst.is_last()
         burst.came += 1
-        return True
+        return is_right
 
     def b(self, id, resp):
         mine = self.writes.of_id(id)

@@ -3,7 +3,8 @@ it is told, by both profiles; the other one, whose Puts are seen as their beats 
 no access fails. Then 20 runs of both as they are, as run.py --right makes them, in front of the memory too whose good pages fail by
 lot: none is found wrong, and those of the second one do what they are to show. By errors strict what fails so is found wrong. All of
 it once where the memory begins with zeros, and once where it begins with bytes that nobody told tlscore; these are found wrong where
-the set-up has zeros. Where there is no simulator nothing is tried, and that is said.
+the set-up has zeros. Before them the stored runs, of which each shows a fault, are simulated anew and judged. Where there is no
+simulator these are judged alone, and that is said.
 
     python3 tests/rtl_runs.py TLSCORE [--right N]
 """
@@ -12,7 +13,6 @@ import argparse
 import functools
 import operator
 import os
-import shutil
 import sys
 import tempfile
 from pathlib import Path
@@ -21,6 +21,7 @@ from ends import told
 
 sys.path.append(str(Path(__file__).resolve().parent.parent / "examples/testbench/rtl"))
 import run
+import runs
 
 
 SOURCES, IDS, AT_ONCE = 2 * 16, 8, 4  # of both clients; of both sides; at the least
@@ -60,7 +61,8 @@ def idle(traffic):
 
 def cases(asked):
     """Each testbench, and what the right ones did."""
-    simulator = next(filter(shutil.which, run.SIMULATORS), None)
+    simulator = run.installed()
+    yield from ((f"the stored run {name}", why) for name, why in runs.compared(simulator, Path(asked.tlscore).resolve()))
     if not simulator:
         print(f"skipped: the bridges in RTL, as neither {' nor '.join(run.SIMULATORS)} is installed")
         return

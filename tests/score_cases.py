@@ -44,7 +44,7 @@ BY_EACH = {
     "strobes, last beats and data that break a rule, and bursts that stay open": """
         AW 0 10003 1 2 1
         W 0 10 0 -> axi 7 STROBE
-        W 0 08 0
+        B 0 OKAY -> axi 9 B_WITHOUT_WRITE
         W 0 f0 0 -> axi 8 WLAST
         R 0 0 OKAY 1 -> axi 10 R_WITHOUT_READ
         AR 0 10000 1 3 1
@@ -402,17 +402,15 @@ BY_TILELINK = {
         AW 0 10000 1 3 1
         B 0 OKAY -> axi 9 B_WITHOUT_WRITE
         W 2 ff 0 -> axi 8 WLAST
-        W 2 ff 1
         W 3 ff 1
         B 0 OKAY
         AW 0 10010 0 3 1
         AW 1 10010 0 3 1
         -> outstanding 0 open 2
         """,
-    "a last beat too soon is told at the address, and doesn't count": """
+    "a last beat too soon is told at the address, and counts": """
         W 1 ff 1
         AW 0 10000 1 3 1 -> axi 8 WLAST
-        W 1 ff 0
         W 2 ff 1
         B 0 OKAY
         -> outstanding 0 open 0
@@ -424,15 +422,31 @@ BY_TILELINK = {
         AW 0 10000 0 3 1 -> axi 8 WLAST
         B 0 OKAY
         AW 0 10008 0 3 1
+        AW 0 10010 0 3 1
+        B 0 OKAY
         B 0 OKAY
         -> outstanding 0 open 0
         """,
-    "a strobe outside its lanes, before a last beat too soon": """
-        W 0 10 0
-        W 0 08 1
-        W 0 08 0
+    "a strobe outside its lanes, in a last beat too soon, and a last beat that doesn't say so": """
+        W 0 10 1
+        W 0 f0 0
+        W 0 ff 1
         AW 0 10003 1 2 1 -> axi 7 STROBE
-        W 0 f0 1
+        B 0 OKAY
+        AW 0 10008 0 3 1
+        B 0 OKAY
+        -> outstanding 0 open 0
+        """,
+    "an address over the end of a page, and one too many of its ID, take their data": """
+        W 1 ff 0
+        AW 0 10ff8 1 3 1 -> axi 3 CROSS_4K
+        W 2 ff 1
+        AW 0 10000 0 3 1
+        W 3 ff 1
+        W 4 ff 1
+        AW 0 10008 0 3 1 -> axi 5 DEPTH
+        B 0 OKAY
+        B 0 OKAY
         B 0 OKAY
         -> outstanding 0 open 0
         """,
@@ -455,7 +469,6 @@ BY_TILELINK = {
     "data of the longest burst come first, and one beat more": f"""{LONGEST}
         W 0 ff 0 -> axi 6 W_WITHOUT_AW
         AW 0 10000 255 3 1 -> axi 8 WLAST
-        W 0 ff 1
         B 0 OKAY
         -> outstanding 0 open 0
         """,
@@ -545,7 +558,7 @@ INPUTS = {
         B 63 OKAY -> axi 9 B_WITHOUT_WRITE
         {lines("R 63 0 OKAY 1", 7)}
         AR 63 10000 0 3 1
-        -> outstanding 0 open 2
+        -> outstanding 0 open 4
         """
         for profile in ("bridge", "tilelink")
     },
@@ -554,14 +567,14 @@ INPUTS = {
         AR 255 10000 0 3 1 -> axi 5 DEPTH
         AR 254 10000 0 3 1
         AW 255 10000 0 3 1
-        -> outstanding 0 open 18
+        -> outstanding 0 open 19
         """,
     "16 IDs of depth 256": f"""config 1 1 16 256 16 12 h
         {lines("AW 15 10000 0 3 1", 256)}
         AW 15 10000 0 3 1 -> axi 5 DEPTH
         AW 16 10000 0 3 1 -> axi 4 ID_RANGE
         AW 14 10000 0 3 1
-        -> outstanding 0 open 257
+        -> outstanding 0 open 258
         """,
     **{
         f"{ids} IDs of depth {depth}": f"config 1 1 {ids} {depth} 16 12 h\nmem 0 -> set-up fault: BadConfig 0"

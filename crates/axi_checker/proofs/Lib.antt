@@ -4,6 +4,7 @@ pub mod BytePlaces
 pub mod CompleteWrites
 pub mod DataBeats
 pub mod Few
+pub mod Forcing
 pub mod Histories
 pub mod IdCounts
 pub mod IdLists

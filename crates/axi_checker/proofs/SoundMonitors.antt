@@ -13,7 +13,7 @@ use Rattle.axi_checker.proofs.Taking.{within-open_with_burst}
 use Rattle.axi_checker.proofs.WithinLimits.{room_for_read, room_for_write, within-open_after}
 
 -- a state with the same port is sound whose lists are within its limits, and whose room isn't less
-kept_sound : (old : MonitorState) (after : OpenBursts) (writes : List OpenWrite) (reads : List OpenRead) (old_writes old_reads new_writes new_reads : ℕ) → IsSoundMonitor old old_writes old_reads → IsWithinLimits old.port after
+pub kept_sound : (old : MonitorState) (after : OpenBursts) (writes : List OpenWrite) (reads : List OpenRead) (old_writes old_reads new_writes new_reads : ℕ) → IsSoundMonitor old old_writes old_reads → IsWithinLimits old.port after
     → writes ≡ after.writes → reads ≡ after.reads → old_writes ≤ new_writes → old_reads ≤ new_reads → IsSoundMonitor (monitor_state old.port writes reads) new_writes new_reads
 kept_sound old after writes reads old_writes old_reads new_writes new_reads sound within is_writes is_reads more_writes more_reads =
     record {

@@ -9,6 +9,7 @@ use Rattle.bus_words.proofs.PlaceChanges.{all-append, all-change_first, all-with
 use Rattle.axi_beats.specs.Transfers.{fits_bus, in_one_page}
 use Rattle.axi_beats.specs.declared.AwBeat.{AwBeat}
 use Rattle.axi_beats.specs.declared.ArBeat.{ArBeat}
+use Rattle.axi_beats.specs.declared.WBeat.{WBeat}
 use Rattle.axi_checker.specs.Monitors.{HasFewOfEach, IsSoundRead, IsSoundWrite, IsWithinLimits, id_of_read, id_of_write}
 use Rattle.axi_checker.specs.OpenBursts.{OpenBursts, OpenRead, OpenWrite, lacks_data, open_after, read_of_id, reads_after, write_of_id}
 use Rattle.axi_checker.specs.declared.AxiBeat.{AxiBeat}
@@ -87,18 +88,32 @@ sound-fill bus_bytes write lacks sound = record { fits = sound.fits; came = omeg
 sound-answer : (bus_bytes : ℕ) (read : OpenRead) → goes_on read ≡ true → IsSoundRead bus_bytes read → IsSoundRead bus_bytes (one_more read)
 sound-answer bus_bytes read goes sound = record { fits = sound.fits; came = omega (arith, ltb-true read.came read.ar.len goes) }
 
-pub within-open_after : (port : AxiPortLimits) (open_bursts : OpenBursts) (beat : AxiBeat) → axi_fault port open_bursts beat ≡ None → IsWithinLimits port open_bursts
-    → IsWithinLimits port (open_after open_bursts beat)
-within-open_after port open_bursts (OnAw aw) none within =
-    let allowed = aw_allowed port open_bursts aw none in
+-- with a burst more whose transfers fit the bus, of an ID of the port's that has fewer than it may
+pub within-write : (port : AxiPortLimits) (open_bursts : OpenBursts) (aw : AwBeat) → fits_bus port.bus_bytes aw.size ≡ true → aw.id < port.ids → of_id id_of_write aw.id open_bursts.writes < port.depth
+    → IsWithinLimits port open_bursts → IsWithinLimits port (open_after open_bursts (OnAw aw))
+within-write port open_bursts aw fits known few within =
     let write : OpenWrite = record { aw = aw; came = 0 } in
     record {
-      writes = few-append id_of_write port.ids port.depth open_bursts.writes write within.writes allowed.known allowed.few;
+      writes = few-append id_of_write port.ids port.depth open_bursts.writes write within.writes known few;
       reads = within.reads;
-      sound_writes = all-append (IsSoundWrite port.bus_bytes) open_bursts.writes write within.sound_writes (record { fits = allowed.fits; came = omega arith });
+      sound_writes = all-append (IsSoundWrite port.bus_bytes) open_bursts.writes write within.sound_writes (record { fits = fits; came = omega arith });
       sound_reads = within.sound_reads;
     }
-within-open_after port open_bursts (OnW w) none within =
+
+pub within-read : (port : AxiPortLimits) (open_bursts : OpenBursts) (ar : ArBeat) → fits_bus port.bus_bytes ar.size ≡ true → ar.id < port.ids → of_id id_of_read ar.id open_bursts.reads < port.depth
+    → IsWithinLimits port open_bursts → IsWithinLimits port (open_after open_bursts (OnAr ar))
+within-read port open_bursts ar fits known few within =
+    let read : OpenRead = record { ar = ar; came = 0 } in
+    record {
+      writes = within.writes;
+      reads = few-append id_of_read port.ids port.depth open_bursts.reads read within.reads known few;
+      sound_writes = within.sound_writes;
+      sound_reads = all-append (IsSoundRead port.bus_bytes) open_bursts.reads read within.sound_reads (record { fits = fits; came = omega arith });
+    }
+
+-- and with data more of the oldest write that lacks some
+pub within-data : (port : AxiPortLimits) (open_bursts : OpenBursts) (w : WBeat) → IsWithinLimits port open_bursts → IsWithinLimits port (open_after open_bursts (OnW w))
+within-data port open_bursts w within =
     record {
       writes = few-change_first id_of_write port.ids port.depth lacks_data (λ write. record write { came = write.came + 1 }) open_bursts.writes (λ write. refl) within.writes;
       reads = within.reads;
@@ -106,6 +121,13 @@ within-open_after port open_bursts (OnW w) none within =
           all-change_first (IsSoundWrite port.bus_bytes) lacks_data (λ write. record write { came = write.came + 1 }) open_bursts.writes (sound-fill port.bus_bytes) within.sound_writes;
       sound_reads = within.sound_reads;
     }
+
+pub within-open_after : (port : AxiPortLimits) (open_bursts : OpenBursts) (beat : AxiBeat) → axi_fault port open_bursts beat ≡ None → IsWithinLimits port open_bursts
+    → IsWithinLimits port (open_after open_bursts beat)
+within-open_after port open_bursts (OnAw aw) none within =
+    let allowed = aw_allowed port open_bursts aw none in
+    within-write port open_bursts aw allowed.fits allowed.known allowed.few within
+within-open_after port open_bursts (OnW w) none within = within-data port open_bursts w within
 within-open_after port open_bursts (OnB b) none within =
     record {
       writes = few-without_first id_of_write port.ids port.depth (write_of_id b.id) open_bursts.writes within.writes;
@@ -115,13 +137,7 @@ within-open_after port open_bursts (OnB b) none within =
     }
 within-open_after port open_bursts (OnAr ar) none within =
     let allowed = ar_allowed port open_bursts ar none in
-    let read : OpenRead = record { ar = ar; came = 0 } in
-    record {
-      writes = within.writes;
-      reads = few-append id_of_read port.ids port.depth open_bursts.reads read within.reads allowed.known allowed.few;
-      sound_writes = within.sound_writes;
-      sound_reads = all-append (IsSoundRead port.bus_bytes) open_bursts.reads read within.sound_reads (record { fits = allowed.fits; came = omega arith });
-    }
+    within-read port open_bursts ar allowed.fits allowed.known allowed.few within
 within-open_after port open_bursts (OnR r) none within =
     record {
       writes = within.writes;

@@ -61,12 +61,13 @@ pub record IsWithinLimits (port : AxiPortLimits) (open_bursts : OpenBursts) : Ty
   pub sound_writes : AllByRecursion (IsSoundWrite port.bus_bytes) open_bursts.writes
   pub sound_reads : AllByRecursion (IsSoundRead port.bus_bytes) open_bursts.reads
 
--- a monitor of a bus that there is, of at most 256 IDs and depth 256, 4,096 bursts in all on a side, within these limits, with room for as many bursts on each side as they allow
+-- a monitor of a bus that there is, of at most 256 IDs and depth 512, 8,192 bursts in all on a side, within these limits, with room for as many
+-- bursts on each side as they allow
 pub record IsSoundMonitor (state : MonitorState) (room_of_writes room_of_reads : ℕ) : Type 0 where
   pub bus : IsBusWidth state.port.bus_bytes
   pub most_ids : state.port.ids ≤ 256
-  pub most_depth : state.port.depth ≤ 256
-  pub most : state.port.ids * state.port.depth ≤ 4096
+  pub most_depth : state.port.depth ≤ 512
+  pub most : state.port.ids * state.port.depth ≤ 8192
   pub within : IsWithinLimits state.port state.open_bursts
   pub write_room : state.port.ids * state.port.depth ≤ room_of_writes
   pub read_room : state.port.ids * state.port.depth ≤ room_of_reads

@@ -3,7 +3,7 @@ ghost use Rattle.std.specs.Prelude.{◌≡◌, ◌<◌, ◌≤◌, [], ◌∷◌
 ghost use Rattle.std.specs.List.{remove};
 ghost use Rattle.axi_checker.specs.Monitors.{OpenSide};
 
-/// Entries in order, the oldest first, with room for so many, at most 4,096. All room is taken when they are made.
+/// Entries in order, the oldest first, with room for so many, at most 8,192. All room is taken when they are made.
 pub trait Entries<T>: Drop {
     /// The entries, and for how many there is room.
     ghost side: { Self → OpenSide T };
@@ -11,7 +11,7 @@ pub trait Entries<T>: Drop {
     /// How many there are.
     fn len(&self) -> usize
         ensures count { result ≡ length (side self.now).items }
-        ensures most { result ≤ 4096 };
+        ensures most { result ≤ 8192 };
 
     /// The one at a place.
     fn get(&self, place: usize) -> T

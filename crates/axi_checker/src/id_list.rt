@@ -5,7 +5,7 @@ ghost use Rattle.std.specs.List.{remove};
 use crate::ids::Ids;
 use std::marker::Model;
 
-/// The IDs of outstanding bursts, at most 4,096, the oldest first, and beside them how many there are of each.
+/// The IDs of outstanding bursts, at most 8,192, the oldest first, and beside them how many there are of each.
 #[derive(Drop)]
 pub(crate) struct IdList<I: Ids> {
     ids: I,
@@ -20,14 +20,14 @@ impl<I: Ids> Model for IdList<I> {
 
     ghost view = { λ l. I.side l.ids };
 
-    ghost invariant = { λ l. AreCounts l.counts (I.side l.ids).items × ((I.side l.ids).room ≤ 4096) };
+    ghost invariant = { λ l. AreCounts l.counts (I.side l.ids).items × ((I.side l.ids).room ≤ 8192) };
 }
 
 impl<I: Ids> IdList<I> {
-    /// Those of a row without an ID, with room for at most 4,096.
+    /// Those of a row without an ID, with room for at most 8,192.
     pub(crate) fn of(ids: I) -> Self
         requires none { (I.side ids).items ≡ [] }
-        requires few { (I.side ids).room ≤ 4096 }
+        requires few { (I.side ids).room ≤ 8192 }
         ensures { result ≡ I.side ids }
     {
         IdList {

@@ -5,7 +5,7 @@ use crate::entries::Entries;
 use std::alloc::{AllocError, Global};
 use std::marker::Model;
 
-/// Entries in order, the oldest first, at most 4,096; those behind one that leaves move up, all at once. All room is taken by
+/// Entries in order, the oldest first, at most 8,192; those behind one that leaves move up, all at once. All room is taken by
 /// `new`.
 #[derive(Drop)]
 pub struct LongQueue<T> {
@@ -22,13 +22,13 @@ impl<T> Model for LongQueue<T> {
 
     ghost view = { λ q. record { items = q.entries.items; room = q.room } };
 
-    ghost invariant = { λ q. (vec_len q.entries ≤ q.room) × (q.room ≤ vec_capacity q.entries) × (q.room ≤ 4096) };
+    ghost invariant = { λ q. (vec_len q.entries ≤ q.room) × (q.room ≤ vec_capacity q.entries) × (q.room ≤ 8192) };
 }
 
 impl<T: Copy> LongQueue<T> {
-    /// None, with room for so many, at most 4,096.
+    /// None, with room for so many, at most 8,192.
     pub(crate) fn new(alloc: Global, room: usize) -> Result<Self, AllocError>
-        requires { room ≤ 4096 }
+        requires { room ≤ 8192 }
         ensures { IfOk result (λ queue. (queue.items ≡ []) × (queue.room ≡ room)) }
     {
         let entries = Vec::with_capacity(alloc, room)?;

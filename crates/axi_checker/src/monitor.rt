@@ -1,8 +1,9 @@
 //! The monitor.
-ghost use Rattle.std.specs.Prelude.{◌≡◌, ℕ, ◌+◌, ◌*◌, ◌∷◌, ◌++◌, ◌<◌, ◌≤◌, None, Some, Ok, Err, IsErr, IsOk, IsSome, IfOk, IfSome, MatchOption, MatchResult, filter, length, option_map, position, sum_by};
+ghost use Rattle.std.specs.Prelude.{◌≡◌, ℕ, ◌+◌, ◌*◌, ◌∷◌, ◌++◌, ◌<◌, ◌≤◌, None, Some, Ok, Err, IsErr, IsOk, IsSome, IfOk, IfSome, MatchOption, MatchResult, filter, length, option_map, position, sum_by, slice_get};
 ghost use Rattle.axi_beats.specs.Bursts.{IsLegal};
 ghost use Rattle.axi_beats.specs.Responses.{is_exokay};
 ghost use Rattle.axi_beats.specs.Transfers.{IsBusWidth};
+ghost use Rattle.axi_checker.specs.Forced.{forced};
 ghost use Rattle.axi_checker.specs.OpenBursts.{lacks_data, nothing_open, oldest_read, oldest_write, open_after, open_count, read_of_id, write_of_id, write_to_fill};
 ghost use Rattle.axi_checker.specs.declared.AxiBeat.TheVariants.{Ar as OnAr, Aw as OnAw, B as OnB, R as OnR, W as OnW};
 ghost use Rattle.axi_checker.specs.Order.{lasts_from, read_given, reads_asked, reads_owe, writes_lack};
@@ -80,7 +81,7 @@ impl Monitor {
 
 impl LargeMonitor {
     /// A monitor of a port with `ids` IDs, 1 to 256, of which each may have `depth` bursts outstanding on each side, 1 to
-    /// 256, at most 4,096 in all on each side, and a bus of `bus_bytes` bytes, 4 or 8. Nothing is outstanding. It is slower
+    /// 512, at most 8,192 in all on each side, and a bus of `bus_bytes` bytes, 4 or 8. Nothing is outstanding. It is slower
     /// than one by `new` the more bursts are outstanding, and takes the room that `ids` and `depth` ask for.
     ///
     /// The one error is that memory was refused.
@@ -93,8 +94,8 @@ impl LargeMonitor {
         requires some_ids { 1 ≤ ids }
         requires most_ids { ids ≤ 256 }
         requires some_depth { 1 ≤ depth }
-        requires most_depth { depth ≤ 256 }
-        requires most { ids * depth ≤ 4096 }
+        requires most_depth { depth ≤ 512 }
+        requires most { ids * depth ≤ 8192 }
         requires bus { IsBusWidth bus_bytes }
         ensures { IfOk result (λ monitor. monitor
             ≡ record { port = record { bus_bytes = bus_bytes; ids = ids; depth = depth }; open_bursts = nothing_open }) }
@@ -206,6 +207,61 @@ impl<R: Rooms> Monitor<R> {
         Ok(())
     }
 
+    /// Goes on behind a beat that broke a rule, for an observer: an address opens its burst, if its transfers fit the bus, its ID
+    /// is one of the port's, and fewer bursts of it are outstanding than may be; and data of the oldest write that lacks some
+    /// count as come. Nothing else changes (this project's profile).
+    pub fn force(&mut self, beat: &AxiBeat)
+        ensures { self.new ≡ record self.old { open_bursts = forced self.old.port self.old.open_bursts beat.now } }
+    {
+        match beat {
+            AxiBeat::Aw(aw) => self.force_aw(aw),
+            AxiBeat::W(w) => self.force_w(w),
+            AxiBeat::Ar(ar) => self.force_ar(ar),
+            AxiBeat::B(_) | AxiBeat::R(_) => {}
+        }
+    }
+
+    fn force_aw(&mut self, beat: &AwBeat)
+        ensures { self.new ≡ record self.old { open_bursts = forced self.old.port self.old.open_bursts (OnAw beat.now) } }
+    {
+        let address = Address::of_write(*beat);
+        if self.limits.may_open(address, self.writes.of_id(beat.id)) {
+            self.writes.add(*beat);
+        }
+    }
+
+    fn force_ar(&mut self, beat: &ArBeat)
+        ensures { self.new ≡ record self.old { open_bursts = forced self.old.port self.old.open_bursts (OnAr beat.now) } }
+    {
+        let address = Address::of_read(*beat);
+        if self.limits.may_open(address, self.reads.of_id(beat.id)) {
+            self.reads.add(*beat);
+        }
+    }
+
+    fn force_w(&mut self, beat: &WBeat)
+        ensures { self.new ≡ record self.old { open_bursts = forced self.old.port self.old.open_bursts (OnW beat.now) } }
+    {
+        let _ = beat;
+        if let Some((place, _)) = self.writes.to_fill() {
+            self.writes.fill(place);
+        }
+    }
+
+    /// How many writes of an ID are outstanding.
+    pub fn writes_of(&self, id: u8) -> usize
+        ensures { result ≡ length (filter (write_of_id id) self.now.open_bursts.writes) }
+    {
+        self.writes.of_id(id)
+    }
+
+    /// How many reads of an ID are outstanding.
+    pub fn reads_of(&self, id: u8) -> usize
+        ensures { result ≡ length (filter (read_of_id id) self.now.open_bursts.reads) }
+    {
+        self.reads.of_id(id)
+    }
+
     /// Nothing is outstanding any more: bursts whose last beats nobody saw are over. Nothing else changes.
     pub fn clear(&mut self)
         ensures { self.new ≡ record self.old { open_bursts = nothing_open } }
@@ -255,7 +311,8 @@ impl<R: Rooms> Monitor<R> {
         }
     }
 
-    /// The address of the oldest outstanding write of an ID, to which the next response of the ID is (AXI4, A5, transaction ordering).
+    /// The address of the oldest outstanding write of an ID, to which the next response of the ID is (AXI4, A5, transaction
+    /// ordering).
     pub fn oldest_write(&self, id: u8) -> Option<AwBeat>
         ensures oldest { result ≡ option_map (λ write. write.aw) (oldest_write id self.now.open_bursts) }
         ensures size { IfSome result (λ aw. aw.size ≤ 3) }
@@ -270,6 +327,22 @@ impl<R: Rooms> Monitor<R> {
         ensures size { IfSome result (λ ar. ar.size ≤ 3) }
     {
         let (_, read) = self.reads.oldest(id)?;
+        Some(read.ar)
+    }
+
+    /// The address of an outstanding write by its place, the oldest first.
+    pub fn open_write(&self, place: usize) -> Option<AwBeat>
+        ensures { result ≡ option_map (λ write. write.aw) (slice_get self.now.open_bursts.writes place) }
+    {
+        let write = self.writes.at(place)?;
+        Some(write.aw)
+    }
+
+    /// The address of an outstanding read by its place, the oldest first.
+    pub fn open_read(&self, place: usize) -> Option<ArBeat>
+        ensures { result ≡ option_map (λ read. read.ar) (slice_get self.now.open_bursts.reads place) }
+    {
+        let read = self.reads.at(place)?;
         Some(read.ar)
     }
 

@@ -1,5 +1,5 @@
 //! The outstanding bursts of a port, the oldest first (AXI4, A5, transaction ordering).
-ghost use Rattle.std.specs.Prelude.{◌≡◌, ◌+◌, ◌<◌, ◌≤◌, [], ◌∷◌, ◌++◌, ◌-◌, ◌^◌, ◌==◌, Bool, IfSome, Some, filter, find, if◌then◌else◌, length, nat_lt, option_map, position, sum_by};
+ghost use Rattle.std.specs.Prelude.{◌≡◌, ◌+◌, ◌<◌, ◌≤◌, [], ◌∷◌, ◌++◌, ◌-◌, ◌^◌, ◌==◌, Bool, IfSome, Some, filter, find, if◌then◌else◌, length, nat_lt, option_map, position, sum_by, slice_get};
 ghost use Rattle.bus_words.specs.Places.{change_first, without_first};
 ghost use Rattle.axi_checker.specs.Monitors.{AreComplete};
 ghost use Rattle.axi_checker.specs.OpenBursts.{lacks_data, read_of_id, reads_after, write_of_id};
@@ -81,7 +81,7 @@ impl<E: Entries<OpenWrite>, I: Ids> Model for Writes<E, I> {
     ghost view = { λ w. E.side w.entries };
 
     ghost invariant = { λ w. (w.ids.items ≡ map id_of_write (E.side w.entries).items) × ((E.side w.entries).room ≤ w.ids.room)
-        × ((E.side w.entries).room ≤ 4096) × (AreComplete (E.side w.entries).items w.complete) };
+        × ((E.side w.entries).room ≤ 8192) × (AreComplete (E.side w.entries).items w.complete) };
 }
 
 /// The outstanding reads, the oldest first, and beside them their IDs, and how many R beats came of all.
@@ -102,7 +102,7 @@ impl<E: Entries<OpenRead>, I: Ids> Model for Reads<E, I> {
     ghost view = { λ r. E.side r.entries };
 
     ghost invariant = { λ r. (r.ids.items ≡ map id_of_read (E.side r.entries).items) × ((E.side r.entries).room ≤ r.ids.room)
-        × ((E.side r.entries).room ≤ 4096) × (HaveCame (E.side r.entries).items r.came) };
+        × ((E.side r.entries).room ≤ 8192) × (HaveCame (E.side r.entries).items r.came) };
 }
 
 /// What stands where no write was yet.
@@ -181,13 +181,23 @@ fn entry_at<T: Copy, E: Entries<T>>(entries: &E, place: Option<usize>) -> Option
     }
 }
 
+/// The entry at a place, if there is one.
+fn entry_of<T: Copy, E: Entries<T>>(entries: &E, place: usize) -> Option<T>
+    ensures { result ≡ slice_get (E.side entries.now).items place }
+{
+    if place >= entries.len() {
+        return None;
+    }
+    Some(entries.get(place))
+}
+
 impl<E: Entries<OpenWrite>, I: Ids> Writes<E, I> {
-    /// None, in these rooms, which are empty: those of the IDs are as many as those of the writes, and at most 4,096.
+    /// None, in these rooms, which are empty: those of the IDs are as many as those of the writes, and at most 8,192.
     pub(crate) fn of(entries: E, ids: I) -> Self
         requires none { (E.side entries).items ≡ [] }
         requires no_ids { (I.side ids).items ≡ [] }
         requires room { (E.side entries).room ≤ (I.side ids).room }
-        requires few { (I.side ids).room ≤ 4096 }
+        requires few { (I.side ids).room ≤ 8192 }
         ensures { result ≡ E.side entries }
     {
         let ids = IdList::of(ids);
@@ -198,10 +208,10 @@ impl<E: Entries<OpenWrite>, I: Ids> Writes<E, I> {
         }
     }
 
-    /// How many there are, at most 4,096.
+    /// How many there are, at most 8,192.
     pub(crate) fn count(&self) -> usize
         ensures count { result ≡ length self.now.items }
-        ensures most { result ≤ 4096 }
+        ensures most { result ≤ 8192 }
     {
         self.entries.len()
     }
@@ -211,6 +221,13 @@ impl<E: Entries<OpenWrite>, I: Ids> Writes<E, I> {
         ensures { result ≡ length (filter (write_of_id id) self.now.items) }
     {
         self.ids.count(id)
+    }
+
+    /// The one at a place, if there is one.
+    pub(crate) fn at(&self, place: usize) -> Option<OpenWrite>
+        ensures { result ≡ slice_get self.now.items place }
+    {
+        entry_of(&self.entries, place)
     }
 
     /// The oldest that lacks data, and its place.
@@ -300,12 +317,12 @@ impl<E: Entries<OpenWrite>, I: Ids> Writes<E, I> {
 }
 
 impl<E: Entries<OpenRead>, I: Ids> Reads<E, I> {
-    /// None, in these rooms, which are empty: those of the IDs are as many as those of the reads, and at most 4,096.
+    /// None, in these rooms, which are empty: those of the IDs are as many as those of the reads, and at most 8,192.
     pub(crate) fn of(entries: E, ids: I) -> Self
         requires none { (E.side entries).items ≡ [] }
         requires no_ids { (I.side ids).items ≡ [] }
         requires room { (E.side entries).room ≤ (I.side ids).room }
-        requires few { (I.side ids).room ≤ 4096 }
+        requires few { (I.side ids).room ≤ 8192 }
         ensures { result ≡ E.side entries }
     {
         let ids = IdList::of(ids);
@@ -316,12 +333,19 @@ impl<E: Entries<OpenRead>, I: Ids> Reads<E, I> {
         }
     }
 
-    /// How many there are, at most 4,096.
+    /// How many there are, at most 8,192.
     pub(crate) fn count(&self) -> usize
         ensures count { result ≡ length self.now.items }
-        ensures most { result ≤ 4096 }
+        ensures most { result ≤ 8192 }
     {
         self.entries.len()
+    }
+
+    /// The one at a place, if there is one.
+    pub(crate) fn at(&self, place: usize) -> Option<OpenRead>
+        ensures { result ≡ slice_get self.now.items place }
+    {
+        entry_of(&self.entries, place)
     }
 
     /// How many have this ID.

@@ -4,6 +4,7 @@ ghost use Rattle.axi_beats.specs.Boxes.{aw_of, w_beats_of};
 ghost use Rattle.axi_beats.specs.Bursts.{IsLegal, strobes_fit};
 ghost use Rattle.axi_beats.specs.Transfers.{fits_bus, IsBusWidth};
 ghost use Rattle.bus_words.specs.Tables.{first_broken};
+ghost use Rattle.axi_checker.specs.Forced.{may_open};
 ghost use Rattle.axi_checker.specs.Monitors.{first_data_fault};
 ghost use Rattle.axi_checker.specs.OpenBursts.{OpenBursts, lacks_data, write_to_fill};
 ghost use Rattle.axi_checker.specs.Rules.{address_of_read, address_of_write, address_rules, burst_fault, data_rules, len_of, outstanding_beside, id_of};
@@ -202,6 +203,17 @@ impl PortLimits {
             return Some(AxiRule::Depth);
         }
         None
+    }
+
+    /// Whether an address opens its burst whatever rule it breaks of those on burst types and pages, where so many bursts of its
+    /// ID are outstanding on its side.
+    pub(crate) fn may_open(self, address: Address, open_of_id: usize) -> bool
+        requires { IsBusWidth self.bus_bytes }
+        ensures { result ≡ may_open self address open_of_id }
+    {
+        fits_bus(self.bus_bytes, address.size)
+            && u16::from(address.id) < self.ids
+            && open_of_id < usize::from(self.depth)
     }
 
     /// The first rule that a W beat breaks as the next of a write.

@@ -106,9 +106,9 @@ impl Bridge {
         })
     }
 
-    /// Offers a client's beat. It is refused, tested in this order, where there is no such client, where it breaks a rule
-    /// on the client's port, where it would complete a request while the client has as many live requests as it may have,
-    /// and where it would complete a request after 2^48 were accepted. A refused beat changes nothing. Else the request that it completes is
+    /// Offers a client's beat. It is refused, tested in this order, where there is no such client, where it breaks a rule on the
+    /// client's port, where it would complete a request while the client has as many live requests as it may have, and where it
+    /// would complete a request after 2^48 were accepted. A refused beat changes nothing. Else the request that it completes is
     /// accepted, or more beats are to come.
     pub fn offer(&mut self, client: u8, beat: &ABeat) -> Offered
         ensures answer { result ≡ (offered self.old.state client beat.now).1 }

@@ -8,7 +8,7 @@ use Rattle.script_text.proofs.PageLists.{map_range-suc}
 use Rattle.score_script.specs.FillLines.{fill_byte_field, fill_byte_fields, fill_bytes_in}
 use Rattle.script_text.specs.Stages.{Kind, Writes, unless_refused, wrong_opened, wrong_word}
 use Rattle.setups.specs.declared.SetupFault.{SetupFault}
-use Rattle.score_script.specs.Scores.{FillsNot}
+use Rattle.score_script.specs.Scores.{FailsBy}
 use Rattle.script_text.specs.declared.faults.ScriptFault.{ScriptFault}
 
 -- the wrong word that is told is the one that there is
@@ -17,7 +17,7 @@ word_told given None = refl
 word_told given (Some word) = refl
 
 -- a command that isn't carried out, for its wrong word or for want of memory
-pub fails_so : {W : Type 0} (number : ℕ) (given : List ℕ × W) (new : W) (before : Option (List ℕ)) (word : Option ℕ) (fault : ScriptFault) → FillsNot number word fault → Keeps before before
+pub fails_so : {W : Type 0} (number : ℕ) (given : List ℕ × W) (new : W) (before : Option (List ℕ)) (word : Option ℕ) (fault : ScriptFault) → FailsBy number word fault → Keeps before before
     → Writes true number (unless_wrong given word) new before before (Err fault)
 fails_so number given new before None fault is kept = rw is (refl, kept)
 fails_so number given new before (Some word) fault is kept = (is, kept)

@@ -1,22 +1,16 @@
 -- Each finding has a line.
 use Rattle.std.proofs.Common.{◌≡◌, ◌≢◌, ℕ, [], ◌++◌, Option, Some, None, refl, rules}
-use Rattle.scoreboard.specs.declared.Wrong.{Wrong}
-use Rattle.scoreboard.specs.declared.Wrong.TheVariants.{NoClient, Request, Reply, Axi, Place}
-use Rattle.score_script.specs.FindingTexts.{finding_text, optional_text, wrong_text}
+use Rattle.score_script.specs.FindingTexts.{finding_text, line_end, optional_text, wrong_words}
 use Rattle.score_script.specs.declared.findings.Finding.{Finding}
 use Rattle.score_script.specs.declared.findings.Finding.TheVariants.{Beat, Byte}
-use Rattle.line_text.proofs.TraceTexts.{some_before}
+use Rattle.line_text.proofs.TraceTexts.{some_after, some_before}
 
-wrong_some : (number client : ℕ) (wrong : Wrong) → wrong_text number client wrong ≢ []
-wrong_some number client NoClient none = search rules
-wrong_some number client (Request rule) none = search rules
-wrong_some number client (Reply rule None) none = search rules
-wrong_some number client (Reply rule (Some due)) none = search rules
-wrong_some number client (Axi rule) none = search rules
-wrong_some number client Place none = search rules
+pub end_some : (time : Option ℕ) → line_end time ≢ []
+end_some None none = search rules
+end_some (Some time) none = search rules
 
 some : (finding : Finding) → finding_text finding ≢ []
-some (Beat number client wrong) none = wrong_some number client wrong none
+some (Beat line client wrong) none = some_after (wrong_words line.number client wrong) (line_end line.time) (end_some line.time) none
 some (Byte None) none = search rules
 some (Byte (Some byte)) none = search rules
 

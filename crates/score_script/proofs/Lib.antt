@@ -1,2 +1,4 @@
 mod FindingLines
 mod FillLaws
+mod UnansweredLines
+mod Carried

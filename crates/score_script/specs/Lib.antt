@@ -5,3 +5,4 @@ pub mod ObservedLines
 pub mod Profiles
 pub mod ScoreStates
 pub mod Scores
+pub mod UnansweredTexts

@@ -1,5 +1,5 @@
 -- The lines of observed beats, and of the answers between them (this project's profile).
-use Rattle.std.specs.Prelude.{ℕ, Bool, true, false, ◌&&◌, ◌||◌, List, [], ◌∷◌, Option, Some, None, Result, Ok, Err, find, option_map, if◌then◌else◌, codes}
+use Rattle.std.specs.Prelude.{ℕ, ◌-◌, ◌^◌, Bool, true, false, ◌&&◌, ◌||◌, List, [], ◌∷◌, Option, Some, None, Result, Ok, Err, find, option_map, if◌then◌else◌, codes}
 use Rattle.std.specs.Str.{bytes_eq}
 use Rattle.axi_beats.specs.declared.ArBeat.{ArBeat}
 use Rattle.axi_beats.specs.declared.AwBeat.{AwBeat}
@@ -12,7 +12,7 @@ use Rattle.axi_checker.specs.declared.AxiBeat.TheVariants.{Ar as OnAr, Aw as OnA
 use Rattle.line_text.specs.Fields.{Field, address_field, byte_field, flag_field, is_set, read_as}
 use Rattle.script_text.specs.Forms.{told_as}
 use Rattle.line_text.specs.OfferLines.{offer_line}
-use Rattle.line_text.specs.Words.{dec_at, hex_at, is_hex_to, word_at}
+use Rattle.line_text.specs.Words.{dec_at, hex_at, is_dec_to, is_hex_to, word_at}
 use Rattle.score_script.specs.FillLines.{fill_line}
 use Rattle.score_script.specs.declared.lines.Channel.{Channel}
 use Rattle.score_script.specs.declared.lines.Channel.TheVariants as channel
@@ -148,6 +148,10 @@ seen_line channel.R words = r_line words
 abbrev pub address_line : List (List ℕ) → Result ℕ ℕ
 address_line words = read_as (address_field ∷ []) words (hex_at words 2)
 
+-- time TIME
+abbrev pub time_line : List (List ℕ) → Result ℕ ℕ
+time_line words = read_as (is_dec_to (2 ^ 64 - 1) ∷ []) words (dec_at words 2)
+
 -- ---- answers
 
 -- whether an answer, by the word after `=`, says that the beat straight before it wasn't taken
@@ -158,12 +162,15 @@ is_withdrawal word =
 
 -- ---- commands
 
--- an answer, by the word after `=`: it withdraws the beat before it, says that AXI beats went unobserved, or is another
+-- an answer, by the word after `=`: it withdraws the beat before it, says that AXI beats went unobserved, or that the observation is over, or is another
 abbrev pub answer_command : List ℕ → Command
 answer_command word =
     if is_withdrawal word
     then command.Withdrawal
-    else (if bytes_eq word (codes "drained") then command.Observed seen.Drained else command.Answer)
+    else
+    (if bytes_eq word (codes "drained")
+    then command.Observed seen.Drained
+    else (if bytes_eq word (codes "end") then command.End else command.Answer))
 
 -- whether a line is an answer
 abbrev pub is_answer : List (List ℕ) → Bool
@@ -178,13 +185,16 @@ is_settling _ = false
 abbrev pub only_settles : List (List ℕ) → Bool
 only_settles words = is_answer words && is_settling (answer_command (word_at words 2))
 
--- what a line of a channel, or else a question or a filling, says, or the first wrong word
+-- what a line of a channel, or else a question, a filling or a time, says, or the first wrong word
 abbrev pub asked_command : List (List ℕ) → Option Channel → Result Command ℕ
 asked_command words (Some channel) = told_as (λ beat. command.Observed beat) (seen_line channel words)
 asked_command words None =
     if bytes_eq (word_at words 1) (codes "mem")
     then told_as (λ address. command.Byte address) (address_line words)
-    else (if bytes_eq (word_at words 1) (codes "fill") then fill_line words else Err 1)
+    else
+    (if bytes_eq (word_at words 1) (codes "fill")
+    then fill_line words
+    else (if bytes_eq (word_at words 1) (codes "time") then told_as (λ time. command.Time time) (time_line words) else Err 1))
 
 -- what a line says that isn't one of the set-up, or the first wrong word; there are no other commands
 abbrev pub command_of : List (List ℕ) → Result Command ℕ

@@ -1,11 +1,13 @@
 -- What each line of an observation does (this project's profile).
-use Rattle.std.specs.Prelude.{ℕ, ◌≡◌, ◌+◌, ◌^◌, ◌-◌, Bool, true, false, not, List, ◌++◌, min, Option, Some, None, Result, if◌then◌else◌, is_some, nat_lt}
+use Rattle.std.specs.Prelude.{ℕ, ◌≡◌, ◌+◌, ◌^◌, ◌-◌, Bool, true, false, not, List, [], ◌++◌, min, Option, Some, None, Result, if◌then◌else◌, is_some, nat_lt}
 use Rattle.std.specs.Option.{option_or}
 use Rattle.score_script.specs.FindingTexts.{last_text, optional_text}
+use Rattle.score_script.specs.UnansweredTexts.{unanswered_text}
 use Rattle.score_script.specs.ObservedLines.{command_of, only_settles}
 use Rattle.score_script.specs.Profiles.{PolicyBoard, after_seen, bursts_open, byte_in, can_fill_in, errors_of, filled_in, nothing_asked, opening_board, own_line, policy_of, replies_open, telling_in, wrong_in}
 use Rattle.score_script.specs.declared.findings.Finding.{Finding}
 use Rattle.score_script.specs.declared.findings.Finding.TheVariants as finding
+use Rattle.score_script.specs.declared.findings.Line.{Line}
 use Rattle.score_script.specs.declared.score.Command.{Command}
 use Rattle.score_script.specs.declared.score.Command.TheVariants as command
 use Rattle.score_script.specs.declared.profiles.Asked.{Asked}
@@ -24,12 +26,15 @@ use Rattle.score_setup.specs.ScoreSetups.{RangeLists, one_by_one, score_setup_fa
 use Rattle.script_text.specs.SetupRules.{score_rules}
 
 -- the board; the regions to which bursts have to go, where that is asked for; whether nothing was observed or asked yet; the beat that is
--- held, which is that of the last line, where that is an A line; how many beats were judged, and how many of them are wrong; and how many
--- bytes replies told, and how many of them were compared
+-- held, which is that of the last line, where that is an A line; the time of what is observed, if one was given; whether the observation
+-- was said to be over; how many beats were judged, and how much was found wrong; and how many bytes replies told, and how many of them were
+-- compared
 pub record Score : Type 0 where
   pub board : PolicyBoard
   pub places : Option (List Region)
   pub begins : Bool
+  pub time : Option ℕ
+  pub ended : Bool
   pub held : Option HeldBeat
   pub judged : ℕ
   pub wrong : ℕ
@@ -43,6 +48,8 @@ opening_score asked setup =
       board = opening_board (policy_of asked.policy) (errors_of asked.errors) setup;
       places = if asked.strict then Some setup.regions else None;
       begins = true;
+      time = None;
+      ended = false;
       held = None;
       judged = 0;
       wrong = 0;
@@ -74,10 +81,14 @@ client_of (D client beat) = client
 client_of (Axi beat) = 0
 client_of Drained = 0
 
--- a wrong beat, by the number of its line
-abbrev pub found : ℕ → ObservedBeat → Option Wrong → Option Finding
-found number seen None = None
-found number seen (Some wrong) = Some (finding.Beat number (client_of seen) wrong)
+-- the line of a number: it is of the time that was given last, if one was
+abbrev pub line_at : Score → ℕ → Line
+line_at score number = record { number = number; time = score.time }
+
+-- a wrong beat, by its line
+abbrev pub found : Line → ObservedBeat → Option Wrong → Option Finding
+found line seen None = None
+found line seen (Some wrong) = Some (finding.Beat line (client_of seen) wrong)
 
 -- the score after what was observed, which was judged so
 abbrev pub score_after : Score → ObservedBeat → Option Wrong → Score
@@ -100,13 +111,13 @@ abbrev pub verdict_on : Score → ObservedBeat → Option Wrong
 verdict_on score seen = option_or (wrong_in score.board seen) (misplaced_in score.places seen)
 
 -- what was observed is judged: what is found, and the score after it
-abbrev pub judging : Score → ℕ → ObservedBeat → Option Finding × Score
-judging score number seen = (found number seen (verdict_on score seen), score_after score seen (verdict_on score seen))
+abbrev pub judging : Score → Line → ObservedBeat → Option Finding × Score
+judging score line seen = (found line seen (verdict_on score seen), score_after score seen (verdict_on score seen))
 
 -- the held beat is judged, if there is one
 abbrev pub settling_held : Score → Option HeldBeat → Option Finding × Score
 settling_held score None = (None, score)
-settling_held score (Some line) = judging (record score { held = None }) line.number (A line.client line.beat)
+settling_held score (Some held) = judging (record score { held = None }) held.line (A held.client held.beat)
 
 -- what is found of the held beat, and the score after it
 abbrev pub settling : Score → Option Finding × Score
@@ -114,46 +125,82 @@ settling score = settling_held score score.held
 
 -- ---- commands
 
--- what a line finds: of the beat that was held, and of its own
+-- what a line finds: of the beat that was held, and of its own; and the lines of what has no answer, where it ends the observation
 pub record Finds : Type 0 where
   pub held : Option Finding
   pub own : Option Finding
+  pub unanswered : List ℕ
   pub after : Score
 
+-- the held beat was judged, and the line finds nothing else
+abbrev pub settled_alone : Option Finding × Score → Finds
+settled_alone settled = record { held = settled.0; own = None; unanswered = []; after = settled.1 }
+
+-- nothing is found
+abbrev pub finds_nothing : Score → Finds
+finds_nothing after = record { held = None; own = None; unanswered = []; after = after }
+
 -- a beat on channel A is held, all else is judged
-abbrev pub observing : Option Finding × Score → ℕ → ObservedBeat → Finds
-observing settled number (A client beat) =
-    record { held = settled.0; own = None; after = record settled.1 { held = Some (record { number = number; client = client; beat = beat }) } }
-observing settled number seen = record { held = settled.0; own = (judging settled.1 number seen).0; after = (judging settled.1 number seen).1 }
+abbrev pub observing : Option Finding × Score → Line → ObservedBeat → Finds
+observing settled line (A client beat) =
+    record (settled_alone settled) { after = record settled.1 { held = Some (record { line = line; client = client; beat = beat }) } }
+observing settled line seen = record (settled_alone settled) { own = (judging settled.1 line seen).0; after = (judging settled.1 line seen).1 }
+
+-- how much was found wrong where the observation is over: each reply that is due, and each open burst, too
+abbrev pub wrong_at_end : Score → ℕ
+wrong_at_end score = with_more (with_more score.wrong (replies_open score.board)) (bursts_open score.board)
+
+-- the lines of what has no answer, where a command of this line says that the observation is over
+abbrev pub unanswered_by : Score → ℕ → Command → List ℕ
+unanswered_by score number command.End = unanswered_text (line_at score number) score.board.board
+unanswered_by score number _ = []
+
+-- the score where it is over
+abbrev pub ended_score : Score → Score
+ended_score score = record score { ended = true; wrong = wrong_at_end score }
+
+-- the held beat was judged, and the observation is over
+abbrev pub over : Option Finding × Score → ℕ → Finds
+over settled number =
+    record (settled_alone settled) { unanswered = unanswered_text (line_at settled.1 number) settled.1.board.board; after = ended_score settled.1 }
 
 -- what a line of this number finds. The held beat is judged first, but where the line withdraws it; another answer finds nothing of its own
 abbrev pub finds : Score → ℕ → Command → Finds
-finds score number (command.Observed seen) = observing (settling score) number seen
+finds score number (command.Observed seen) = observing (settling score) (line_at score number) seen
 finds score number (command.Byte address) =
-    record { held = (settling score).0; own = Some (finding.Byte (byte_in (settling score).1.board address)); after = (settling score).1 }
-finds score number command.Withdrawal = record { held = None; own = None; after = record score { held = None } }
-finds score number command.Answer = record { held = (settling score).0; own = None; after = (settling score).1 }
-finds score number (command.Fill address bytes) = record { held = None; own = None; after = record score { board = filled_in score.board address bytes } }
+    record (settled_alone (settling score)) { own = Some (finding.Byte (byte_in (settling score).1.board address)) }
+finds score number command.Withdrawal = finds_nothing (record score { held = None })
+finds score number command.Answer = settled_alone (settling score)
+finds score number (command.Fill address bytes) = finds_nothing (record score { board = filled_in score.board address bytes })
+finds score number (command.Time time) = record (settled_alone (settling score)) { after = record (settling score).1 { time = Some time } }
+finds score number command.End = over (settling score) number
 
--- whether nothing was observed or asked yet, after a command
+-- whether nothing but fillings was said yet, after a command; answers play no part
 abbrev pub begins_after : Bool → Command → Bool
-begins_after begins (command.Observed seen) = false
-begins_after begins (command.Byte address) = false
-begins_after begins _ = begins
+begins_after begins command.Withdrawal = begins
+begins_after begins command.Answer = begins
+begins_after begins (command.Fill address bytes) = begins
+begins_after begins _ = false
 
 -- the wrong word of a filling: it stands before all that was observed or asked, and fills good pages
 abbrev pub wrong_fill : Score → ℕ → List ℕ → Option ℕ
 wrong_fill score address bytes = if not score.begins then Some 1 else (if can_fill_in score.board address bytes then None else Some 2)
 
--- the wrong word of a command, if it may not stand: all others may
+-- the wrong word of what may not stand where the observation is over
+abbrev pub wrong_behind : Score → Option ℕ
+wrong_behind score = if score.ended then Some 1 else None
+
+-- the wrong word of a command, if it may not stand: behind the end nothing is observed, and all others may stand
 abbrev pub wrong_command : Score → Command → Option ℕ
 wrong_command score (command.Fill address bytes) = wrong_fill score address bytes
+wrong_command score (command.Observed seen) = wrong_behind score
+wrong_command score command.End = wrong_behind score
 wrong_command score _ = None
 
--- why a filling wasn't done: its line has this wrong word, or else memory was refused
-abbrev pub FillsNot : ℕ → Option ℕ → ScriptFault → Type 0
-FillsNot number (Some word) fault = fault ≡ Script number word
-FillsNot number None fault = fault ≡ NoMemory
+-- why a command wasn't carried out: its line has this wrong word, or else memory was refused
+abbrev pub FailsBy : ℕ → Option ℕ → ScriptFault → Type 0
+FailsBy number (Some word) fault = fault ≡ Script number word
+FailsBy number None fault = fault ≡ NoMemory
 
 -- the score after a command
 abbrev pub commanded_score : Score → ℕ → Command → Score
@@ -161,7 +208,7 @@ commanded_score score number said = record (finds score number said).after { beg
 
 -- the lines of what a line finds
 abbrev pub finds_text : Finds → List ℕ
-finds_text given = optional_text given.held ++ optional_text given.own
+finds_text given = optional_text given.held ++ (optional_text given.own ++ given.unanswered)
 
 -- what a command writes, and the score after it, or its wrong word
 abbrev pub commanded : Score → ℕ → Command → Result (List ℕ × Score) ℕ

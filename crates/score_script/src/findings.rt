@@ -1,18 +1,27 @@
 //! The lines of what is wrong, and of what was found at the end.
 ghost use Rattle.std.specs.Prelude.{◌≡◌, None, ◌++◌, OnOk};
 ghost use Rattle.std.specs.Io.KnownBytes.{Appends};
-ghost use Rattle.score_script.specs.FindingTexts.{WritesText, compared_text, counts_text, expected_text, finding_text, optional_text, wrong_text};
+ghost use Rattle.score_script.specs.FindingTexts.{WritesText, compared_text, counts_text, expected_text, finding_text, line_end, optional_text, wrong_text, wrong_words};
 
 use line_text::{WriteFault, mem_line};
 use scoreboard::{ReplyRule, Wrong};
 use std::io::Write;
-use tl_messages::d_line;
+use tl_messages::d_words;
+
+/// A line of an observation.
+#[derive(Clone, Copy, Debug, PartialEq, Eq)]
+pub(crate) struct Line {
+    /// Its number.
+    pub(crate) number: u32,
+    /// The time that was given last before it, if one was, in whatever unit the observation has.
+    pub(crate) time: Option<u64>,
+}
 
 /// What a line finds.
 #[derive(Clone, Copy, Debug, PartialEq, Eq)]
 pub(crate) enum Finding {
-    /// A wrong beat: the number of its line, its client, and what is wrong with it.
-    Beat(u32, u8, Wrong),
+    /// A wrong beat: its line, its client, and what is wrong with it.
+    Beat(Line, u8, Wrong),
     /// The byte at an address; none outside good pages.
     Byte(Option<u8>),
 }
@@ -37,6 +46,16 @@ impl Findings {
     }
 }
 
+/// Writes the end of a line that tells of a beat: the time that was given before it, if one was.
+pub(crate) fn line_end<W: Write>(time: Option<u64>, writer: &mut W) -> Result<(), WriteFault>
+    ensures { OnOk result (Appends (W.contents writer.old) (W.contents writer.new) (line_end time)) }
+{
+    match time {
+        None => Ok(writeln!(writer)?),
+        Some(time) => Ok(writeln!(writer, " at {time}")?),
+    }
+}
+
 /// Writes the beginning of a wrong reply's line, behind which the beat that was due stands.
 fn expected<W: Write>(line: u32, rule: ReplyRule, writer: &mut W) -> Result<(), WriteFault>
     ensures { OnOk result (Appends (W.contents writer.old) (W.contents writer.new) (expected_text line rule)) }
@@ -46,46 +65,59 @@ fn expected<W: Write>(line: u32, rule: ReplyRule, writer: &mut W) -> Result<(), 
     Ok(write!(writer, "= wrong {line} reply {number} {name} expected ")?)
 }
 
-/// Writes the line of a wrong beat.
-fn wrong_line<W: Write>(
+/// Writes what is wrong with a beat, by the number of its line.
+fn wrong_words<W: Write>(
     line: u32,
     client: u8,
     wrong: &Wrong,
     writer: &mut W,
 ) -> Result<(), WriteFault>
-    ensures { OnOk result (Appends (W.contents writer.old) (W.contents writer.new) (wrong_text line client wrong.now)) }
+    ensures { OnOk result (Appends (W.contents writer.old) (W.contents writer.new) (wrong_words line client wrong.now)) }
 {
     match wrong {
         Wrong::NoClient => {
             let number = 1u8;
             let name = "NO_CLIENT";
-            Ok(writeln!(writer, "= wrong {line} client {number} {name}")?)
+            Ok(write!(writer, "= wrong {line} client {number} {name}")?)
         }
         Wrong::Request(rule) => {
             let number = rule.number();
             let name = rule.name();
-            Ok(writeln!(writer, "= wrong {line} request {number} {name}")?)
+            Ok(write!(writer, "= wrong {line} request {number} {name}")?)
         }
         Wrong::Reply(rule, None) => {
             let number = rule.number();
             let name = rule.name();
-            Ok(writeln!(writer, "= wrong {line} reply {number} {name}")?)
+            Ok(write!(writer, "= wrong {line} reply {number} {name}")?)
         }
         Wrong::Reply(rule, Some(due)) => {
             expected(line, *rule, writer)?;
-            Ok(d_line(client, due, writer)?)
+            Ok(d_words(client, due, writer)?)
         }
         Wrong::Axi(rule) => {
             let number = rule.number();
             let name = rule.name();
-            Ok(writeln!(writer, "= wrong {line} axi {number} {name}")?)
+            Ok(write!(writer, "= wrong {line} axi {number} {name}")?)
         }
         Wrong::Place => {
             let number = 15u8;
             let name = "PLACE";
-            Ok(writeln!(writer, "= wrong {line} axi {number} {name}")?)
+            Ok(write!(writer, "= wrong {line} axi {number} {name}")?)
         }
     }
+}
+
+/// Writes the line of a wrong beat.
+fn wrong_line<W: Write>(
+    line: &Line,
+    client: u8,
+    wrong: &Wrong,
+    writer: &mut W,
+) -> Result<(), WriteFault>
+    ensures { OnOk result (Appends (W.contents writer.old) (W.contents writer.new) (wrong_text line.now client wrong.now)) }
+{
+    wrong_words(line.number, client, wrong, writer)?;
+    line_end(line.time, writer)
 }
 
 /// Writes the line of a finding.
@@ -93,7 +125,7 @@ pub(crate) fn finding_line<W: Write>(finding: &Finding, writer: &mut W) -> Resul
     ensures { OnOk result (Appends (W.contents writer.old) (W.contents writer.new) (finding_text finding.now)) }
 {
     match finding {
-        Finding::Beat(line, client, wrong) => wrong_line(*line, *client, wrong, writer),
+        Finding::Beat(line, client, wrong) => wrong_line(line, *client, wrong, writer),
         Finding::Byte(byte) => mem_line(*byte, writer),
     }
 }

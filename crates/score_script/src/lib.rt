@@ -7,5 +7,6 @@ mod lines;
 mod profiles;
 mod score;
 mod script;
+mod unanswered;
 
 pub use script::score_text;

@@ -2,7 +2,7 @@
 ghost use Rattle.std.specs.Prelude.{◌≡◌, ◌<◌};
 ghost use Rattle.line_text.specs.Fields.{Reads};
 ghost use Rattle.line_text.specs.Words.{word_at};
-ghost use Rattle.score_script.specs.ObservedLines.{address_line, answer_command, ar_line, asked_command, aw_line, b_line, channel_of, command_of, d_line, is_answer, is_withdrawal, only_settles, r_line, resp_field, resp_in, seen_line, w_line};
+ghost use Rattle.score_script.specs.ObservedLines.{address_line, answer_command, ar_line, asked_command, aw_line, b_line, channel_of, command_of, d_line, is_answer, is_withdrawal, only_settles, r_line, resp_field, resp_in, seen_line, time_line, w_line};
 
 use crate::fills::fill_line;
 use crate::score::Command;
@@ -189,6 +189,15 @@ fn address_line(words: &Words<'_>) -> Result<u32, u32>
     Ok(address)
 }
 
+/// `time TIME`.
+fn time_line(words: &Words<'_>) -> Result<u64, u32>
+    ensures { result ≡ time_line words.now }
+{
+    let time = words.dec(2, u64::MAX)?;
+    words.end(2)?;
+    Ok(time)
+}
+
 /// Whether an answer, by the word after `=`, says that the beat straight before it wasn't taken.
 pub(crate) fn is_withdrawal(word: &[u8]) -> bool
     ensures { result ≡ is_withdrawal word.now }
@@ -209,6 +218,9 @@ fn answer_command(word: &[u8]) -> Command
     if word == b"drained".as_slice() {
         return Command::Observed(ObservedBeat::Drained);
     }
+    if word == b"end".as_slice() {
+        return Command::End;
+    }
     Command::Answer
 }
 
@@ -225,7 +237,7 @@ pub(crate) fn only_settles(words: &Words<'_>) -> bool
     is_answer(words) && matches!(answer_command(words.at(2)), Command::Answer)
 }
 
-/// What a line of a channel, or else a question or a filling, says, or its first wrong word.
+/// What a line of a channel, or else a question, a filling or a time, says, or its first wrong word.
 fn asked_command(words: &Words<'_>, channel: Option<Channel>) -> Result<Command, u32>
     ensures { result ≡ asked_command words.now channel }
 {
@@ -235,6 +247,7 @@ fn asked_command(words: &Words<'_>, channel: Option<Channel>) -> Result<Command,
     match words.at(1) {
         b"mem" => Ok(Command::Byte(address_line(words)?)),
         b"fill" => fill_line(words),
+        b"time" => Ok(Command::Time(time_line(words)?)),
         _ => Err(1),
     }
 }

@@ -1,18 +1,23 @@
 //! What was found of the beats that were read so far, and what each line finds.
 ghost use Rattle.std.specs.Prelude.{◌≡◌, ◌⊎◌, Err, IfErr, IfOk, IfSome, None, OnOk, Some, if◌then◌else◌, true};
 ghost use Rattle.std.specs.Option.{option_or};
-ghost use Rattle.script_text.specs.Stages.{WritesEnd};
+ghost use Rattle.script_text.specs.Stages.{Writes, WritesEnd};
 ghost use Rattle.score_setup.specs.ScoreSetups.{lists_of, ranges_of, score_setup_fault};
 ghost use Rattle.setups.specs.declared.SetupFault.TheVariants.{NoMemory};
 ghost use Rattle.score_script.specs.Profiles.{filled_in};
 ghost use Rattle.score_script.specs.declared.profiles.Asked.{Asked};
-ghost use Rattle.score_script.specs.Scores.{FillsNot, begins_after, commanded_score, wrong_command, wrong_fill, beats_judged, client_of, closing, counted, finds, judging, misplaced_in, observing, opening_score, settling, with_more};
+ghost use Rattle.score_script.specs.Scores.{FailsBy, begins_after, commanded, commanded_score, unanswered_by, wrong_command, wrong_fill, beats_judged, client_of, closing, counted, ended_score, finds, judging, line_at, misplaced_in, observing, opening_score, settling, with_more, wrong_behind};
 ghost use Rattle.score_script.specs.ScoreStates.{score_of};
+ghost use Rattle.score_script.specs.FindingTexts.{WritesText};
 
 use crate::fills::FillBytes;
-use crate::findings::{Finding, Findings, last_compared, last_counts, optional_line};
+use crate::findings::{
+    Finding, Findings, Line, findings_lines, last_compared, last_counts, optional_line,
+};
 use crate::profiles::Asked;
+use crate::unanswered::unanswered_lines;
 use burst_plan::Region;
+use line_text::WriteFault;
 use score_setup::ScoreSetup;
 use scoreboard::{AxiPlaces, Errors, FillFault, ObservedBeat, Policy, Scoreboard, Wrong, can_fill};
 use script_text::ScriptFault;
@@ -34,25 +39,32 @@ pub(crate) enum Command {
     Answer,
     /// The memory began with these bytes from an address on.
     Fill(u32, FillBytes),
+    /// What is observed from there on is of this time.
+    Time(u64),
+    /// The observation is over: all that was asked has its answer.
+    End,
 }
 
 /// A beat on channel A, which the next line may still withdraw.
 #[derive(Clone, Copy, Debug, PartialEq, Eq)]
 pub(crate) struct HeldBeat {
-    /// The number of its line.
-    pub(crate) number: u32,
+    /// Its line.
+    pub(crate) line: Line,
     /// Its client.
     pub(crate) client: u8,
     /// The beat.
     pub(crate) beat: ABeat,
 }
 
-/// The board, the places of bursts where they are judged, whether nothing was observed or asked yet, the beat that is held, how many beats were judged and are wrong, and how
-/// many bytes replies told, and were compared.
+/// The board, the places of bursts where they are judged, whether nothing but fillings was said yet, the time of what is observed,
+/// whether the observation is over, the beat that is held, how many beats were judged, how much was found wrong, and how many bytes
+/// replies told, and were compared.
 pub(crate) struct Score {
     board: Scoreboard,
     places: Option<AxiPlaces>,
     begins: bool,
+    time: Option<u64>,
+    ended: bool,
     held: Option<HeldBeat>,
     judged: u64,
     wrong: u64,
@@ -67,6 +79,8 @@ impl Drop for Score {
             board: _,
             places: _,
             begins: _,
+            time: _,
+            ended: _,
             held: _,
             judged: _,
             wrong: _,
@@ -87,10 +101,10 @@ fn client_of(seen: &ObservedBeat) -> u8
 }
 
 /// A count and so many more; it stays at `2^64 - 1`.
-fn with_more(count: u64, more: u8) -> u64
+fn with_more(count: u64, more: u64) -> u64
     ensures { result ≡ with_more count more }
 {
-    count.saturating_add(u64::from(more))
+    count.saturating_add(more)
 }
 
 /// A count and one more.
@@ -110,13 +124,13 @@ fn beats_judged(count: u64, seen: &ObservedBeat) -> u64
     }
 }
 
-/// Whether nothing was observed or asked yet, after a command.
+/// Whether nothing but fillings was said yet, after a command; answers play no part.
 fn begins_after(begins: bool, command: &Command) -> bool
     ensures { result ≡ begins_after begins command.now }
 {
     match command {
-        Command::Observed(_) | Command::Byte(_) => false,
-        _ => begins,
+        Command::Withdrawal | Command::Answer | Command::Fill(_, _) => begins,
+        _ => false,
     }
 }
 
@@ -165,6 +179,8 @@ impl Score {
                 board,
                 places,
                 begins: true,
+                time: None,
+                ended: false,
                 held: None,
                 judged: 0,
                 wrong: 0,
@@ -185,27 +201,36 @@ impl Score {
         }
     }
 
-    /// Judges what was observed, by the number of its line, and puts what it finds into its place. The one error is that memory
-    /// was refused.
+    /// The line of a number, with the time of what is observed.
+    fn line_at(&self, number: u32) -> Line
+        ensures { result ≡ line_at (score_of self.now) number }
+    {
+        Line {
+            number,
+            time: self.time,
+        }
+    }
+
+    /// Judges what was observed, by its line, and puts what it finds into its place. The one error is that memory was refused.
     fn judge(
         &mut self,
-        number: u32,
+        line: Line,
         seen: &ObservedBeat,
         finding: &mut Option<Finding>,
     ) -> Result<(), AllocError>
-        ensures found { OnOk result (finding.new ≡ (judging (score_of self.old) number seen.now).0) }
-        ensures state { OnOk result (score_of self.new ≡ (judging (score_of self.old) number seen.now).1) }
+        ensures found { OnOk result (finding.new ≡ (judging (score_of self.old) line seen.now).0) }
+        ensures state { OnOk result (score_of self.new ≡ (judging (score_of self.old) line seen.now).1) }
     {
         let telling = self.board.telling(seen);
         let judged = self.board.judge(seen)?;
         let verdict = self.with_place(seen, judged);
         self.judged = beats_judged(self.judged, seen);
-        self.told = with_more(self.told, telling.told);
-        self.compared = with_more(self.compared, telling.compared);
+        self.told = with_more(self.told, u64::from(telling.told));
+        self.compared = with_more(self.compared, u64::from(telling.compared));
         *finding = None;
         if let Some(wrong) = verdict {
             self.wrong = counted(self.wrong);
-            *finding = Some(Finding::Beat(number, client_of(seen), wrong));
+            *finding = Some(Finding::Beat(line, client_of(seen), wrong));
         }
         Ok(())
     }
@@ -216,38 +241,62 @@ impl Score {
         ensures found { OnOk result (finding.new ≡ (settling (score_of self.old)).0) }
         ensures state { OnOk result (score_of self.new ≡ (settling (score_of self.old)).1) }
     {
-        let Some(line) = self.held else {
+        let Some(held) = self.held else {
             *finding = None;
             return Ok(());
         };
         self.held = None;
-        let seen = ObservedBeat::A(line.client, line.beat);
-        self.judge(line.number, &seen, finding)
+        let seen = ObservedBeat::A(held.client, held.beat);
+        self.judge(held.line, &seen, finding)
     }
 
     /// Holds a beat on channel A, and judges any other, and puts what it finds into its place. The one error is that memory was
     /// refused.
     fn observe(
         &mut self,
-        number: u32,
+        line: Line,
         seen: &ObservedBeat,
         findings: &mut Findings,
     ) -> Result<(), AllocError>
-        ensures held { OnOk result (findings.new.held ≡ (observing (settling (score_of self.old)) number seen.now).held) }
-        ensures own { OnOk result (findings.new.own ≡ (observing (settling (score_of self.old)) number seen.now).own) }
-        ensures state { OnOk result (score_of self.new ≡ (observing (settling (score_of self.old)) number seen.now).after) }
+        ensures held { OnOk result (findings.new.held ≡ (observing (settling (score_of self.old)) line seen.now).held) }
+        ensures own { OnOk result (findings.new.own ≡ (observing (settling (score_of self.old)) line seen.now).own) }
+        ensures state { OnOk result (score_of self.new ≡ (observing (settling (score_of self.old)) line seen.now).after) }
     {
         self.settle(&mut findings.held)?;
         if let ObservedBeat::A(client, beat) = *seen {
-            self.held = Some(HeldBeat {
-                number,
-                client,
-                beat,
-            });
+            self.held = Some(HeldBeat { line, client, beat });
             findings.own = None;
             return Ok(());
         }
-        self.judge(number, seen, &mut findings.own)
+        self.judge(line, seen, &mut findings.own)
+    }
+
+    /// The observation is over: the held beat is judged, and what has no answer is wrong. The one error is that memory was refused.
+    fn finish(&mut self, findings: &mut Findings) -> Result<(), AllocError>
+        ensures held { OnOk result (findings.new.held ≡ (settling (score_of self.old)).0) }
+        ensures own { OnOk result (findings.new.own ≡ None) }
+        ensures state { OnOk result (score_of self.new ≡ ended_score (settling (score_of self.old)).1) }
+    {
+        self.settle(&mut findings.held)?;
+        findings.own = None;
+        self.wrong = with_more(self.wrong, u64::from(self.board.outstanding()));
+        self.wrong = with_more(self.wrong, self.board.open_bursts() as u64);
+        self.ended = true;
+        Ok(())
+    }
+
+    /// Refuses what may not stand where the observation is over.
+    fn check_open(&self, number: u32) -> Result<(), ScriptFault>
+        ensures open { OnOk result (wrong_behind (score_of self.now) ≡ None) }
+        ensures fault { IfErr result (λ fault. FailsBy number (wrong_behind (score_of self.now)) fault) }
+    {
+        if self.ended {
+            return Err(ScriptFault::Script {
+                line: number,
+                word: 1,
+            });
+        }
+        Ok(())
     }
 
     /// Withdraws the beat that is held.
@@ -261,7 +310,7 @@ impl Score {
     fn fill(&mut self, number: u32, address: u32, bytes: &FillBytes) -> Result<(), ScriptFault>
         ensures done { OnOk result (wrong_fill (score_of self.old) address bytes.now ≡ None) }
         ensures state { OnOk result (score_of self.new ≡ record (score_of self.old) { board = filled_in (score_of self.old).board address bytes.now }) }
-        ensures fault { IfErr result (λ fault. FillsNot number (wrong_fill (score_of self.old) address bytes.now) fault) }
+        ensures fault { IfErr result (λ fault. FailsBy number (wrong_fill (score_of self.old) address bytes.now) fault) }
     {
         if !self.begins {
             return Err(ScriptFault::Script {
@@ -290,10 +339,13 @@ impl Score {
         ensures held { OnOk result (findings.new.held ≡ (finds (score_of self.old) number command.now).held) }
         ensures own { OnOk result (findings.new.own ≡ (finds (score_of self.old) number command.now).own) }
         ensures state { OnOk result (score_of self.new ≡ (finds (score_of self.old) number command.now).after) }
-        ensures fault { IfErr result (λ fault. FillsNot number (wrong_command (score_of self.old) command.now) fault) }
+        ensures fault { IfErr result (λ fault. FailsBy number (wrong_command (score_of self.old) command.now) fault) }
     {
         match command {
-            Command::Observed(seen) => self.observe(number, seen, findings)?,
+            Command::Observed(seen) => {
+                self.check_open(number)?;
+                self.observe(self.line_at(number), seen, findings)?;
+            }
             Command::Byte(address) => {
                 self.settle(&mut findings.held)?;
                 findings.own = Some(Finding::Byte(self.board.byte(*address)));
@@ -310,12 +362,21 @@ impl Score {
                 self.fill(number, *address, bytes)?;
                 *findings = Findings::none();
             }
+            Command::Time(time) => {
+                self.settle(&mut findings.held)?;
+                findings.own = None;
+                self.time = Some(*time);
+            }
+            Command::End => {
+                self.check_open(number)?;
+                self.finish(findings)?;
+            }
         }
         Ok(())
     }
 
     /// The same, and then the line has come.
-    pub(crate) fn take(
+    fn take(
         &mut self,
         number: u32,
         command: &Command,
@@ -325,12 +386,45 @@ impl Score {
         ensures held { OnOk result (findings.new.held ≡ (finds (score_of self.old) number command.now).held) }
         ensures own { OnOk result (findings.new.own ≡ (finds (score_of self.old) number command.now).own) }
         ensures state { OnOk result (score_of self.new ≡ commanded_score (score_of self.old) number command.now) }
-        ensures fault { IfErr result (λ fault. FillsNot number (wrong_command (score_of self.old) command.now) fault) }
+        ensures fault { IfErr result (λ fault. FailsBy number (wrong_command (score_of self.old) command.now) fault) }
     {
         let begins = begins_after(self.begins, command);
         self.find(number, command, findings)?;
         self.begins = begins;
         Ok(())
+    }
+
+    /// Writes the lines of what has no answer, where a command of this line says that the observation is over. The answer is
+    /// whether there was any.
+    fn unanswered<W: Write>(
+        &self,
+        number: u32,
+        command: &Command,
+        writer: &mut W,
+    ) -> Result<bool, WriteFault>
+        ensures { WritesText (unanswered_by (score_of self.now) number command.now) (W.contents writer.old) (W.contents writer.new) result }
+    {
+        match command {
+            Command::End => unanswered_lines(&self.line_at(number), &self.board, writer),
+            _ => Ok(false),
+        }
+    }
+
+    /// Carries out a command, by the number of its line, and writes its lines. The answer is whether there was any. A fault is the
+    /// line's wrong word, that of the writer, or that memory was refused.
+    pub(crate) fn carry_out<W: Write>(
+        &mut self,
+        number: u32,
+        command: &Command,
+        writer: &mut W,
+    ) -> Result<bool, ScriptFault>
+        ensures { Writes true number (commanded (score_of self.old) number command.now) (score_of self.new) (W.contents writer.old) (W.contents writer.new) result }
+    {
+        let mut findings = Findings::none();
+        self.take(number, command, &mut findings)?;
+        let found = findings_lines(&findings, writer)?;
+        let left = self.unanswered(number, command, writer)?;
+        Ok(found | left)
     }
 
     /// Judges the beat that is held, and writes the last line. The answer is whether a beat is wrong. A fault is that of the

@@ -3,7 +3,6 @@ ghost use Rattle.std.specs.Prelude.{true};
 ghost use Rattle.script_text.specs.Scripts.{EndsOrStops, text_before_failure, text_of};
 ghost use Rattle.score_script.specs.Scores.{opening_state, score_reading};
 
-use crate::findings::{Findings, findings_lines};
 use crate::lines::{command_of, only_settles};
 use crate::profiles::Asked;
 use crate::score::{Command, Score, wrong_at_first};
@@ -110,9 +109,7 @@ impl Kind for ScoreScript {
         command: &Command,
         writer: &mut W,
     ) -> Result<bool, ScriptFault> {
-        let mut findings = Findings::none();
-        score.take(number, command, &mut findings)?;
-        Ok(findings_lines(&findings, writer)?)
+        score.carry_out(number, command, writer)
     }
 
     fn end<W: Write>(&mut self, score: &mut Score, writer: &mut W) -> Result<bool, ScriptFault> {
@@ -122,12 +119,12 @@ impl Kind for ScoreScript {
     ghost gives_text = { score_gives };
 }
 
-/// Judges what was observed at the ports of a bridge, and writes a line for each beat that can't be right, for each question,
-/// and at the end. The answer is whether a beat is wrong. A beat on channel A is judged once the line straight behind it, empty
-/// ones and comments aside, was read without fault and doesn't withdraw it, or at the input's end; each other beat with its own
-/// line. Each line's text stands before more is read. A page takes room when it is first given a byte: by a `fill`, or at a beat of the first
-/// request that does so, its last in order of acceptance, its first in real time. Where memory is refused there, the call ends with that
-/// fault, behind the text of the lines before.
+/// Judges what was observed at the ports of a bridge, and writes a line for each beat that can't be right, for each question, and
+/// at the end. The answer is whether a beat is wrong. A beat on channel A is judged once the line straight behind it, empty ones
+/// and comments aside, was read without fault and doesn't withdraw it, or at the input's end; each other beat with its own line.
+/// Each line's text stands before more is read. A page takes room when it is first given a byte: by a `fill`, or at a beat of the
+/// first request that does so, its last in order of acceptance, its first in real time. Where memory is refused there, the call
+/// ends with that fault, behind the text of the lines before.
 pub fn score_text<R: Read, W: Write>(
     alloc: Global,
     reader: &mut R,

@@ -1,3 +1,4 @@
+pub mod BackInStep
 pub mod BoardSteps
 pub mod Changed
 pub mod ClientFootprints

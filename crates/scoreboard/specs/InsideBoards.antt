@@ -1,6 +1,6 @@
 -- A board as it is held: of each request in flight a mask for each of its words; and the memory, whose bytes are in doubt where
 -- they are indeterminate.
-use Rattle.std.specs.Prelude.{ℕ, ◌≡◌, ◌+◌, ◌-◌, ◌/◌, ◌%◌, ◌^◌, ◌<◌, ◌==◌, ⊤, Bool, true, false, ◌&&◌, ◌||◌, List, length, map, Option, Some, None, is_none, max, Result, Ok, Err, IsSome, if◌then◌else◌, nat_le, nat_lt, slice_index_or}
+use Rattle.std.specs.Prelude.{ℕ, ◌≡◌, ◌+◌, ◌-◌, ◌/◌, ◌%◌, ◌^◌, ◌<◌, ◌==◌, ⊤, Bool, true, false, ◌&&◌, ◌||◌, List, filter, length, map, Option, Some, None, is_none, max, Result, Ok, Err, IsSome, if◌then◌else◌, nat_le, nat_lt, slice_index_or}
 use Rattle.std.specs.List.{AllByRecursion, list_any}
 use Rattle.std.specs.Option.{option_map}
 use Rattle.bus_words.specs.Lanes.{has_lane}
@@ -13,8 +13,10 @@ use Rattle.tl_checker.specs.RequestRules.{TlPortLimits}
 use Rattle.tl_checker.specs.declared.Progress.{Progress}
 use Rattle.tl_checker.specs.declared.Progress.TheVariants.{More, Whole}
 use Rattle.tl_checker.specs.declared.TlRule.{TlRule}
-use Rattle.axi_checker.specs.OpenBursts.{OpenBursts}
+use Rattle.axi_checker.specs.OpenBursts.{OpenBursts, read_of_id, write_of_id}
+use Rattle.axi_checker.specs.Rules.{AxiPortLimits}
 use Rattle.axi_checker.specs.declared.AxiBeat.{AxiBeat}
+use Rattle.axi_checker.specs.declared.AxiBeat.TheVariants.{Ar as OnAr, Aw as OnAw}
 use Rattle.scoreboard.specs.AxiPorts.{PortBoard}
 use Rattle.scoreboard.specs.Boards.{Board, ClientBoard, acting, tells_error}
 use Rattle.scoreboard.specs.FailedBursts.{Span, answered_span}
@@ -194,3 +196,11 @@ abbrev pub HaveRoomToWrite : (ℕ → Bool) → List Footprint → Type 0
 HaveRoomToWrite rooms footprints = AllByRecursion (HasRoomToWrite rooms) footprints
 
 -- ---- at the start
+
+-- ---- the AXI4 port
+
+-- whether as many bursts of its ID are open as may be, if a beat is an address
+abbrev pub is_full : AxiPortLimits → OpenBursts → AxiBeat → Bool
+is_full limits open_bursts (OnAw aw) = nat_le limits.depth (length (filter (write_of_id aw.id) open_bursts.writes))
+is_full limits open_bursts (OnAr ar) = nat_le limits.depth (length (filter (read_of_id ar.id) open_bursts.reads))
+is_full limits open_bursts beat = false

@@ -13,4 +13,5 @@ pub mod Races
 pub mod RealTime
 pub mod Right
 pub mod Telling
+pub mod Unanswered
 pub mod Wider

@@ -1,37 +1,46 @@
 //! The AXI4 port by its monitor.
-ghost use Rattle.std.specs.Prelude.{◌≡◌, true, IfOk, option_map};
+ghost use Rattle.std.specs.Prelude.{◌≡◌, true, IfOk, map, option_map, slice_get};
 ghost use Rattle.axi_checker.specs.OpenBursts.{nothing_open, oldest_read, oldest_write, open_count};
 ghost use Rattle.axi_checker.specs.Rules.{address_of_read, address_of_write, axi_fault};
 ghost use Rattle.config.specs.Configs.{axi_port_of};
 ghost use Rattle.score_setup.specs.ScoreSetups.{is_valid_to_score, limits_of};
 ghost use Rattle.scoreboard.specs.AxiPorts.{bursts_after, wrong_axi};
 ghost use Rattle.scoreboard.specs.FailedBursts.{answered_span, span_of};
+ghost use Rattle.scoreboard.specs.InsideBoards.{is_full};
 
 use crate::Wrong;
 use crate::failed_bursts::Span;
 use axi_beats::Resp;
-use axi_checker::{AxiBeat, LargeMonitor};
+use axi_checker::{AxiBeat, AxiRule, LargeMonitor};
 use score_setup::ScoreConfig;
 use std::alloc::{AllocError, Global};
 use std::marker::Model;
 
-/// The AXI4 port, by its monitor. All room is taken by `new`.
+/// The AXI4 port, by its monitor, which lets twice as many bursts be outstanding as the port's depth. All room is taken by `new`.
 pub(crate) struct AxiPort {
     monitor: LargeMonitor,
+    depth: u16,
 }
 
 impl Model for AxiPort {
+    ghost use Rattle.std.specs.Prelude.{◌≡◌};
     ghost use Rattle.axi_checker.specs.Monitors.{MonitorState};
+    ghost use Rattle.scoreboard.specs.AxiPorts.{doubled};
 
     ghost Value = { MonitorState };
 
-    ghost view = { λ p. p.monitor };
+    ghost view = { λ p. record { port = record p.monitor.port { depth = p.depth }; open_bursts = p.monitor.open_bursts } };
+
+    ghost invariant = { λ p. p.monitor.port ≡ doubled (record p.monitor.port { depth = p.depth }) };
 }
 
 // Written out, so that what lets go of one calls this, and proves nothing of its parts.
 impl Drop for AxiPort {
     fn drop(self) {
-        let AxiPort { monitor: _ } = self;
+        let AxiPort {
+            monitor: _,
+            depth: _,
+        } = self;
     }
 }
 
@@ -44,10 +53,13 @@ impl AxiPort {
         let monitor = LargeMonitor::of_any_depth(
             alloc,
             config.ids,
-            config.depth,
+            2 * config.depth,
             config.axi_bytes,
         )?;
-        Ok(AxiPort { monitor })
+        Ok(AxiPort {
+            monitor,
+            depth: config.depth,
+        })
     }
 
     /// How many bursts are outstanding.
@@ -55,6 +67,22 @@ impl AxiPort {
         ensures { result ≡ open_count self.now.open_bursts }
     {
         self.monitor.outstanding()
+    }
+
+    /// The ID of an open write by its place, the oldest first.
+    pub(crate) fn open_write(&self, place: usize) -> Option<u8>
+        ensures { result ≡ slice_get (map (λ write. write.aw.id) self.now.open_bursts.writes) place }
+    {
+        let aw = self.monitor.open_write(place)?;
+        Some(aw.id)
+    }
+
+    /// The ID of an open read by its place, the oldest first.
+    pub(crate) fn open_read(&self, place: usize) -> Option<u8>
+        ensures { result ≡ slice_get (map (λ read. read.ar.id) self.now.open_bursts.reads) place }
+    {
+        let ar = self.monitor.open_read(place)?;
+        Some(ar.id)
     }
 
     /// Nothing is outstanding any more: what went unobserved has closed all bursts.
@@ -91,14 +119,30 @@ impl AxiPort {
         }
     }
 
-    /// Judges a beat; one that breaks a rule changes nothing.
+    /// Whether as many bursts of its ID are outstanding as may be, if a beat is an address.
+    fn is_full(&self, beat: &AxiBeat) -> bool
+        ensures { result ≡ is_full self.now.port self.now.open_bursts beat.now }
+    {
+        match beat {
+            AxiBeat::Aw(aw) => self.monitor.writes_of(aw.id) >= usize::from(self.depth),
+            AxiBeat::Ar(ar) => self.monitor.reads_of(ar.id) >= usize::from(self.depth),
+            _ => false,
+        }
+    }
+
+    /// Judges a beat, and goes on behind one that breaks a rule: its data count as come, and its address may open its burst.
     pub(crate) fn judge(&mut self, beat: &AxiBeat) -> Option<Wrong>
         ensures wrong { result ≡ wrong_axi (axi_fault self.old.port self.old.open_bursts beat.now) }
-        ensures state { self.new ≡ record self.old { open_bursts = bursts_after self.old.open_bursts beat.now (axi_fault self.old.port self.old.open_bursts beat.now) } }
+        ensures state { self.new ≡ record self.old { open_bursts = bursts_after self.old.port self.old.open_bursts beat.now (axi_fault self.old.port self.old.open_bursts beat.now) } }
     {
+        let is_full = self.is_full(beat);
         match self.monitor.take(beat) {
+            Ok(()) if is_full => Some(Wrong::Axi(AxiRule::Depth)),
             Ok(()) => None,
-            Err(rule) => Some(Wrong::Axi(rule)),
+            Err(rule) => {
+                self.monitor.force(beat);
+                Some(Wrong::Axi(rule))
+            }
         }
     }
 }

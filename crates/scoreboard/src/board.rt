@@ -15,6 +15,9 @@ ghost use Rattle.scoreboard.specs.InsideBoards.{ClientsHaveRoom, HasRoomForBeat,
 ghost use Rattle.scoreboard.specs.InTurn.{after_turn, unless_fixed};
 ghost use Rattle.scoreboard.specs.Races.{after_given, after_joining, alone, beside_all, beside_dependent};
 
+use crate::all_clients::{
+    give_way, hit, limit, mark_beside, mark_shared, opening_clients, outstanding_of,
+};
 use crate::clients::Client;
 use crate::early_port::EarlyPort;
 use crate::failed_bursts::Span;
@@ -41,10 +44,11 @@ const MOST_WORDS: usize = 512;
 /// before another began comes before it. Where requests take effect in real time, errors may be told as this project's bridge tells
 /// them, or in any way that TileLink allows; by this a reply is due from its request's first beat on.
 ///
-/// A beat that breaks a rule changes nothing, but a beat of a due reply counts as come whatever it shows, and an AW that is wrong
-/// for the data before it alone opens its burst. Of bytes that nobody knows, and that no request gave so far, nothing is compared, nor of
-/// those that an atomic made of them. All room is taken by `new`, but for pages: each takes its own when it is first given a byte, by
-/// `fill` or, in `judge`, by a request.
+/// A beat that breaks a rule changes nothing, but a beat of a due reply counts as come whatever it shows, and so does write data
+/// that breaks STROBE or WLAST; an address that breaks DEPTH, CROSS_4K or BURST_KIND alone opens its burst, of the port's depth
+/// up to as many again, and so does an AW that is wrong for the data before it alone. Of bytes that nobody knows, and that no
+/// request gave so far, nothing is compared, nor of those that an atomic made of them. All room is taken by `new`, but for pages:
+/// each takes its own when it is first given a byte, by `fill` or, in `judge`, by a request.
 pub struct Scoreboard {
     policy: Policy,
     errors: Errors,
@@ -83,35 +87,6 @@ impl Drop for Scoreboard {
             joining: _,
         } = self;
     }
-}
-
-/// Each client of a set-up, of which nothing was observed, with room for so many words in each footprint.
-fn opening_clients(
-    alloc: Global,
-    config: &ScoreConfig,
-    room: usize,
-) -> Result<Vec<Client>, AllocError>
-    requires valid { is_valid_to_score (limits_of config.now) ≡ true }
-    requires room { 1 ≤ room }
-    ensures { IfOk result (λ clients. (map client_of clients.items ≡ map (opening_client (limits_of config.now)) (range_with_len 0 config.now.clients)) × ClientsHaveRoom room clients.items) }
-{
-    let mut clients = Vec::with_capacity(alloc, usize::from(config.clients))?;
-    for client in 0..config.clients {
-        clients.push(Client::new(alloc, config, client, room)?)?;
-    }
-    Ok(clients)
-}
-
-/// How many accepted requests of some clients, at most eight, have a reply that isn't whole.
-fn outstanding_of(clients: &[Client]) -> u16
-    requires { length clients.now ≤ 8 }
-    ensures { result ≡ replies_open (map client_of clients.now) }
-{
-    let mut count = 0;
-    for client in clients {
-        count += client.outstanding();
-    }
-    count
 }
 
 /// The address of a good page at which a request may act, if it has one: one that is corrupt may act all the same where errors are
@@ -157,27 +132,6 @@ fn early_due(errors: Errors, request: &Request) -> Option<DBeat>
     })
 }
 
-/// What the requests of some clients may write, in flight or begun, isn't determined of another request.
-fn limit(joined: &mut InFlight, clients: &[Client])
-    ensures footprint { footprint_of joined.new.footprint ≡ beside_all (footprint_of joined.old.footprint) (footprints_of (map client_of clients.now)) }
-    ensures room { length joined.new.footprint.determined ≡ length joined.old.footprint.determined }
-{
-    for client in clients {
-        client.limit(joined);
-    }
-}
-
-/// All bytes are indeterminate of those requests of some clients of which what they write may depend on another.
-fn mark_beside(marks: &mut SerialMemory, clients: &[Client], other: &Footprint)
-    requires room { HaveRoomToWrite (rooms_of marks.old) (footprints_of (map client_of clients.now)) }
-    ensures rest { IsMarkedAlone marks.old marks.new }
-    ensures bytes { doubts_of marks.new ≡ beside_dependent (doubts_of marks.old) (footprint_of other.now) (footprints_of (map client_of clients.now)) }
-{
-    for client in clients {
-        client.mark(marks, other);
-    }
-}
-
 /// What is indeterminate after a request that joins those of some clients.
 fn mark_written(
     marks: &mut SerialMemory,
@@ -216,38 +170,6 @@ fn mark_own(marks: &mut SerialMemory, footprint: &Footprint, request: &Request)
     }
 }
 
-/// What a request may write isn't determined of the requests of some clients, in flight or begun.
-fn give_way(clients: &mut [Client], other: &Footprint)
-    ensures clients { map client_of clients.new ≡ map (client_beside (footprint_of other.now)) (map client_of clients.old) }
-    ensures room { (room : ℕ) → ClientsHaveRoom room clients.old → ClientsHaveRoom room clients.new }
-{
-    for client in clients.iter_mut() {
-        client.give_way(other);
-    }
-}
-
-/// What those requests of some clients may write, in flight or begun, is indeterminate that share a byte with a burst that was answered
-/// with an error.
-fn mark_shared(marks: &mut SerialMemory, clients: &[Client], span: Span)
-    requires room { HaveRoomToWrite (rooms_of marks.old) (footprints_of (map client_of clients.now)) }
-    ensures rest { IsMarkedAlone marks.old marks.new }
-    ensures bytes { doubts_of marks.new ≡ after_hit (doubts_of marks.old) span (footprints_of (map client_of clients.now)) }
-{
-    for client in clients {
-        client.mark_shared(marks, span);
-    }
-}
-
-/// Those requests of some clients, in flight or begun, may have failed that share a byte with such a burst.
-fn hit(clients: &mut [Client], span: Span)
-    ensures clients { map client_of clients.new ≡ map (hit_client span) (map client_of clients.old) }
-    ensures room { (room : ℕ) → ClientsHaveRoom room clients.old → ClientsHaveRoom room clients.new }
-{
-    for client in clients.iter_mut() {
-        client.hit(span);
-    }
-}
-
 impl Scoreboard {
     ghost use Rattle.scoreboard.specs.Boards.{Beginning, ClientBoard, IsReached, a_wrong, accepted_on, after_a, after_axi, after_d, after_seen, answer_to, beginning_of, begun_on, coming_on, continued_on, d_wrong, flight_for, given_on, has_replied, hit_on, in_turn_on, is_spoiled, joined_on, joining_on, opening_from, with_client, with_taken, with_whole, wrong_at};
     ghost use Rattle.scoreboard.specs.Flights.{no_footprint};
@@ -260,6 +182,7 @@ impl Scoreboard {
     ghost use Rattle.axi_checker.specs.OpenBursts.{open_count};
     ghost use Rattle.scoreboard.specs.Observed.{is_request, observed_in, requests_in};
     ghost use Rattle.scoreboard.specs.RealTime.{JudgesRightly};
+    ghost use Rattle.scoreboard.specs.Unanswered.{reads_open, sources_due, writes_open};
     ghost use Rattle.scoreboard.specs.Boards.{Beginning};
     ghost use Rattle.scoreboard.specs.Filling.{filled_beginning, filled_on};
     ghost use Rattle.scoreboard.specs.declared.Errors.{Errors};
@@ -326,16 +249,17 @@ impl Scoreboard {
         })
     }
 
-    /// What is wrong with the next beat that was observed; none where nothing is. The one error is that memory was refused for a page that
-    /// a beat on channel A gives bytes: then nothing was judged, and the beat may be handed over again.
+    /// What is wrong with the next beat that was observed; none where nothing is. The one error is that memory was refused for a
+    /// page that a beat on channel A gives bytes: then nothing was judged, and the beat may be handed over again.
     ///
-    /// Where requests take effect in order of acceptance, nothing is wrong with a beat, if none was before it, exactly where all of them are
-    /// right together, as far as the memory's first bytes are known. Where they take effect in real time, nothing is wrong with beats that are right in order of acceptance,
-    /// from a memory of zeros, however errors may be told. Where these are told as this project's bridge tells them, what is said of any beat is what is said of
-    /// it in order of acceptance, or nothing where that is SOURCE_BUSY, W_WITHOUT_AW or PAYLOAD, up to the first SOURCE_BUSY or
-    /// W_WITHOUT_AW. And a beat of a reply that is found wrong is wrong, by that rule, in each order of the requests that have begun in
-    /// which none stands behind one that began after it was whole and its whole reply had come, whatever those become of which beats
-    /// are still to come, and whatever those leave that have failed.
+    /// Where requests take effect in order of acceptance, nothing is wrong with a beat, if none was before it, exactly where all
+    /// of them are right together, as far as the memory's first bytes are known. Where they take effect in real time, nothing is
+    /// wrong with beats that are right in order of acceptance, from a memory of zeros, however errors may be told. Where these
+    /// are told as this project's bridge tells them, what is said of any beat is what is said of it in order of acceptance, or
+    /// nothing where that is SOURCE_BUSY, W_WITHOUT_AW or PAYLOAD, up to the first SOURCE_BUSY or W_WITHOUT_AW. And a beat of a
+    /// reply that is found wrong is wrong, by that rule, in each order of the requests that have begun in which none stands
+    /// behind one that began after it was whole and its whole reply had come, whatever those become of which beats are still to
+    /// come, and whatever those leave that have failed.
     pub fn judge(&mut self, seen: &ObservedBeat) -> Result<Option<Wrong>, AllocError>
         ensures answer { IfOk result (λ wrong. wrong ≡ wrong_at self.old.policy (board_of self.old) seen.now) }
         ensures state { OnOk result (board_of self.new ≡ after_seen self.old.policy (board_of self.old) seen.now) }
@@ -441,8 +365,8 @@ impl Scoreboard {
         clients[client].take_beat(*policy, beat, progress, request);
     }
 
-    /// A beat of a message came that isn't its last: where requests take effect in real time, its first beat has it begin, and with a later
-    /// one it may have failed.
+    /// A beat of a message came that isn't its last: where requests take effect in real time, its first beat has it begin, and
+    /// with a later one it may have failed.
     fn go_on(&mut self, client: u8, beat: &ABeat, begun: bool)
         requires client { client < length self.old.clients }
         requires first { begun ≡ false → IsFirstBeat beat.now }
@@ -505,7 +429,8 @@ impl Scoreboard {
         clients[usize::from(client)].begin(joining, early_due(*errors, request));
     }
 
-    /// The request that came whole is accepted: it is carried out, its reply is due to its client, and it is in flight beside the others.
+    /// The request that came whole is accepted: it is carried out, its reply is due to its client, and it is in flight beside the
+    /// others.
     fn accept(&mut self, client: usize, begun: bool)
         requires client { client < length self.old.clients }
         requires checked { IsCheckedRequest self.old.request }
@@ -628,8 +553,8 @@ impl Scoreboard {
         clients[client].join(joining, replied);
     }
 
-    /// The request that came whole, and had begun before, is carried out, and gives its bytes. Determined of it is what stayed so all
-    /// the while.
+    /// The request that came whole, and had begun before, is carried out, and gives its bytes. Determined of it is what stayed so
+    /// all the while.
     fn give(&mut self, client: usize)
         requires policy { self.old.policy ≡ RealTime }
         requires client { client < length self.old.clients }
@@ -661,7 +586,8 @@ impl Scoreboard {
         mark_own(serial, joining.footprint(), request);
     }
 
-    /// The request that came whole in one beat is carried out, and gets its footprint beside those in flight and those that have begun.
+    /// The request that came whole in one beat is carried out, and gets its footprint beside those in flight and those that have
+    /// begun.
     fn join(&mut self)
         requires policy { self.old.policy ≡ RealTime }
         requires checked { IsCheckedRequest self.old.request }
@@ -706,7 +632,8 @@ impl Scoreboard {
         found.judge_reply(self.policy, beat)
     }
 
-    /// The bytes of the burst that an error response is to, where requests take effect in real time, and errors are told in any way.
+    /// The bytes of the burst that an error response is to, where requests take effect in real time, and errors are told in any
+    /// way.
     fn span_told(&self, beat: &AxiBeat) -> Option<Span>
         ensures { result ≡ span_told self.now.policy self.now.errors self.now.axi.open_bursts beat.now }
     {
@@ -716,8 +643,8 @@ impl Scoreboard {
         }
     }
 
-    /// Judges a beat on a channel of the AXI4 port. With an error response that breaks no rule each request may have failed that shares a
-    /// byte with its burst, where errors may be told in any way.
+    /// Judges a beat on a channel of the AXI4 port. With an error response that breaks no rule each request may have failed that
+    /// shares a byte with its burst, where errors may be told in any way.
     fn judge_axi(&mut self, beat: &AxiBeat) -> Option<Wrong>
         ensures answer { result ≡ port_wrong self.old.policy self.old.axi beat.now }
         ensures state { board_of self.new ≡ after_axi self.old.policy (board_of self.old) beat.now }
@@ -764,6 +691,35 @@ impl Scoreboard {
         self.axi.open_bursts()
     }
 
+    /// How many clients there are.
+    pub fn clients(&self) -> u8
+        ensures { result ≡ length (board_of self.now).clients }
+    {
+        self.clients.len() as u8
+    }
+
+    /// The source of a client's accepted request whose reply wasn't observed whole, by its place; none behind the last.
+    pub fn source_due(&self, client: u8, place: usize) -> Option<u8>
+        ensures { result ≡ slice_get (sources_due (slice_get (board_of self.now).clients client)) place }
+    {
+        let found = self.clients.get(usize::from(client))?;
+        found.source_at(place)
+    }
+
+    /// The ID of a write that is open on the AXI4 port, by its place, the oldest first; none behind the last.
+    pub fn open_write(&self, place: usize) -> Option<u8>
+        ensures { result ≡ slice_get (writes_open self.now.axi) place }
+    {
+        self.axi.open_write(place)
+    }
+
+    /// The ID of a read that is open on the AXI4 port, by its place, the oldest first; none behind the last.
+    pub fn open_read(&self, place: usize) -> Option<u8>
+        ensures { result ≡ slice_get (reads_open self.now.axi) place }
+    {
+        self.axi.open_read(place)
+    }
+
     /// The byte at an address of a good page, as the requests accepted so far leave it in order of acceptance; none outside
     /// these pages.
     pub fn byte(&self, address: u32) -> Option<u8>
@@ -771,6 +727,7 @@ impl Scoreboard {
     {
         self.serial.byte(address)
     }
+
     /// How much a beat tells that may come next, and how much of that is compared. What was observed stays.
     pub fn telling(&self, seen: &ObservedBeat) -> Telling
         ensures { result ≡ telling_of self.now.policy (board_of self.now) seen.now }
@@ -783,9 +740,10 @@ impl Scoreboard {
             Some(found) => found.telling(self.policy, beat.source),
         }
     }
-    /// The bytes from an address on become these, and are known: a tester says what the memory began with. So a board of which nothing
-    /// was observed is one that began with them. It fails only where one of them is of no good page, or memory was refused; then nothing
-    /// has changed.
+
+    /// The bytes from an address on become these, and are known: a tester says what the memory began with. So a board of which
+    /// nothing was observed is one that began with them. It fails only where one of them is of no good page, or memory was
+    /// refused; then nothing has changed.
     pub fn fill(&mut self, address: u32, bytes: &[u8]) -> Result<(), FillFault>
         ensures filled { OnOk result (board_of self.new ≡ filled_on (board_of self.old) address bytes.now) }
         ensures opening { OnOk result ((errors : Errors) (beginning : Beginning) → board_of self.old ≡ opening_from errors beginning

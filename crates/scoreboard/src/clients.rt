@@ -1,5 +1,5 @@
 //! A client as a scoreboard sees it: what it has begun to ask, and its requests in flight.
-ghost use Rattle.std.specs.Prelude.{◌≡◌, ◌≤◌, None, Ok, Some, IfOk, false, is_some, length, true, unwrap_or};
+ghost use Rattle.std.specs.Prelude.{◌≡◌, ◌≤◌, None, Ok, Some, IfOk, false, is_some, length, map, slice_get, true, unwrap_or};
 ghost use Rattle.std.specs.List.{list_any};
 ghost use Rattle.tl_messages.specs.Requests.{HeldMessage, request_of};
 ghost use Rattle.tl_checker.specs.Ports.{joined};
@@ -7,7 +7,7 @@ ghost use Rattle.tl_checker.specs.declared.Progress.TheVariants.{More, Whole};
 ghost use Rattle.score_setup.specs.ScoreSetups.{is_valid_to_score, limits_of};
 ghost use Rattle.scoreboard.specs.Boards.{answer_to, client_beside, client_footprints, early_after, early_left, has_replied, hit_client, is_spoiled, kept_from, next_to, opening_client, told_to, with_whole, wrong_reply};
 ghost use Rattle.scoreboard.specs.FailedBursts.{after_hit};
-ghost use Rattle.scoreboard.specs.Flights.{flights_after, is_of_source, next_reply, replies_left};
+ghost use Rattle.scoreboard.specs.Flights.{flights_after, in_flight, is_of_source, next_reply, replies_left};
 ghost use Rattle.serial_memory.specs.SerialMemory.{IsCheckedRequest, doubts_of, rooms_of};
 ghost use Rattle.scoreboard.specs.InsideBoards.{HaveRoomToWrite, IsAskedBy, IsFirstBeat, IsMarkedAlone, client_of, early_of, flight_of, flights_of, footprint_of, front_after};
 ghost use Rattle.scoreboard.specs.Races.{beside_all, beside_dependent, unless_failed};
@@ -101,6 +101,13 @@ impl Client {
         ensures most { result ≤ 257 }
     {
         self.flights.outstanding()
+    }
+
+    /// The source of an accepted request whose reply isn't whole, by its place.
+    pub(crate) fn source_at(&self, place: usize) -> Option<u8>
+        ensures { result ≡ slice_get (map (λ flight. flight.source) (in_flight (flights_of self.now.flights))) place }
+    {
+        self.flights.source_at(place)
     }
 
     /// Whether a message has begun.
@@ -302,6 +309,7 @@ impl Client {
         self.flights.hit(span);
         self.coming.hit(span);
     }
+
     /// How much a beat of a source on channel D tells.
     pub(crate) fn telling(&self, policy: Policy, source: u8) -> Telling
         ensures { result ≡ flight_telling policy (next_to policy (client_of self.now) source) }

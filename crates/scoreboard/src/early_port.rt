@@ -1,11 +1,12 @@
 //! The AXI4 port as a scoreboard sees it: the data of a write may come before its address.
-ghost use Rattle.std.specs.Prelude.{◌≡◌, ◌&&◌, true, IfOk, length, nat_lt};
+ghost use Rattle.std.specs.Prelude.{◌≡◌, ◌&&◌, true, IfOk, length, nat_lt, slice_get};
 ghost use Rattle.std.specs.VecDeque.{deque_capacity};
 ghost use Rattle.axi_checker.specs.OpenBursts.{nothing_open, open_count};
 ghost use Rattle.config.specs.Configs.{axi_port_of};
 ghost use Rattle.score_setup.specs.ScoreSetups.{is_valid_to_score, limits_of};
 ghost use Rattle.scoreboard.specs.AxiPorts.{after_with_early, drained, none_early, port_after, port_wrong, taking, tells_no_write, wrong_with_early};
 ghost use Rattle.scoreboard.specs.FailedBursts.{answered_span};
+ghost use Rattle.scoreboard.specs.Unanswered.{reads_open, writes_open};
 
 use crate::axi_port::AxiPort;
 use crate::failed_bursts::Span;
@@ -91,6 +92,20 @@ impl EarlyPort {
         self.axi.open_bursts()
     }
 
+    /// The ID of an open write by its place, the oldest first.
+    pub(crate) fn open_write(&self, place: usize) -> Option<u8>
+        ensures { result ≡ slice_get (writes_open self.now) place }
+    {
+        self.axi.open_write(place)
+    }
+
+    /// The ID of an open read by its place, the oldest first.
+    pub(crate) fn open_read(&self, place: usize) -> Option<u8>
+        ensures { result ≡ slice_get (reads_open self.now) place }
+    {
+        self.axi.open_read(place)
+    }
+
     /// Nothing is outstanding any more, and nothing early: what went unobserved has closed all bursts.
     pub(crate) fn clear(&mut self)
         ensures { self.new ≡ drained self.old }
@@ -124,7 +139,7 @@ impl EarlyPort {
     {
         let verdict = self.axi.judge(beat);
         match beat {
-            AxiBeat::Aw(_) if verdict.is_none() => take_early(&mut self.axi, &mut self.early),
+            AxiBeat::Aw(_) => verdict.or(take_early(&mut self.axi, &mut self.early)),
             AxiBeat::W(data) if self.may_be_early(&verdict) => {
                 self.early.push_back_reserved(*data);
                 None

@@ -1,5 +1,5 @@
 //! A client's requests in flight.
-ghost use Rattle.std.specs.Prelude.{◌≡◌, ◌<◌, ◌≤◌, ◌==◌, ◌++◌, [], ◌∷◌, ℕ, None, Some, IfOk, false, is_some, length, map};
+ghost use Rattle.std.specs.Prelude.{◌≡◌, ◌<◌, ◌≤◌, ◌==◌, ◌++◌, [], ◌∷◌, ℕ, None, Some, IfOk, false, is_some, length, map, slice_get};
 ghost use Rattle.std.specs.List.{list_any, position};
 ghost use Rattle.std.specs.Vec.{vec_capacity};
 ghost use Rattle.bus_words.specs.Places.{without_first};
@@ -194,6 +194,23 @@ impl Flights {
         }
     }
 
+    /// The source of a request by its place, those of whose reply no beat came before the one whose reply has begun.
+    pub(crate) fn source_at(&self, place: usize) -> Option<u8>
+        ensures { result ≡ slice_get (map (λ flight. flight.source) (in_flight (flights_of self.now))) place }
+    {
+        let due = self.due.len();
+        if place < due {
+            return Some(self.due[place].source());
+        }
+        let Some(flight) = &self.begun else {
+            return None;
+        };
+        if place > due {
+            return None;
+        }
+        Some(flight.source())
+    }
+
     /// A request of a source to which none is due is in flight, with its reply; a box takes its place.
     pub(crate) fn join(&mut self, flight: &mut InFlight)
         requires free { list_any (is_of_source flight.old.source) (flights_of self.old).due ≡ false }
@@ -319,6 +336,7 @@ impl Flights {
             flight.hit(span);
         }
     }
+
     /// How much a beat of a source tells.
     pub(crate) fn telling(&self, policy: Policy, source: u8) -> Telling
         ensures { result ≡ flight_telling policy (next_reply (flights_of self.now) source) }

@@ -1,6 +1,7 @@
 //! A scoreboard: which of the beats that were observed at the ports of a bridge can't be right.
 #![tactic(auto)]
 
+mod all_clients;
 mod axi_port;
 mod board;
 mod clients;

@@ -9,7 +9,7 @@ mod operations;
 mod reply_box;
 mod request;
 
-pub use lines::{a_line, d_line};
+pub use lines::{a_line, d_line, d_words};
 pub use operations::beats_of;
 pub use reply_box::ReplyBox;
 pub use request::Request;

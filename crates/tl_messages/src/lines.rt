@@ -2,7 +2,7 @@
 //! hexadecimal of 8, 2 and 16 digits. A fault of the writer is answered as it is.
 ghost use Rattle.std.specs.Prelude.{OnOk};
 ghost use Rattle.std.specs.Io.KnownBytes.{Appends};
-ghost use Rattle.tl_messages.specs.Lines.{a_text, d_text};
+ghost use Rattle.tl_messages.specs.Lines.{a_text, d_text, d_words};
 
 use crate::{ABeat, DBeat};
 use bus_words::flag_text;
@@ -32,6 +32,14 @@ pub fn a_line<W: Write>(client: u8, beat: &ABeat, writer: &mut W) -> io::Result<
 pub fn d_line<W: Write>(client: u8, beat: &DBeat, writer: &mut W) -> io::Result<()>
     ensures { OnOk result (Appends (W.contents writer.old) (W.contents writer.new) (d_text client beat.now)) }
 {
+    d_words(client, beat, writer)?;
+    writeln!(writer)
+}
+
+/// Writes the same words, and no LF behind them.
+pub fn d_words<W: Write>(client: u8, beat: &DBeat, writer: &mut W) -> io::Result<()>
+    ensures { OnOk result (Appends (W.contents writer.old) (W.contents writer.new) (d_words client beat.now)) }
+{
     let DBeat {
         opcode,
         param,
@@ -44,5 +52,5 @@ pub fn d_line<W: Write>(client: u8, beat: &DBeat, writer: &mut W) -> io::Result<
     let denied = flag_text(denied);
     let corrupt = flag_text(corrupt);
     write!(writer, "D {client} {opcode} {param} {size} {source} ")?;
-    writeln!(writer, "{denied} {payload:016x} {corrupt}")
+    write!(writer, "{denied} {payload:016x} {corrupt}")
 }

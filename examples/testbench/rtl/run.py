@@ -1,4 +1,4 @@
-"""Simulates the bridge of this folder in front of each memory, as it is, and with each of seven faults planted, and has tlscore judge
+"""Simulates the bridge of this folder in front of each memory, as it is, and with each of twelve faults planted, and has tlscore judge
 what the monitor saw.
 
     python3 examples/testbench/rtl/run.py [--runs N] [--first SEED] [--jobs N] [--simulator NAME] [--score PROGRAM]
@@ -27,7 +27,7 @@ import tempfile
 from collections import Counter
 from concurrent.futures import ThreadPoolExecutor
 from pathlib import Path
-from typing import NamedTuple
+from typing import NamedTuple, Optional
 
 import traffic
 
@@ -44,7 +44,8 @@ MEMORIES = ("ANY_ORDER", "IN_ORDER", "AS_BEATS_COME", "SLOW")
 FAILING = "FAILING"  # bursts to good pages fail by lot, which no set-up can say: for errors any alone
 RIGHT = "NONE"
 BUGS = ("LANE_SWAPPED", "STROBE_LOST", "OTHER_SOURCE", "REPLY_TWICE", "WLAST_EARLY", "PAGE_CROSSED", "REGION_UNASKED")
-WRONG = re.compile(r"^= wrong (\d+) (.*?)(?: expected .*)?$", re.MULTILINE)
+BUGS += ("FIRST_MASK", "ANSWERED_EARLY", "CUT_SHORT", "REPLY_LOST", "BEAT_DROPPED")
+WRONG = re.compile(r"^= wrong (\d+) (.*?)(?: expected .*?)?(?: at (\d+))?$", re.MULTILINE)
 ENDED = re.compile(r"^= judged (\d+) wrong (\d+) outstanding (\d+) open (\d+) compared \d+ of \d+$", re.MULTILINE)
 
 
@@ -94,11 +95,30 @@ class Bench(NamedTuple):
         return [*chosen, f"-DHABIT={self.habit}", f"-DMEMORY={self.memory}", began, f"-DBUG={self.bug}", f"-DCALM={int(self.is_calm)}"]
 
 
+class Wrong(NamedTuple):
+    """The first line that was told wrong: how many beats came up to it, the simulation's time, and what for."""
+
+    beats: int
+    time: int
+    name: str
+
+
 class Run(NamedTuple):
-    """What a run gave: the scoreboard's lines, and what was under way."""
+    """What a run gave: the scoreboard's lines, the first of them that is wrong, and what was under way."""
 
     told: str
+    wrong: Optional[Wrong]
     traffic: traffic.Traffic
+
+
+def first_wrong(setup, text, told):
+    """What was told first of an observation behind a set-up."""
+    found = WRONG.search(told)
+    if not found:
+        return None
+    line, name, time = found.groups()
+    seen = text.splitlines()[: int(line) - setup.count("\n")]
+    return Wrong(sum(not it.startswith("time ") for it in seen), int(time), name)
 
 
 def compiled(simulator, bench, folder):
@@ -139,7 +159,8 @@ def ran(bench, seed, making, score, folder):
     simulated([*making.result(), f"+seed={seed}", f"+observed={seen}"])
     text = seen.read_text()
     seen.unlink()
-    return Run(judged(score, bench.asked.setup, text), traffic.of(text))
+    told = judged(score, bench.asked.setup, f"{text}= end\n")  # a testbench ends where all is answered, or nothing moves any more
+    return Run(told, first_wrong(bench.asked.setup, text, told), traffic.of(text))
 
 
 class Variant:
@@ -151,7 +172,7 @@ class Variant:
         self.runs = self.beats = self.unfinished = 0
         self.first = []  # of each run that was told wrong: how many beats came up to the first wrong one
         self.names = Counter()  # what that one was told for
-        self.seed = None  # of the first such run
+        self.seed = self.time = None  # of the first such run, and when its first wrong beat came
 
     def take(self, seed, run):
         """Notes what a run gave."""
@@ -164,10 +185,10 @@ class Variant:
         self.unfinished += outstanding + still_open > 0
         self.traffic |= run.traffic
         if wrong:
-            line, name = WRONG.search(run.told).groups()
-            self.first.append(int(line) - self.bench.asked.setup.count("\n"))
-            self.names[name] += 1
-            self.seed = self.seed or seed
+            self.first.append(run.wrong.beats)
+            self.names[run.wrong.name] += 1
+            if self.seed is None:
+                self.seed, self.time = seed, run.wrong.time
 
     def is_well(self):
         """The right bridge is never blamed and answers all; a fault is told."""
@@ -178,7 +199,7 @@ class Variant:
         if not self.first:
             return f"{counts}, {self.unfinished} unfinished; {self.beats} beats"
         times = f"first at beat {min(self.first)} to {max(self.first)}, half of them by {statistics.median_low(self.first)}"
-        return f"{counts}; {times}; {self.names.most_common(1)[0][0]}; as in seed {self.seed}"
+        return f"{counts}; {times}; {self.names.most_common(1)[0][0]}; as in seed {self.seed} at {self.time}"
 
 
 def tried(plan, given, folder):
@@ -235,7 +256,7 @@ def row(variant):
     bench, seen = variant.bench, variant.traffic
     counts = f"{bench.device:22} {bench.memory:14} {variant.runs:5} {len(variant.first):6}"
     was = f"{seen.at_once:9} {len(seen.sources):8} {len(seen.ids):4} {seen.overtaking:11} {seen.streamed:9} {seen.foretold:9}"
-    why = f"; {variant.names.most_common(1)[0][0]}, as in seed {variant.seed}" if variant.first else ""
+    why = f"; {variant.names.most_common(1)[0][0]}, as in seed {variant.seed} at {variant.time}" if variant.first else ""
     return f"{counts} {was}{why}" + (f"; {variant.unfinished} unfinished" if variant.unfinished else "")
 
 
@@ -248,6 +269,28 @@ def verdict(variants, is_table):
     if failed:
         return f"not as it should be: {', '.join(it.bench.name for it in failed)}"
     return "the right bridge was never blamed, and each fault was told"
+
+
+def takes_programs(asked):
+    """Which programs a call takes."""
+    asked.add_argument("--simulator", choices=SIMULATORS, help="the first of these that is there")
+    score = os.environ.get("TLSCORE", HERE.parents[2] / "tlscore")
+    asked.add_argument("--score", type=resolved, default=score, help="the scoreboard (what TLSCORE names, else tlscore at the top)")
+
+
+def resolved(path):
+    return Path(path).resolve()
+
+
+def installed(simulator=None):
+    """This simulator, or the first of all, if it is there."""
+    return next(filter(shutil.which, [simulator] if simulator else SIMULATORS), None)
+
+
+def without_simulator(simulator):
+    """Says that none is there, and gives the status."""
+    print(f"no simulator: {simulator or ' or '.join(SIMULATORS)} has to be on PATH", file=sys.stderr)
+    return 4
 
 
 def words():
@@ -263,9 +306,7 @@ def words():
     asked.add_argument("--habit", choices=HABITS, help="how the streaming bridge tells errors (EARLY)")
     asked.add_argument("--calm", action="store_true", help="no access fails, and no beat is corrupt")
     asked.add_argument("--jobs", type=int, default=os.cpu_count() or 1, help="how many runs at once (one a processor)")
-    asked.add_argument("--simulator", choices=SIMULATORS, help="the first of these that is there")
-    score = os.environ.get("TLSCORE", HERE.parents[2] / "tlscore")
-    asked.add_argument("--score", default=score, help="the scoreboard (what TLSCORE names, else tlscore at the top)")
+    takes_programs(asked)
     given = asked.parse_args()
     if min(given.runs, given.first, given.jobs) < 1:
         asked.error("runs, seeds and jobs are counted from 1")
@@ -277,17 +318,14 @@ def words():
     given.bridge, given.habit = given.bridge or BRIDGES[0], given.habit or HABITS[0]
     if given.errors == "any" and given.profile != "tilelink":
         asked.error("--errors any stands with --profile tilelink")
-    given.score = Path(given.score).resolve()
     return given
 
 
 def main():
     given = words()
-    wanted = [given.simulator] if given.simulator else SIMULATORS
-    given.simulator = next(filter(shutil.which, wanted), None)
+    wanted, given.simulator = given.simulator, installed(given.simulator)
     if not given.simulator:
-        print(f"no simulator: {' or '.join(wanted)} has to be on PATH", file=sys.stderr)
-        return 4
+        return without_simulator(wanted)
     print(f"{given.simulator}, seeds {given.first} to {given.first + given.runs - 1}", flush=True)
     if given.right:
         print(HEAD, flush=True)

@@ -122,6 +122,8 @@ fn reads_of_many_ids(rt: HostRuntime) -> Result<(), Fail> {
         let more = monitor.ar(&read(0, 0));
         same(&rt, port.name, more, Err(AxiRule::Depth));
         same(&rt, port.name, monitor.outstanding(), all as usize);
+        let ends = (monitor.open_read(0), monitor.open_read(all as usize));
+        same(&rt, port.name, ends, (Some(read(0, 0)), None));
         same(&rt, port.name, answers_reads(&mut monitor, ids, depth), all);
         same(&rt, port.name, monitor.outstanding(), 0);
         let none = monitor.r(&answer(0));
@@ -161,6 +163,8 @@ fn writes_of_one_id(rt: HostRuntime) -> Result<(), Fail> {
     same(&rt, "writes", fills_writes(&mut monitor, 256), (256, 512));
     let more = monitor.aw(&write(0, 0, 1));
     same(&rt, "the 257th", more, Err(AxiRule::Depth));
+    let ends = (monitor.open_write(255), monitor.open_write(256));
+    same(&rt, "the last", ends, (Some(write(0, 255, 2)), None));
     let data = monitor.w(&data(true));
     same(&rt, "data", data, Err(AxiRule::WWithoutAw));
     same(&rt, "answers", answers_writes(&mut monitor, 256), 256);

@@ -10,7 +10,7 @@ use script_text::ScriptFault;
 use std::io;
 use std::io::{ErrorKind, Write};
 use std::test::Fail;
-use tl_messages::{ABeat, DBeat, a_line, d_line};
+use tl_messages::{ABeat, DBeat, a_line, d_line, d_words};
 use world::Answer;
 
 const PUT: ABeat = ABeat {
@@ -92,6 +92,8 @@ fn all_lines<T: Write>(writer: &mut T) -> io::Result<()> {
     a_line(7, &CORRUPT, writer)?;
     d_line(0, &ACK, writer)?;
     d_line(7, &DENIED, writer)?;
+    d_words(0, &ACK, writer)?;
+    writeln!(writer, " at 9")?;
     aw_line(&AW, writer)?;
     w_line(&W, writer)?;
     w_line(&SHORT_W, writer)?;
@@ -107,6 +109,7 @@ const ALL_LINES: &[u8] = b"A 0 0 0 3 5 00000008 ff 1122334455667788 0
 A 7 0 0 0 5 0001000b 08 00000000aa000000 1
 D 0 0 0 3 5 0 0000000000000000 0
 D 7 1 0 12 5 1 0000000000000000 1
+D 0 0 0 3 5 0 0000000000000000 0 at 9
 AW 0 00010008 0 3 1
 W 1122334455667788 ff 1
 W 00000000aa000000 08 0

@@ -1,6 +1,6 @@
 //! A board of each policy: what a text doesn't ask of it.
 use super::{ACK, DATA, GET, PUT, REGION, SEEN, board_set_up, same};
-use axi_beats::ArBeat;
+use axi_beats::{ArBeat, AwBeat};
 use axi_checker::{AxiBeat, AxiRule};
 use burst_plan::{MapFault, Region};
 use scoreboard::{
@@ -25,6 +25,47 @@ fn what_is_left_after_each_beat(rt: HostRuntime) -> Result<(), Fail> {
             let left = (board.outstanding(), board.open_bursts());
             same(&rt, case, left, (*outstanding, *open));
         }
+    }
+    Ok(())
+}
+
+const WRITE: AwBeat = AwBeat {
+    id: 2,
+    address: 0x10008,
+    len: 0,
+    size: 3,
+    burst: 1,
+};
+
+const READ: ArBeat = ArBeat {
+    id: 1,
+    address: 0x10008,
+    len: 0,
+    size: 3,
+    burst: 1,
+};
+
+/// A write and a read under way, a request whose reply is due, and nothing else.
+#[test]
+fn what_has_no_answer(rt: HostRuntime) -> Result<(), Fail> {
+    let setup = board_set_up(REGION).expect(&rt, "room");
+    for policy in POLICIES {
+        let mut board = Scoreboard::new(rt.alloc(), policy, Errors::Strict, &setup)?;
+        for seen in [
+            ObservedBeat::A(1, GET),
+            ObservedBeat::Axi(AxiBeat::Aw(WRITE)),
+            ObservedBeat::Axi(AxiBeat::Ar(READ)),
+        ] {
+            same(&rt, policy, board.judge(&seen)?, None);
+        }
+        same(&rt, policy, board.clients(), 2);
+        let due = [0, 1, 2].map(|client| board.source_due(client, 0));
+        same(&rt, policy, due, [None, Some(GET.source), None]);
+        same(&rt, policy, board.source_due(1, 1), None);
+        let ids = (board.open_write(0), board.open_read(0));
+        same(&rt, policy, ids, (Some(WRITE.id), Some(READ.id)));
+        let more = (board.open_write(1), board.open_read(1));
+        same(&rt, policy, more, (None, None));
     }
     Ok(())
 }
@@ -183,7 +224,7 @@ fn a_port_of_many_ids(rt: HostRuntime) -> Result<(), Fail> {
         same(&rt, policy, board.judge(&read(254))?, deep);
         let far = Some(Wrong::Axi(AxiRule::IdRange));
         same(&rt, policy, board.judge(&read(255))?, far);
-        same(&rt, policy, board.open_bursts(), 16);
+        same(&rt, policy, board.open_bursts(), 17);
     }
     Ok(())
 }

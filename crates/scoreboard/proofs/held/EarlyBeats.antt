@@ -13,46 +13,6 @@ use Rattle.scoreboard.specs.AxiPorts.{bursts_after, wrong_axi}
 use Rattle.scoreboard.specs.declared.Wrong.{Wrong}
 use Rattle.scoreboard.specs.AxiPorts.{PortBoard, Taken, is_early, none_early, after_with_early, wrong_with_early, taken_by, taking, tells_no_write, wrong_first, wrong_in_order}
 
--- ---- nothing is early
-
-module _ (limits : AxiPortLimits) (open_bursts : OpenBursts) where
-  pub aw_wrong : (aw : AwBeat) (fault : Option AxiRule) → (taken_by (none_early limits open_bursts) aw fault).wrong ≡ wrong_axi fault
-  aw_wrong aw None = refl
-  aw_wrong aw (Some broken) = refl
-
-  aw_after : (aw : AwBeat) (fault : Option AxiRule)
-      → record (none_early limits open_bursts) {
-        open_bursts = (taken_by (none_early limits open_bursts) aw fault).open_bursts;
-        early = (taken_by (none_early limits open_bursts) aw fault).early;
-      }
-      ≡ none_early limits (bursts_after open_bursts (OnAw aw) fault)
-  aw_after aw None = refl
-  aw_after aw (Some broken) = refl
-
-  -- nothing is early after a beat that isn't a W beat without a write
-  pub after_as : (beat : AxiBeat) → tells_no_write (wrong_axi (axi_fault limits open_bursts beat)) ≡ false
-      → after_with_early (none_early limits open_bursts) beat
-      ≡ none_early limits (bursts_after open_bursts beat (axi_fault limits open_bursts beat))
-  after_as (OnAw aw) there = aw_after aw (axi_fault limits open_bursts (OnAw aw))
-  after_as (OnW w) there =
-      ap
-      (λ (early : Bool).
-      if early && nat_lt 0 256
-      then record (none_early limits open_bursts) { early = [] ++ w ∷ [] }
-      else none_early limits (bursts_after open_bursts (OnW w) (axi_fault limits open_bursts (OnW w))))
-      there
-  after_as (OnB b) there = refl
-  after_as (OnAr ar) there = refl
-  after_as (OnR r) there = refl
-
--- a W beat without a write changes no burst
-pub unchanged : (open_bursts : OpenBursts) (beat : AxiBeat) (fault : Option AxiRule) → tells_no_write (wrong_axi fault) ≡ true
-    → bursts_after open_bursts beat fault ≡ open_bursts
-unchanged open_bursts beat None none = absurd (cc (none))
-unchanged open_bursts beat (Some broken) none = refl
-
--- ---- a list of early beats
-
 or_associates : (first second third : Option Wrong) → option_or (option_or first second) third ≡ option_or first (option_or second third)
 or_associates None second third = refl
 or_associates (Some wrong) second third = refl
@@ -60,6 +20,38 @@ or_associates (Some wrong) second third = refl
 or_none : (first : Option Wrong) → option_or first None ≡ first
 or_none None = refl
 or_none (Some wrong) = refl
+
+-- ---- nothing is early
+
+module _ (limits : AxiPortLimits) (open_bursts : OpenBursts) where
+  pub aw_wrong : (aw : AwBeat) (fault : Option AxiRule) → (taken_by (none_early limits open_bursts) aw fault).wrong ≡ wrong_axi fault
+  aw_wrong aw fault = or_none (wrong_axi fault)
+
+  aw_after : (aw : AwBeat) (fault : Option AxiRule)
+      → record (none_early limits open_bursts) {
+        open_bursts = (taken_by (none_early limits open_bursts) aw fault).open_bursts;
+        early = (taken_by (none_early limits open_bursts) aw fault).early;
+      }
+      ≡ none_early limits (bursts_after limits open_bursts (OnAw aw) fault)
+  aw_after aw fault = refl
+
+  -- nothing is early after a beat that isn't a W beat without a write
+  pub after_as : (beat : AxiBeat) → tells_no_write (wrong_axi (axi_fault limits open_bursts beat)) ≡ false
+      → after_with_early (none_early limits open_bursts) beat
+      ≡ none_early limits (bursts_after limits open_bursts beat (axi_fault limits open_bursts beat))
+  after_as (OnAw aw) there = aw_after aw (axi_fault limits open_bursts (OnAw aw))
+  after_as (OnW w) there =
+      ap
+      (λ (early : Bool).
+      if early && nat_lt 0 256
+      then record (none_early limits open_bursts) { early = [] ++ w ∷ [] }
+      else none_early limits (bursts_after limits open_bursts (OnW w) (axi_fault limits open_bursts (OnW w))))
+      there
+  after_as (OnB b) there = refl
+  after_as (OnAr ar) there = refl
+  after_as (OnR r) there = refl
+
+-- ---- a list of early beats
 
 -- a list by its first
 by_first : {X : Type 0} (xs : List X) (x : X) → 0 < length xs → x ≡ slice_index_or xs 0 x → xs ≡ x ∷ drop 1 xs
@@ -75,10 +67,10 @@ module _ (limits : AxiPortLimits) (open_bursts : OpenBursts) (beats : List WBeat
 
   -- the first has one: it is taken, and then the others
   pub taking_more : tells_no_write verdict ≡ false → wrong_first first (taking limits open_bursts beats)
-      ≡ wrong_first (option_or first verdict) (taking limits (bursts_after open_bursts (OnW w) (axi_fault limits open_bursts (OnW w))) (drop 1 beats))
+      ≡ wrong_first (option_or first verdict) (taking limits (bursts_after limits open_bursts (OnW w) (axi_fault limits open_bursts (OnW w))) (drop 1 beats))
   taking_more none =
       let goes : tells_no_write (wrong_axi (axi_fault limits open_bursts (OnW w))) ≡ false = ap tells_no_write (sym is) ∙ none in
-      let later = taking limits (bursts_after open_bursts (OnW w) (axi_fault limits open_bursts (OnW w))) (drop 1 beats) in
+      let later = taking limits (bursts_after limits open_bursts (OnW w) (axi_fault limits open_bursts (OnW w))) (drop 1 beats) in
       ap (λ (ws : List WBeat). wrong_first first (taking limits open_bursts ws)) (by_first beats w some there)
       ∙ rw (goes, is) (ap (λ (wrong : Option Wrong). record later { wrong = wrong }) (sym (or_associates first (wrong_axi (axi_fault limits open_bursts (OnW w))) later.wrong)))
 

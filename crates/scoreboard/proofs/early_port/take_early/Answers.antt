@@ -8,7 +8,8 @@ use Rattle.axi_checker.specs.Rules.{AxiPortLimits, axi_fault}
 use Rattle.axi_beats.specs.declared.WBeat.{WBeat}
 use Rattle.scoreboard.specs.AxiPorts.{wrong_axi}
 use Rattle.scoreboard.specs.AxiPorts.{Taken, taking, tells_no_write, wrong_first}
-use Rattle.scoreboard.proofs.held.EarlyBeats.{taking_ends, taking_more, taking_stops, unchanged}
+use Rattle.scoreboard.proofs.held.BackInStep.{unchanged}
+use Rattle.scoreboard.proofs.held.EarlyBeats.{taking_ends, taking_more, taking_stops}
 use Rattle.scoreboard.proofs.early_port.take_early.Goals as goal
 
 -- ---- the first has no write
@@ -27,7 +28,7 @@ returns-then-tells_no_write-clause-bursts c =
     ap tells_no_write (sym c.judge-verdict.ensures.wrong) ∙ sym c.tells_no_write.ensures ∙ c.if-tells_no_write.true in
     c.judge-verdict.ensures.state
     ∙ ap₂ {C = MonitorState} (λ (limits : AxiPortLimits) (bursts : OpenBursts). record { port = limits; open_bursts = bursts }) c.loop-beat.invariant.limits
-    (unchanged c.loop-beat.axi.open_bursts (OnW c.in-Some.beat.now) (axi_fault c.loop-beat.axi.port c.loop-beat.axi.open_bursts (OnW c.in-Some.beat.now)) none
+    (unchanged c.loop-beat.axi.port c.loop-beat.axi.open_bursts c.in-Some.beat.now none
     ∙ sym (ap (λ (t : Taken). t.open_bursts) (stopped c)))
 
 pub returns-then-tells_no_write-clause-early : goal.returns-then-tells_no_write-clause-early

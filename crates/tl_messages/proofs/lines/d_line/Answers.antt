@@ -1,15 +1,14 @@
--- The line is written in two parts; what the format writes of a number is its hexadecimal digits.
-use Rattle.std.proofs.Common.{rules, codes}
-use Rattle.bus_words.proofs.TextLaws.{padded_integral-hex}
-use Rattle.tl_messages.proofs.LineLaws.{Appends-then, front_text, d_rest, d_text-in_parts}
+-- The line is its words and its end.
+use Rattle.std.proofs.Common.{[], ◌∷◌, rules}
+use Rattle.tl_messages.specs.Lines.{d_words}
+use Rattle.tl_messages.proofs.LineLaws.{Appends-then, d_text-ended}
 use Rattle.tl_messages.proofs.lines.d_line.Goals as goal
 
 pub returns : goal.returns
 returns g c =
-    rw (← d_text-in_parts c.args.client c.args.beat.now)
+    rw (← d_text-ended c.args.client c.args.beat.now)
     (Appends-then
-    (g.W.Write.contents c.args.writer.now) (g.W.Write.contents c.write.new.self) (g.W.Write.contents c.writeln.new.self)
-    (front_text (codes "D") c.args.client c.args.beat.now.opcode c.args.beat.now.param c.args.beat.now.size c.args.beat.now.source)
-    (d_rest c.args.beat.now) c.writeln.result
+    (g.W.Write.contents c.args.writer.now) (g.W.Write.contents c.d_words.new.writer) (g.W.Write.contents c.writeln.new.self)
+    (d_words c.args.client c.args.beat.now) (10 ∷ []) c.writeln.result
     (search rules)
-    (rw (← padded_integral-hex 16 c.args.beat.now.payload) (search rules)))
+    (search rules))

@@ -1,5 +1,6 @@
 -- The port is one that a large monitor may have.
-use Rattle.std.proofs.Common.{rules}
+use Rattle.std.proofs.Common.{arith, rules}
+use native.Mathlib.Nat.{mul_left_comm}
 use Rattle.score_setup.specs.ScoreSetups.{limits_of}
 use Rattle.score_setup.proofs.ScoreSetupFaults.{port_of_valid}
 use Rattle.scoreboard.proofs.axi_port.AxiPort.new.Goals as goal
@@ -11,13 +12,16 @@ pub of_any_depth-requires-clause-most_ids : goal.of_any_depth-requires-clause-mo
 of_any_depth-requires-clause-most_ids c = (port_of_valid (limits_of c.args.config.now) c.requires).most_ids
 
 pub of_any_depth-requires-clause-some_depth : goal.of_any_depth-requires-clause-some_depth
-of_any_depth-requires-clause-some_depth c = (port_of_valid (limits_of c.args.config.now) c.requires).some_depth
+of_any_depth-requires-clause-some_depth c = omega (arith, (port_of_valid (limits_of c.args.config.now) c.requires).some_depth)
 
 pub of_any_depth-requires-clause-most_depth : goal.of_any_depth-requires-clause-most_depth
-of_any_depth-requires-clause-most_depth c = (port_of_valid (limits_of c.args.config.now) c.requires).most_depth
+of_any_depth-requires-clause-most_depth c = omega (arith, (port_of_valid (limits_of c.args.config.now) c.requires).most_depth)
 
 pub of_any_depth-requires-clause-most : goal.of_any_depth-requires-clause-most
-of_any_depth-requires-clause-most c = (port_of_valid (limits_of c.args.config.now) c.requires).most
+of_any_depth-requires-clause-most c =
+    let ids = c.args.config.now.ids in
+    let depth = c.args.config.now.depth in
+    omega (arith, mul_left_comm ids 2 depth, (port_of_valid (limits_of c.args.config.now) c.requires).most)
 
 pub returns : goal.returns
 returns c = search rules

@@ -1,0 +1,36 @@
+-- What is written of a command that is carried out: what it finds, and what has no answer.
+use Rattle.std.proofs.Common.{◌≡◌, ◌++◌, ℕ, List, Bool, ◌||◌, Option, refl, subst, ap, ap₂, ◌∙◌}
+use Rattle.std.proofs.lemmas.List.{append_assoc}
+use Rattle.score_script.specs.FindingTexts.{optional_text}
+use Rattle.score_script.specs.Scores.{Score, commanded_score, finds, finds_text, unanswered_by}
+use Rattle.score_script.specs.declared.findings.Finding.{Finding}
+use Rattle.score_script.specs.declared.score.Command.{Command}
+use Rattle.score_script.specs.declared.score.Command.TheVariants as command
+use Rattle.scoreboard.specs.declared.ObservedBeat.TheVariants.{A, D, Axi, Drained}
+use Rattle.score_script.proofs.UnansweredLines.{Wrote, wrote_both}
+
+-- what has no answer is told of the score that is left
+left_text : (score : Score) (number : ℕ) (said : Command) → unanswered_by (commanded_score score number said) number said ≡ (finds score number said).unanswered
+left_text score number (command.Observed (A client beat)) = refl
+left_text score number (command.Observed (D client beat)) = refl
+left_text score number (command.Observed (Axi beat)) = refl
+left_text score number (command.Observed Drained) = refl
+left_text score number (command.Byte address) = refl
+left_text score number command.Withdrawal = refl
+left_text score number command.Answer = refl
+left_text score number (command.Fill address bytes) = refl
+left_text score number (command.Time time) = refl
+left_text score number command.End = refl
+
+-- so both are the text
+pub text_written : (score after : Score) (number : ℕ) (said : Command) (held own : Option Finding) (old between new : Option (List ℕ)) (found left : Bool)
+    → held ≡ (finds score number said).held → own ≡ (finds score number said).own → after ≡ commanded_score score number said
+    → Wrote (optional_text held ++ optional_text own) old between found → Wrote (unanswered_by after number said) between new left → Wrote (finds_text (finds score number said)) old new (found || left)
+text_written score after number said held own old between new found left is_held is_own is_after first second =
+    let own_text = finds score number said in
+    let texts : (optional_text held ++ optional_text own) ++ unanswered_by after number said ≡ finds_text own_text =
+    ap₂ (λ (front back : List ℕ). front ++ back) (ap₂ (λ (one other : Option Finding). optional_text one ++ optional_text other) is_held is_own)
+    (ap (λ (s : Score). unanswered_by s number said) is_after ∙ left_text score number said)
+    ∙ append_assoc (optional_text own_text.held) (optional_text own_text.own) own_text.unanswered in
+    subst (λ (text : List ℕ). Wrote text old new (found || left)) texts
+    (wrote_both (optional_text held ++ optional_text own) (unanswered_by after number said) old between new found left first second)
