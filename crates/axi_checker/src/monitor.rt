@@ -1,9 +1,11 @@
 //! The monitor.
-ghost use Rattle.std.specs.Prelude.{◌≡◌, ℕ, ◌+◌, ◌*◌, ◌∷◌, ◌++◌, ◌<◌, ◌≤◌, None, Some, Ok, Err, IsErr, IsOk, IsSome, IfOk, IfSome, MatchOption, MatchResult, filter, length, option_map, position, sum_by, slice_get};
+ghost use Rattle.std.specs.Prelude.{◌≡◌, ℕ, ◌+◌, ◌*◌, ◌∷◌, ◌++◌, ◌<◌, ◌≤◌, None, Some, Ok, Err, IsErr, IsOk, IsSome, IfOk, IfSome, MatchOption, MatchResult, filter, is_some, length, option_map, position, sum_by, slice_get};
 ghost use Rattle.axi_beats.specs.Bursts.{IsLegal};
 ghost use Rattle.axi_beats.specs.Responses.{is_exokay};
 ghost use Rattle.axi_beats.specs.Transfers.{IsBusWidth};
 ghost use Rattle.axi_checker.specs.Forced.{forced};
+ghost use Rattle.bus_words.specs.Lanes.{has_lane};
+ghost use Rattle.axi_checker.specs.ReadLanes.{covers_next};
 ghost use Rattle.axi_checker.specs.OpenBursts.{lacks_data, nothing_open, oldest_read, oldest_write, open_after, open_count, read_of_id, write_of_id, write_to_fill};
 ghost use Rattle.axi_checker.specs.declared.AxiBeat.TheVariants.{Ar as OnAr, Aw as OnAw, B as OnB, R as OnR, W as OnW};
 ghost use Rattle.axi_checker.specs.Order.{lasts_from, read_given, reads_asked, reads_owe, writes_lack};
@@ -328,6 +330,16 @@ impl<R: Rooms> Monitor<R> {
     {
         let (_, read) = self.reads.oldest(id)?;
         Some(read.ar)
+    }
+
+    /// The lanes of the transfer that the next R beat of an ID is, bit k for lane k: of the oldest outstanding read of the ID, if
+    /// there is one (AXI4, A3.4.1, and A5, transaction ordering).
+    pub fn read_lanes(&self, id: u8) -> Option<u8>
+        ensures some { is_some result ≡ is_some (oldest_read id self.now.open_bursts) }
+        ensures lanes { IfSome result (λ lanes. (lane : ℕ) → lane < 8 → has_lane lanes lane ≡ covers_next self.now.port.bus_bytes (oldest_read id self.now.open_bursts) lane) }
+    {
+        let (_, read) = self.reads.oldest(id)?;
+        Some(self.limits.next_lanes(read))
     }
 
     /// The address of an outstanding write by its place, the oldest first.

@@ -1,16 +1,18 @@
 //! The rules on a beat, each table in its order of tests (AXI4, and this project's profile).
-ghost use Rattle.std.specs.Prelude.{◌≡◌, ◌+◌, ◌*◌, ◌<◌, ◌≤◌, ◌==◌, None, Some, IfSome, IsSome, IsTrue};
+ghost use Rattle.std.specs.Prelude.{◌≡◌, ℕ, ◌+◌, ◌*◌, ◌<◌, ◌≤◌, ◌==◌, None, Some, IfSome, IsSome, IsTrue};
 ghost use Rattle.axi_beats.specs.Boxes.{aw_of, w_beats_of};
 ghost use Rattle.axi_beats.specs.Bursts.{IsLegal, strobes_fit};
 ghost use Rattle.axi_beats.specs.Transfers.{fits_bus, IsBusWidth};
+ghost use Rattle.bus_words.specs.Lanes.{has_lane};
 ghost use Rattle.bus_words.specs.Tables.{first_broken};
 ghost use Rattle.axi_checker.specs.Forced.{may_open};
 ghost use Rattle.axi_checker.specs.Monitors.{first_data_fault};
 ghost use Rattle.axi_checker.specs.OpenBursts.{OpenBursts, lacks_data, write_to_fill};
+ghost use Rattle.axi_checker.specs.ReadLanes.{covers_next};
 ghost use Rattle.axi_checker.specs.Rules.{address_of_read, address_of_write, address_rules, burst_fault, data_rules, len_of, outstanding_beside, id_of};
 
 use crate::AxiRule;
-use crate::outstanding::OpenWrite;
+use crate::outstanding::{OpenRead, OpenWrite};
 use axi_beats::{ArBeat, AwBeat, BurstBox, WBeat, lanes_of, last_byte};
 use bus_words::lanes_between;
 use std::marker::Model;
@@ -230,6 +232,22 @@ impl PortLimits {
             return Some(AxiRule::WLast);
         }
         None
+    }
+
+    /// The lanes of the transfer that a read's next R beat is, bit k for lane k.
+    pub(crate) fn next_lanes(self, read: OpenRead) -> u8
+        requires bus { IsBusWidth self.bus_bytes }
+        requires size { IsTrue (fits_bus self.bus_bytes read.ar.size) }
+        requires more { read.came ≤ read.ar.len }
+        ensures { (lane : ℕ) → lane < 8 → has_lane result lane ≡ covers_next self.bus_bytes (Some read) lane }
+    {
+        let (lowest, highest) = lanes_of(
+            read.ar.address,
+            read.ar.size,
+            read.came + 1,
+            self.bus_bytes,
+        );
+        lanes_between(lowest, highest)
     }
 
     /// The first rule that the W beats of a box break as those of a write, each after those before it.

@@ -124,10 +124,12 @@ fn reads_of_many_ids(rt: HostRuntime) -> Result<(), Fail> {
         same(&rt, port.name, monitor.outstanding(), all as usize);
         let ends = (monitor.open_read(0), monitor.open_read(all as usize));
         same(&rt, port.name, ends, (Some(read(0, 0)), None));
+        same(&rt, port.name, monitor.read_lanes(0), Some(0xff));
         same(&rt, port.name, answers_reads(&mut monitor, ids, depth), all);
         same(&rt, port.name, monitor.outstanding(), 0);
         let none = monitor.r(&answer(0));
         same(&rt, port.name, none, Err(AxiRule::RWithoutRead));
+        same(&rt, port.name, monitor.read_lanes(0), None);
     }
     Ok(())
 }
