@@ -48,7 +48,7 @@ Numbers are natural numbers without a bound, lists are lists, and `Option` is Ru
 | ready | of a request: its next burst may be sent now |
 | work | how many steps bridge and memory have left to make: bursts to send, beats to perform, answers to come |
 | begin, whole | of a request, for the scoreboard: it begins with its first beat on channel A, and is whole with its last; in real time it is in flight from its first beat to its reply's last, or to its own last, if that comes later |
-| due | of a reply, for the scoreboard: its request was accepted (by `errors any`: has begun), and its whole reply wasn't observed |
+| due | of a reply, for the scoreboard: its request was accepted (by `errors any`: has begun), and it isn't over: it wasn't observed whole, nor did it end early |
 | word | the eight bytes of a payload, or those at an address that is a multiple of eight; in a script what stands between spaces; in `threads` also a number by which a memory thread chooses its next step |
 | worker, turn, gate | a worker is a client's thread or a memory thread; a turn is what it does while it holds the lock once; a gate is what a caller of `run_threads` gives, to hold workers up or let them pass |
 | history, receipt, report | a history is the steps that changed a world, in order; a receipt is a reply as a client's thread got it; a report is a history with the receipts that it gives |

@@ -107,6 +107,8 @@ class Counts:
                 {"D": self.take_d, "AW": self.open, "AR": self.open, "B": self.answered, "R": self.answered}[words[0]](number, words)
             elif words[:2] == ["=", "drained"]:
                 self.bursts = {"W": [], "R": []}
+            elif words[:2] == ["=", "reset"]:
+                self.reset()
             elif words[0] == "fill":
                 self.fill(int(words[1], 16), words[2:])
         if held:
@@ -165,6 +167,14 @@ class Counts:
 
     def footprints(self):
         return [it.footprint for client in self.clients for it in client.flights()] + [client.coming for client in self.clients]
+
+    def reset(self):
+        """What had begun is gone, and what it may have written isn't known."""
+        for footprint in self.footprints():
+            if footprint.writes:
+                self.written.update(dict.fromkeys(footprint.span, True))
+        self.clients = [Client() for _ in self.clients]
+        self.bursts = {"W": [], "R": []}
 
     # ---- channel A
 
@@ -245,12 +255,15 @@ class Counts:
         if int(words[1]) >= len(self.clients):
             return
         client, source = self.clients[int(words[1])], int(words[5])
-        flight = client.begun or next((it for it in client.due if it.source == source), None)
+        due = next((it for it in client.due if it.source == source), None)
+        flight = client.begun or due
         if flight is None:
             if client.early == source:
                 client.early = None
             return
         self.count(flight)
+        if client.begun and due and client.begun.source != source:  # it ended early, and is over with the first beat of another
+            client.begun, flight = None, due
         if client.begun is None:
             client.due.remove(flight)
             client.begun = flight
@@ -268,7 +281,7 @@ class Counts:
         told = [it for it in footprint.span if (it >> 3) - (footprint.at >> 3) == k]
         self.told += len(told)
         if not self.real_time:
-            self.compared += len([it for it in told if not (footprint.reads and it not in footprint.sure)])
+            self.compared += len([it for it in told if due.corrupt or not (footprint.reads and it not in footprint.sure)])
         elif not due.corrupt and not footprint.failed:
             self.compared += len([it for it in told if it in footprint.sure])
 

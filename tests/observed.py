@@ -4,7 +4,7 @@ It keeps every reading of what each client was told that is still possible; wher
 
 from dataclasses import dataclass, field, replace
 
-from model import GET, INTENT, LOGICAL, PUT_PARTIAL, Memory
+from model import GET, INTENT, LOGICAL, PUT_FULL, PUT_PARTIAL, Memory
 
 from client import beats_of  # model.py says where it stands
 from random_bench import full_mask
@@ -31,9 +31,23 @@ class Told:
         ended = self.came + 1 == len(replies[number])
         return Told(self.due - {number}) if ended else Told(self.due, number, self.came + 1)
 
-    def after(self, beat, replies):
-        """The readings that a beat on channel D leaves."""
-        return (self.step(it, replies) for it in self.open() if replies[it][self.came] == beat)
+    def with_wrong(self, source, replies):
+        """The readings by which a wrong beat of a source counts: as the one of its source that was due, if one was; else as the first
+        of the reply to another request, if that is of its source, and the reply that had begun is over."""
+        own = [it for it in self.open() if replies[it][self.came].source == source]
+        if own:
+            return [self.step(it, replies) for it in own]
+        others = Told(self.due - {self.begun})
+        return [others.step(it, replies) for it in others.due if replies[it][0].source == source]
+
+    def after(self, beat, replies, hidden):
+        """The readings that a beat on channel D leaves, where these bits of each reply aren't known."""
+        return (self.step(it, replies) for it in self.open() if is_shown(replies[it][self.came], beat, hidden[it][self.came]))
+
+
+def is_shown(due, beat, hidden):
+    """Whether a beat is the one that is due, but for these bits of its payload."""
+    return replace(due, payload=due.payload & ~hidden) == replace(beat, payload=beat.payload & ~hidden)
 
 
 @dataclass
@@ -76,19 +90,30 @@ class Side:
 
 
 class Observation:
-    """Beats are taken in the order observed. One that can't be right is left out, but that of a due reply counts as come, and so does
-    write data; and an address opens its burst if its transfers fit the bus, and fewer than twice the depth are open of its ID."""
+    """Beats are taken in the order observed. One that can't be right is left out, but that of a due reply counts as come, and a reply
+    that ended early is over with the first beat of another; so does write data count; and an address opens its burst if its
+    transfers fit the bus, and fewer than twice the depth are open of its ID."""
 
     def __init__(self, setup, levels):
         self.setup, self.memory = setup, Memory(setup)
         self.clients = [Client(it) for it in levels]
         self.replies = []  # of each accepted request
+        self.hidden = []  # the bits of their beats that aren't known
+        self.writes_at = []  # the bytes that each may write
+        self.doubts = set()  # the bytes that aren't known
         self.writes, self.reads = Side(), Side()
         self.taken = 0
 
     def drained(self):
         """AXI4 beats went unseen, the last of every burst among them: both sides are as at the start."""
         self.writes, self.reads = Side(), Side()
+
+    def reset(self):
+        """What had begun is gone, and nobody knows what a request in flight may have written."""
+        for it in self.clients:
+            self.doubts.update(*(self.writes_at[number] for told in it.readings for number in told.due))
+            it.message, it.readings = (), frozenset({Told(frozenset())})
+        self.drained()
 
     def is_right(self, channel, beat, client=None):
         """Takes a beat, and answers whether it can be right."""
@@ -120,22 +145,29 @@ class Observation:
         if len(message) == beats_of(beat.size, beat.opcode < GET):
             it.message = ()
             number = len(self.replies)
-            self.replies.append(self.memory.carry_out(client, message))
+            self.accept(client, message)
             it.readings = frozenset(replace(told, due=told.due | {number}) for told in it.readings)
         return True
 
+    def accept(self, client, message):
+        """Carries out a request. What an atomic makes of bytes that aren't known isn't known, and what a Put gives is."""
+        first, at = message[0], self.setup.place(message)
+        is_put, reads_alone = first.opcode in (PUT_FULL, PUT_PARTIAL), first.opcode in (GET, INTENT)
+        span = range(at, at + 2**first.size) if at is not None and self.setup.pages.get(at >> 12) == "good" else range(0)
+        unknown = set() if is_put else self.doubts & set(span)
+        reply = self.memory.carry_out(client, message)
+        self.replies.append(reply)
+        self.hidden.append([hidden_of(due, k, unknown, span) for k, due in enumerate(reply)])
+        self.writes_at.append(set() if reads_alone else set(span))
+        given = set() if reads_alone else {x for x in span if not is_put or message[x // 8 - span[0] // 8].mask >> x % 8 & 1}
+        self.doubts = self.doubts | given if unknown else self.doubts - given
+
     def tells(self, it, client, beat):
-        readings = frozenset(after for told in it.readings for after in told.after(beat, self.replies))
+        readings = frozenset(after for told in it.readings for after in told.after(beat, self.replies, self.hidden))
         if readings:
             it.readings = readings
             return True
-        # It counts as the beat of its source that was due, if one was.
-        counted = (
-            told.step(number, self.replies)
-            for told in it.readings
-            for number in told.open()
-            if self.replies[number][told.came].source == beat.source
-        )
+        counted = (after for told in it.readings for after in told.with_wrong(beat.source, self.replies))
         it.readings = frozenset(counted) or it.readings
         return False
 
@@ -179,6 +211,13 @@ class Observation:
         if mine[0].came > mine[0].len:
             self.reads.bursts.remove(mine[0])
         return True
+
+
+def hidden_of(due, k, unknown, span):
+    """The bits of beat k of a reply that tell of bytes that aren't known."""
+    if due.opcode != 1 or due.corrupt:
+        return 0
+    return sum(0xFF << 8 * (x % 8) for x in unknown if x // 8 - span[0] // 8 == k)
 
 
 def is_spelled(message, level, largest):

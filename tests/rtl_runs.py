@@ -1,10 +1,10 @@
 """The bridges in RTL under a simulator: the first one, in front of each memory, isn't found wrong, and each fault that is planted in
-it is told, by both profiles; the other one, whose Puts are seen as their beats come, isn't found wrong by what TileLink asks where
-no access fails. Then 20 runs of both as they are, as run.py --right makes them, in front of the memory too whose good pages fail by
-lot: none is found wrong, and those of the second one do what they are to show. By errors strict what fails so is found wrong. All of
-it once where the memory begins with zeros, and once where it begins with bytes that nobody told tlscore; these are found wrong where
-the set-up has zeros. Before them the stored runs, of which each shows a fault, are simulated anew and judged. Where there is no
-simulator these are judged alone, and that is said.
+it is told, by both profiles; the other one, whose Puts are seen as their beats come, isn't found wrong by what TileLink asks
+where no access fails. Then 20 runs of both as they are, as run.py --right makes them, in front of the memory too whose good pages
+fail by lot, and 20 more in which all is reset twice: none is found wrong, and those of the second one do what they are to show.
+By errors strict what fails so is found wrong. All of it once where the memory begins with zeros, and once where it begins with
+bytes that nobody told tlscore; these are found wrong where the set-up has zeros. Before them the stored runs, of which each shows
+a fault, are simulated anew and judged. Where there is no simulator these are judged alone, and that is said.
 
     python3 tests/rtl_runs.py TLSCORE [--right N]
 """
@@ -25,6 +25,7 @@ import runs
 
 
 SOURCES, IDS, AT_ONCE = 2 * 16, 8, 4  # of both clients; of both sides; at the least
+RESETS = 2
 
 
 def blamed(pages):
@@ -42,8 +43,9 @@ def planted(pages):
 
 
 def plan_of(pages, right):
-    """A run of each testbench, and so many runs of the right ones."""
-    return [(bench, [1]) for bench in (*planted(pages), *blamed(pages))] + run.right_plan(range(1, right + 1), pages)
+    """A run of each testbench, and so many runs of the right ones, and as many in which all is reset twice."""
+    plan = run.right_plan(range(1, right + 1), pages)
+    return [(bench, [1]) for bench in (*planted(pages), *blamed(pages))] + plan + run.with_resets(plan, RESETS)
 
 
 def idle(traffic):
@@ -79,7 +81,8 @@ def cases(asked):
 
 def name_of(bench):
     asked = bench.asked
-    return f"{bench.device} in RTL, by profile {asked.profile} and errors {asked.errors}, {asked.pages} pages"
+    resets = f", reset {bench.resets} times" if bench.resets else ""
+    return f"{bench.device} in RTL, by profile {asked.profile} and errors {asked.errors}, {asked.pages} pages{resets}"
 
 
 def main():

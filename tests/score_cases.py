@@ -41,6 +41,47 @@ BY_EACH = {
         D 0 0 0 3 5 0 0 1 -> reply 6 CORRUPT expected D 0 0 0 3 5 0 0000000000000000 0
         -> outstanding 0 open 0
         """,
+    "a reply that ends early is over with the first beat of another, and its source may ask again": """
+        A 0 4 0 4 1 0 ff 0 0
+        A 0 4 0 3 2 0 ff 0 0
+        D 0 1 0 4 1 0 0 0
+        D 0 1 0 3 2 0 0 0 -> reply 2 INTERLEAVED expected D 0 1 0 4 1 0 0000000000000000 0
+        A 0 4 0 4 1 0 ff 0 0
+        D 0 1 0 4 1 0 0 0
+        D 0 1 0 4 1 0 0 0
+        A 0 4 0 3 2 0 ff 0 0
+        D 0 1 0 3 2 0 0 0
+        -> outstanding 0 open 0
+        """,
+    "two replies that end early, one after another, and a third that is whole": """
+        A 0 4 0 4 1 0 ff 0 0
+        A 0 4 0 5 2 20 ff 0 0
+        A 0 4 0 4 3 0 ff 0 0
+        D 0 1 0 4 1 0 0 0
+        D 0 1 0 5 2 0 0 0 -> reply 2 INTERLEAVED expected D 0 1 0 4 1 0 0000000000000000 0
+        D 0 1 0 5 2 0 0 0
+        D 0 1 0 4 3 0 0 0 -> reply 2 INTERLEAVED expected D 0 1 0 5 2 0 0000000000000000 0
+        D 0 1 0 4 3 0 0 0
+        D 0 1 0 4 1 0 0 0 -> reply 1 UNASKED
+        -> outstanding 0 open 0
+        """,
+    "a beat of a source that asked for nothing ends no reply": """
+        A 0 4 0 4 1 0 ff 0 0
+        A 0 4 0 3 2 0 ff 0 0
+        D 0 1 0 4 1 0 0 0
+        D 0 1 0 3 3 0 0 0 -> reply 2 INTERLEAVED expected D 0 1 0 4 1 0 0000000000000000 0
+        D 0 1 0 4 1 0 0 0
+        D 0 1 0 3 2 0 0 0
+        -> outstanding 0 open 0
+        """,
+    "the first beat of another reply may be wrong by itself, and counts all the same": """
+        A 0 4 0 4 1 0 ff 0 0
+        A 0 0 0 3 2 8 ff 1122334455667788 0
+        D 0 1 0 4 1 0 0 0
+        D 0 1 0 3 2 0 0 0 -> reply 2 INTERLEAVED expected D 0 1 0 4 1 0 0000000000000000 0
+        D 0 0 0 3 2 0 0 0 -> reply 1 UNASKED
+        -> outstanding 0 open 0
+        """,
     "strobes, last beats and data that break a rule, and bursts that stay open": """
         AW 0 10003 1 2 1
         W 0 10 0 -> axi 7 STROBE
@@ -70,6 +111,64 @@ BY_EACH = {
         B 0 OKAY
         -> outstanding 1 open 1
         """,
+    "a reset: replies, bursts and messages that had begun are gone, and sources are free": """
+        A 0 0 0 3 5 8 ff 1122334455667788 0
+        A 0 4 0 4 6 20 ff 0 0
+        D 0 1 0 4 6 0 0 0
+        AW 0 10008 0 3 1
+        AR 3 10000 1 3 1
+        A 1 0 0 4 1 30 ff 1 0
+        = reset
+        D 0 1 0 4 6 0 0 0 -> reply 1 UNASKED
+        B 0 OKAY -> axi 9 B_WITHOUT_WRITE
+        R 3 0 OKAY 0 -> axi 10 R_WITHOUT_READ
+        A 0 4 0 3 5 20 ff 0 0
+        A 1 4 0 3 1 28 ff 0 0
+        D 0 1 0 3 5 0 0 0
+        D 1 1 0 3 1 0 0 0
+        -> outstanding 0 open 0
+        """,
+    "what a Put may have written that was in flight at a reset isn't compared until it is given again": """
+        A 0 0 0 3 5 8 ff 1122334455667788 0
+        = reset
+        A 1 4 0 3 7 8 ff 0 0
+        D 1 1 0 3 7 0 123456789abcdef0 0
+        A 0 1 0 3 5 8 f 55667788 0
+        D 0 0 0 3 5 0 0 0
+        A 1 4 0 3 7 8 ff 0 0
+        D 1 1 0 3 7 0 ffffffff55667789 0 -> reply 7 PAYLOAD expected D 1 1 0 3 7 0 1122334455667788 0
+        -> outstanding 0 open 0
+        """,
+    "an atomic that was in flight at a reset, and one behind it": """
+        A 0 2 4 3 5 8 ff 1 0
+        = reset
+        A 1 4 0 3 7 8 ff 0 0
+        D 1 1 0 3 7 0 ffffffffffffffff 0
+        A 0 2 4 3 5 8 ff 1 0
+        D 0 1 0 3 5 0 eeeeeeeeeeeeeeee 0
+        A 1 4 0 3 7 8 ff 0 0
+        D 1 1 0 3 7 0 dddddddddddddddd 0
+        A 1 4 0 3 7 20 ff 0 0
+        D 1 1 0 3 7 0 1 0 -> reply 7 PAYLOAD expected D 1 1 0 3 7 0 0000000000000000 0
+        -> outstanding 0 open 0
+        """,
+    "what was acknowledged before a reset is seen behind it": """
+        A 0 0 0 3 5 8 ff 1122334455667788 0
+        D 0 0 0 3 5 0 0 0
+        = reset
+        A 1 4 0 3 7 8 ff 0 0
+        D 1 1 0 3 7 0 0 0 -> reply 7 PAYLOAD expected D 1 1 0 3 7 0 1122334455667788 0
+        -> outstanding 0 open 0
+        """,
+    "a beat straight ahead of a reset was taken": """
+        A 0 0 0 2 5 8 0f 55667788 0
+        = reset now
+        mem 10008 -> = mem 88
+        = reset again
+        A 1 4 0 2 7 8 0f 0 0
+        D 1 1 0 2 7 0 12345678 0
+        -> outstanding 0 open 0
+        """,
     "a request and a reply of a client that isn't there": """
         D 2 0 0 3 5 0 0 0 -> client 1 NO_CLIENT
         A 2 4 0 3 5 8 ff 0 0 -> client 1 NO_CLIENT
@@ -95,12 +194,20 @@ STORED = (
     "reply-twice",
     "reply-too-early",
     "replies-interleaved",
+    "reply-cut-short",
     "source-busy",
     "beats-swapped",
     "bad-word",
 )
 
 BY_BRIDGE = {
+    "a message that had begun at a reset has done nothing": """
+        A 1 0 0 4 1 20 ff 1 0
+        = reset
+        A 1 4 0 3 1 20 ff 0 0
+        D 1 1 0 3 1 0 1 0 -> reply 7 PAYLOAD expected D 1 1 0 3 1 0 0000000000000000 0
+        -> outstanding 0 open 0
+        """,
     "write data before their address": """
         W 1122334455667788 ff 1 -> axi 6 W_WITHOUT_AW
         AW 0 10008 0 3 1
@@ -121,6 +228,26 @@ BY_BRIDGE = {
 }
 
 BY_TILELINK = {
+    "a Put that had begun at a reset may have written each of its bytes": """
+        A 1 0 0 4 1 20 ff 1 0
+        = reset
+        A 1 4 0 3 1 20 ff 0 0
+        A 1 4 0 3 2 28 ff 0 0
+        A 1 4 0 3 3 30 ff 0 0
+        D 1 1 0 3 1 0 1 0
+        D 1 1 0 3 2 0 2 0
+        D 1 1 0 3 3 0 3 0 -> reply 7 PAYLOAD expected D 1 1 0 3 3 0 0000000000000000 0
+        -> outstanding 0 open 0
+        """,
+    "data that are early at a reset are gone": """
+        W 1 ff 1
+        = reset
+        AW 0 10000 0 3 1
+        B 0 OKAY -> axi 9 B_WITHOUT_WRITE
+        W 2 ff 1
+        B 0 OKAY
+        -> outstanding 0 open 0
+        """,
     # Puts that race with Gets: bytes that a Put in flight may write are read before it or after it.
     "a Get beside a Put in flight reads what was there, or what is put": """
         A 0 0 0 3 5 8 ff 1122334455667788 0
@@ -649,6 +776,9 @@ INPUTS = {
     "pages past the last number": f"{CONFIG}\npage ffffffff 2 good -> fault at word 1",
     "a line of no page": f"{CONFIG}\npage 10 0 good -> fault at word 3",
     "a line of more pages than there are": f"{CONFIG}\npage 0 1048577 good -> fault at word 3",
+    "a reset behind the end": f"{SETUP}\n= end\n= reset -> fault at word 1",
+    "a reset behind the set-up, and a fill behind it": f"{SETUP}\n= reset\nfill 10000 0 -> fault at word 1",
+    "a reset among set-up lines is the first line behind them": f"{SETUP}\n= reset\nprofile bridge -> fault at word 1",
     "places before the config line": f"axi strict -> fault at word 1\n{CONFIG}",
     "places a second time": f"{SETUP}\naxi strict\naxi strict -> fault at word 1",
     "places behind a beat": f"{SETUP}\n{PUT}\naxi strict -> fault at word 1",

@@ -88,6 +88,8 @@ def judged(lines):
         held = None
         if answer == "drained":
             board.drained()
+        elif answer == "reset":
+            board.reset()
         elif words[0] == "A":
             held = number, words
         elif words[0] in KINDS:
@@ -115,20 +117,20 @@ def answered(program, lines):
 
 
 def changed(rng, lines, first):
-    """Lines with one of their beats changed, left out, written twice or moved, or said to come after a drain, or with an answer
-    between two of them."""
+    """Lines with one of their beats changed, left out, written twice or moved, or said to come after a drain or a reset, or with an
+    answer between two of them."""
     lines = list(lines)
     places = [at for at in range(first, len(lines)) if lines[at].split()[:1] and lines[at].split()[0] in KINDS]
     at = rng.choice(places)
-    kind = rng.randrange(7)
+    kind = rng.randrange(8)
     if kind == 6:
         lines.insert(rng.randrange(first, len(lines) + 1), f"= {rng.choice((*WITHDRAWN, 'more', 'accepted 0'))}")
     elif kind == 0:
         del lines[at]
     elif kind == 1:
         lines.insert(at, lines[at])
-    elif kind == 3:
-        lines.insert(at, "= drained 1")
+    elif kind in (3, 7):
+        lines.insert(at, "= drained 1" if kind == 3 else "= reset")
     elif kind == 2:
         line = lines.pop(at)
         lines.insert(min(len(lines), at + rng.randrange(1, 6)), line)
@@ -170,6 +172,9 @@ class Lot:
         if rng.random() < 0.002:
             self.board.drained()
             return "= drained 9"
+        if rng.random() < 0.002:
+            self.board.reset()
+            return "= reset"
         kind = rng.randrange(100)
         line = self.a() if kind < 35 else self.d() if kind < 65 else self.axi()
         if rng.random() < 0.03:

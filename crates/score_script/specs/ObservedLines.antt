@@ -162,7 +162,8 @@ is_withdrawal word =
 
 -- ---- commands
 
--- an answer, by the word after `=`: it withdraws the beat before it, says that AXI beats went unobserved, or that the observation is over, or is another
+-- an answer, by the word after `=`: it withdraws the beat before it, says that AXI beats went unobserved, that the bridge was reset, or that the observation
+-- is over, or is another
 abbrev pub answer_command : List ℕ → Command
 answer_command word =
     if is_withdrawal word
@@ -170,7 +171,7 @@ answer_command word =
     else
     (if bytes_eq word (codes "drained")
     then command.Observed seen.Drained
-    else (if bytes_eq word (codes "end") then command.End else command.Answer))
+    else (if bytes_eq word (codes "reset") then command.Reset else (if bytes_eq word (codes "end") then command.End else command.Answer)))
 
 -- whether a line is an answer
 abbrev pub is_answer : List (List ℕ) → Bool

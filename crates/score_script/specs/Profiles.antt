@@ -13,6 +13,7 @@ use Rattle.scoreboard.specs.declared.Errors.TheVariants.{Any, Strict}
 use Rattle.scoreboard.specs.declared.Policy.{Policy}
 use Rattle.scoreboard.specs.declared.Policy.TheVariants.{AcceptanceOrder, RealTime}
 use Rattle.scoreboard.specs.Filling.{filled_on}
+use Rattle.scoreboard.specs.Resets.{reset_on}
 use Rattle.scoreboard.specs.Telling.{telling_of}
 use Rattle.scoreboard.specs.declared.ObservedBeat.{ObservedBeat}
 use Rattle.scoreboard.specs.declared.tellings.Telling.{Telling}
@@ -120,6 +121,10 @@ wrong_in judge seen = wrong_at judge.policy judge.board seen
 -- the board whose memory began with these bytes from an address on
 abbrev pub filled_in : PolicyBoard → ℕ → List ℕ → PolicyBoard
 filled_in judge address bytes = record judge { board = filled_on judge.board address bytes }
+
+-- the board where the bridge is reset
+abbrev pub reset_in : PolicyBoard → PolicyBoard
+reset_in judge = record judge { board = reset_on judge.board }
 
 -- whether it may have: whether they are all on good pages
 abbrev pub can_fill_in : PolicyBoard → ℕ → List ℕ → Bool

@@ -4,7 +4,7 @@ use Rattle.std.specs.Option.{option_or}
 use Rattle.score_script.specs.FindingTexts.{last_text, optional_text}
 use Rattle.score_script.specs.UnansweredTexts.{unanswered_text}
 use Rattle.score_script.specs.ObservedLines.{command_of, only_settles}
-use Rattle.score_script.specs.Profiles.{PolicyBoard, after_seen, bursts_open, byte_in, can_fill_in, errors_of, filled_in, nothing_asked, opening_board, own_line, policy_of, replies_open, telling_in, wrong_in}
+use Rattle.score_script.specs.Profiles.{PolicyBoard, after_seen, bursts_open, byte_in, can_fill_in, errors_of, filled_in, nothing_asked, opening_board, own_line, policy_of, replies_open, reset_in, telling_in, wrong_in}
 use Rattle.score_script.specs.declared.findings.Finding.{Finding}
 use Rattle.score_script.specs.declared.findings.Finding.TheVariants as finding
 use Rattle.score_script.specs.declared.findings.Line.{Line}
@@ -159,6 +159,14 @@ unanswered_by score number _ = []
 abbrev pub ended_score : Score → Score
 ended_score score = record score { ended = true; wrong = wrong_at_end score }
 
+-- the score where the bridge is reset
+abbrev pub reset_score : Score → Score
+reset_score score = record score { board = reset_in score.board }
+
+-- the held beat was judged, and then the bridge is reset
+abbrev pub reset_behind : Option Finding × Score → Finds
+reset_behind settled = record (settled_alone settled) { after = reset_score settled.1 }
+
 -- the held beat was judged, and the observation is over
 abbrev pub over : Option Finding × Score → ℕ → Finds
 over settled number =
@@ -173,6 +181,7 @@ finds score number command.Withdrawal = finds_nothing (record score { held = Non
 finds score number command.Answer = settled_alone (settling score)
 finds score number (command.Fill address bytes) = finds_nothing (record score { board = filled_in score.board address bytes })
 finds score number (command.Time time) = record (settled_alone (settling score)) { after = record (settling score).1 { time = Some time } }
+finds score number command.Reset = reset_behind (settling score)
 finds score number command.End = over (settling score) number
 
 -- whether nothing but fillings was said yet, after a command; answers play no part
@@ -190,10 +199,11 @@ wrong_fill score address bytes = if not score.begins then Some 1 else (if can_fi
 abbrev pub wrong_behind : Score → Option ℕ
 wrong_behind score = if score.ended then Some 1 else None
 
--- the wrong word of a command, if it may not stand: behind the end nothing is observed, and all others may stand
+-- the wrong word of a command, if it may not stand: behind the end nothing is observed, nor is anything reset, and all others may stand
 abbrev pub wrong_command : Score → Command → Option ℕ
 wrong_command score (command.Fill address bytes) = wrong_fill score address bytes
 wrong_command score (command.Observed seen) = wrong_behind score
+wrong_command score command.Reset = wrong_behind score
 wrong_command score command.End = wrong_behind score
 wrong_command score _ = None
 

@@ -218,6 +218,9 @@ fn answer_command(word: &[u8]) -> Command
     if word == b"drained".as_slice() {
         return Command::Observed(ObservedBeat::Drained);
     }
+    if word == b"reset".as_slice() {
+        return Command::Reset;
+    }
     if word == b"end".as_slice() {
         return Command::End;
     }

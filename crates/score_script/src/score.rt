@@ -6,7 +6,7 @@ ghost use Rattle.score_setup.specs.ScoreSetups.{lists_of, ranges_of, score_setup
 ghost use Rattle.setups.specs.declared.SetupFault.TheVariants.{NoMemory};
 ghost use Rattle.score_script.specs.Profiles.{filled_in};
 ghost use Rattle.score_script.specs.declared.profiles.Asked.{Asked};
-ghost use Rattle.score_script.specs.Scores.{FailsBy, begins_after, commanded, commanded_score, unanswered_by, wrong_command, wrong_fill, beats_judged, client_of, closing, counted, ended_score, finds, judging, line_at, misplaced_in, observing, opening_score, settling, with_more, wrong_behind};
+ghost use Rattle.score_script.specs.Scores.{FailsBy, begins_after, commanded, commanded_score, unanswered_by, wrong_command, wrong_fill, beats_judged, client_of, closing, counted, ended_score, finds, judging, line_at, misplaced_in, observing, opening_score, reset_score, settling, with_more, wrong_behind};
 ghost use Rattle.score_script.specs.ScoreStates.{score_of};
 ghost use Rattle.score_script.specs.FindingTexts.{WritesText};
 
@@ -41,6 +41,8 @@ pub(crate) enum Command {
     Fill(u32, FillBytes),
     /// What is observed from there on is of this time.
     Time(u64),
+    /// The bridge was reset, with all that is connected to it.
+    Reset,
     /// The observation is over: all that was asked has its answer.
     End,
 }
@@ -271,6 +273,18 @@ impl Score {
         self.judge(line, seen, &mut findings.own)
     }
 
+    /// The held beat is judged, and then the board is reset. The one error is that memory was refused.
+    fn reset(&mut self, findings: &mut Findings) -> Result<(), AllocError>
+        ensures held { OnOk result (findings.new.held ≡ (settling (score_of self.old)).0) }
+        ensures own { OnOk result (findings.new.own ≡ None) }
+        ensures state { OnOk result (score_of self.new ≡ reset_score (settling (score_of self.old)).1) }
+    {
+        self.settle(&mut findings.held)?;
+        findings.own = None;
+        self.board.reset();
+        Ok(())
+    }
+
     /// The observation is over: the held beat is judged, and what has no answer is wrong. The one error is that memory was refused.
     fn finish(&mut self, findings: &mut Findings) -> Result<(), AllocError>
         ensures held { OnOk result (findings.new.held ≡ (settling (score_of self.old)).0) }
@@ -366,6 +380,10 @@ impl Score {
                 self.settle(&mut findings.held)?;
                 findings.own = None;
                 self.time = Some(*time);
+            }
+            Command::Reset => {
+                self.check_open(number)?;
+                self.reset(findings)?;
             }
             Command::End => {
                 self.check_open(number)?;

@@ -22,6 +22,7 @@ pub mod FlightsAlone
 pub mod Follows
 pub mod FollowsBegins
 pub mod FollowsChanges
+pub mod FollowsCut
 pub mod FollowsEarly
 pub mod FollowsEnded
 pub mod FollowsHits
@@ -30,6 +31,7 @@ pub mod FollowsRequests
 pub mod FollowsWhole
 pub mod Fronts
 pub mod GivenAhead
+pub mod InTurnAlone
 pub mod Insertion
 pub mod JudgedRightly
 pub mod Lengths
@@ -43,9 +45,12 @@ pub mod ReplyMoves
 pub mod ReplySeen
 pub mod ReplySteps
 pub mod RequestActs
+pub mod ResetBoards
+pub mod ResetsRightly
 pub mod RightRuns
 pub mod ShadowJoins
 pub mod ShadowPlaces
+pub mod Spared
 pub mod StepOrders
 pub mod Verdicts
 pub mod WiderRuns

@@ -29,7 +29,7 @@ use Rattle.meaning.specs.Meaning.{Bytes, acknowledged, zeros}
 use Rattle.std.specs.Option.{option_or}
 use Rattle.scoreboard.specs.AxiPorts.{PortBoard, drained, none_early, port_after, port_wrong}
 use Rattle.scoreboard.specs.FailedBursts.{Span, after_hit, failed_span, hit, hit_flight}
-use Rattle.scoreboard.specs.Flights.{Flights, Footprint, InFlight, each_flight, flights_after, in_flight, is_busy, next_reply, no_flights, no_footprint, replies_left, with_flight}
+use Rattle.scoreboard.specs.Flights.{Flights, Footprint, InFlight, cut_short, each_flight, flights_after, in_flight, is_busy, next_reply, no_flights, no_footprint, replies_left, with_flight}
 use Rattle.scoreboard.specs.InTurn.{DueBeat, after_turn, as_known, dues_of, unless_fixed}
 use Rattle.scoreboard.specs.Races.{after_given, after_joining, alone, beside, flight_beside, joining, unless_failed}
 use Rattle.serial_memory.specs.SerialMemory.{Memory, carried_out, meaning_in, place_in}
@@ -323,7 +323,8 @@ abbrev pub continued_on : Policy → Board → ℕ → ClientBoard → HeldMessa
 continued_on AcceptanceOrder board number client message begun = board
 continued_on RealTime board number client message begun = more_on board number client (request_of message) begun
 
--- ---- the board after a beat; one that is wrong changes nothing, but a reply's beat counts as come whatever it shows
+-- ---- the board after a beat; one that is wrong changes nothing, but a reply's beat counts as come whatever it shows, and with the first beat of another
+-- a reply that ended early is over
 
 -- after a client's port has answered, by the message with this beat
 abbrev pub answered_on : Policy → Board → ℕ → ClientBoard → HeldMessage → Result Progress TlRule → Board
@@ -347,15 +348,23 @@ early_left (Some due) source = if due.source == source then None else Some due
 abbrev pub early_after : ClientBoard → ℕ → Option DBeat
 early_after client source = if is_some (next_reply client.flights source) then client.early else early_left client.early source
 
--- after a beat on channel D
-abbrev pub after_d : Board → ℕ → Option ClientBoard → DBeat → Board
-after_d old number None beat = old
-after_d old number (Some client) beat =
-    with_client number (record client {
+-- a client with a beat on channel D, which has come of the reply whose next it may be
+abbrev pub client_after : DBeat → ClientBoard → ClientBoard
+client_after beat client =
+    record client {
       flights = flights_after client.flights beat.source;
       early = early_after client beat.source;
       told = unwrap_or (told_to client) beat.denied;
-    }) old
+    }
+
+-- a client as a beat of a source on channel D finds it: without a reply that ended early, which is over with the first beat of another
+abbrev pub client_cut : ℕ → ClientBoard → ClientBoard
+client_cut source client = record client { flights = cut_short client.flights source }
+
+-- after a beat on channel D: it is judged by the reply that has begun, and where that is over it has come of the one that is due to its source
+abbrev pub after_d : Board → ℕ → Option ClientBoard → DBeat → Board
+after_d old number None beat = old
+after_d old number (Some client) beat = with_client number (client_after beat (client_cut beat.source client)) old
 
 -- ---- an error response
 

@@ -1,6 +1,6 @@
 -- Error responses on the AXI4 port: where errors are told in any way, each request may have failed with one that shares a byte with the burst that was
 -- answered, from its first beat to the last of its reply.
-use Rattle.std.specs.Prelude.{ℕ, ◌+◌, ◌^◌, Bool, ◌&&◌, ◌||◌, List, Option, None, is_none, if◌then◌else◌, nat_le, nat_lt, option_map}
+use Rattle.std.specs.Prelude.{ℕ, ◌+◌, ◌^◌, Bool, true, false, ◌&&◌, ◌||◌, List, Option, None, is_none, if◌then◌else◌, nat_le, nat_lt, option_map}
 use Rattle.std.specs.List.{list_any}
 use Rattle.axi_beats.specs.Responses.{is_okay}
 use Rattle.axi_beats.specs.Transfers.{last_byte}
@@ -49,6 +49,25 @@ hit span footprint = unless_failed (shares span footprint) footprint
 abbrev pub hit_flight : Span → InFlight → InFlight
 hit_flight span flight = record flight { footprint = hit span flight.footprint }
 
--- the indeterminate bytes then: those too that may be written by a request which shares a byte with the burst
+-- what an event reaches: a reset each request, and an error response those that share a byte with its burst
+pub record Reach : Type 0 where
+  pub all : Bool
+  pub burst : Span
+
+abbrev pub reach_of_reset : Reach
+reach_of_reset = record { all = true; burst = record { first = 0; last = 0 } }
+
+abbrev pub reach_of_burst : Span → Reach
+reach_of_burst span = record { all = false; burst = span }
+
+-- whether it reaches a request
+abbrev pub reaches : Reach → Footprint → Bool
+reaches reach footprint = reach.all || shares reach.burst footprint
+
+-- the indeterminate bytes when what those may write isn't known any more
+abbrev pub after_reached : (ℕ → Bool) → Reach → List Footprint → ℕ → Bool
+after_reached indeterminate reach footprints x = indeterminate x || list_any (λ footprint. reaches reach footprint && may_write footprint x) footprints
+
+-- the indeterminate bytes when a burst was answered with an error: those too that may be written by a request which shares a byte with the burst
 abbrev pub after_hit : (ℕ → Bool) → Span → List Footprint → ℕ → Bool
-after_hit indeterminate span footprints x = indeterminate x || list_any (λ footprint. shares span footprint && may_write footprint x) footprints
+after_hit indeterminate span footprints x = after_reached indeterminate (reach_of_burst span) footprints x

@@ -1,6 +1,6 @@
 -- Requests in flight: each with the beats that are left of its reply, and the bytes of the memory that it may read and write. A client has those of
 -- whose reply no beat came, and the one whose reply has begun.
-use Rattle.std.specs.Prelude.{ℕ, ◌+◌, ◌==◌, Bool, false, ◌||◌, List, [], ◌∷◌, ◌++◌, map, length, Option, Some, None, if◌then◌else◌, drop}
+use Rattle.std.specs.Prelude.{ℕ, ◌+◌, ◌==◌, Bool, false, ◌&&◌, ◌||◌, not, List, [], ◌∷◌, ◌++◌, map, length, Option, Some, None, if◌then◌else◌, drop}
 use Rattle.std.specs.List.{find, list_any}
 use Rattle.std.specs.Option.{option_map, option_or, option_to_list}
 use Rattle.bus_words.specs.Places.{without_first}
@@ -80,6 +80,21 @@ due_after (Some flight) due source = due
 -- a client's after a beat of a source on channel D
 abbrev pub flights_after : Flights → ℕ → Flights
 flights_after flights source = record { due = due_after flights.begun flights.due source; begun = begun_after (next_reply flights source) source }
+
+-- ---- a reply that ended early
+
+-- whether the reply that has begun is to a request of another source
+abbrev pub begun_is_other : ℕ → Option InFlight → Bool
+begun_is_other source None = false
+begun_is_other source (Some flight) = not (is_of_source source flight)
+
+-- whether the reply that has begun is over where a beat of a source comes: it is of another, and a reply is due to this one of which no beat came
+abbrev pub is_over : Flights → ℕ → Bool
+is_over flights source = begun_is_other source flights.begun && list_any (is_of_source source) flights.due
+
+-- a client's as a beat of a source finds them: the one whose reply is over is in flight no more
+abbrev pub cut_short : Flights → ℕ → Flights
+cut_short flights source = record flights { begun = if is_over flights source then None else flights.begun }
 
 -- ---- all of a client
 

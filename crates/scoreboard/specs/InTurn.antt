@@ -5,7 +5,7 @@ use Rattle.std.specs.List.{list_any, range_with_len}
 use Rattle.bus_words.specs.Lanes.{given_at, lane_byte, word_address}
 use Rattle.tl_messages.specs.Operations.{beats_of}
 use Rattle.tl_messages.specs.declared.DBeat.{DBeat}
-use Rattle.scoreboard.specs.Flights.{Footprint, no_footprint}
+use Rattle.scoreboard.specs.Flights.{Footprint}
 use Rattle.scoreboard.specs.Races.{covers, is_fixed}
 
 -- ---- what isn't known
@@ -15,9 +15,9 @@ abbrev pub after_turn : (ℕ → Bool) → Footprint → List (Option ℕ) → �
 after_turn unknown footprint bytes x =
     if footprint.writes && is_some (given_at bytes footprint.address x) then not (is_fixed footprint) else unknown x
 
--- the footprint that is kept of a request: none where all that it reads is known
+-- the footprint that is kept of a request: what it reads plays no part where all of that is known
 abbrev pub unless_fixed : Footprint → Footprint
-unless_fixed footprint = if is_fixed footprint then no_footprint else footprint
+unless_fixed footprint = record footprint { reads = footprint.reads && not (is_fixed footprint) }
 
 -- ---- the beats of a reply
 

@@ -21,7 +21,7 @@ use Rattle.scoreboard.specs.declared.Wrong.TheVariants.{NoClient, Request, Reply
 
 -- a request of a client, of which at least one beat came, with its number in the order of first beats; whether it is whole; whether it was spoiled, where
 -- that may be told in any way: a beat of it was corrupt, or an error response came to a burst that shares a byte with it; whether its reply may come
--- though it isn't whole, and whether it came so; and how many beats of its reply came since it is whole, all if it came before
+-- though it isn't whole, and whether it came so; and how many beats of its reply came since it is whole, all if it came before, or ended early
 pub record Entry : Type 0 where
   pub number : ℕ
   pub client : ℕ
@@ -40,7 +40,7 @@ Order = List Entry
 abbrev pub reply_beats : WholeRequest → ℕ
 reply_beats q = beats_of q.size (reply_has_data q.operation)
 
--- whether it is whole, and the whole reply came
+-- whether it is whole, and the whole reply came, or ended early
 abbrev pub has_ended : Entry → Bool
 has_ended entry = nat_le (reply_beats entry.request) entry.came
 
@@ -74,9 +74,35 @@ abbrev pub with_beat : Bool → ℕ → ℕ → Entry → Entry
 with_beat begun client source entry =
     if is_due begun client source entry && entry.request.source == source then counted entry.whole entry else entry
 
--- an order with a beat of a client and source on channel D: the requests stand as they stood
+-- an order in which a beat of a client and source on channel D is counted, where no reply is over with it
+abbrev pub with_counted : Order → ℕ → ℕ → Order
+with_counted order client source = map (with_beat (list_any (begun_to client) order) client source) order
+
+-- ---- a reply that ended early
+
+-- whether a client's reply has begun, and is of another source
+abbrev pub begun_to_other : ℕ → ℕ → Entry → Bool
+begun_to_other client source entry = begun_to client entry && not (entry.request.source == source)
+
+-- whether a request is whole, and its client waits for the first beat of its reply, which is of a source
+abbrev pub awaits : ℕ → ℕ → Entry → Bool
+awaits client source entry = entry.client == client && entry.request.source == source && entry.came == 0 && entry.whole
+
+-- whether a client's reply that has begun is over where a beat of a source comes: it is of another, and a reply is due to this one of which no beat came
+abbrev pub is_over : Order → ℕ → ℕ → Bool
+is_over order client source = list_any (begun_to_other client source) order && list_any (awaits client source) order
+
+-- where it is over all of it counts as come
+abbrev pub ended_early : Bool → ℕ → Entry → Entry
+ended_early over client entry = if over && begun_to client entry then record entry { came = reply_beats entry.request } else entry
+
+-- an order as a beat of a client and source on channel D finds it: a reply that is over has ended
+abbrev pub cut_short : Order → ℕ → ℕ → Order
+cut_short order client source = map (ended_early (is_over order client source) client) order
+
+-- an order with a beat of a client and source on channel D: a reply that is over has ended, and the beat is counted; the requests stand as they stood
 abbrev pub after_beat : Order → ℕ → ℕ → Order
-after_beat order client source = map (with_beat (list_any (begun_to client) order) client source) order
+after_beat order client source = with_counted (cut_short order client source) client source
 
 -- ---- what an order tells
 

@@ -1,6 +1,6 @@
 -- The orders in which requests may have taken effect. A request begins with its first beat on channel A, and takes effect between that and its end: it has
--- ended once it is whole and its whole reply came. So one that had ended before another began comes before it. Nothing else is asked of an order: this is
--- real time. Requests are numbered as they begin, and an order is a list of all numbers.
+-- ended once it is whole and its whole reply came, or was cut short by the first beat of another. So one that had ended before another began comes before
+-- it. Nothing else is asked of an order: this is real time. Requests are numbered as they begin, and an order is a list of all numbers.
 use Rattle.std.specs.Prelude.{ℕ, ◌≡◌, ◌^◌, ◌<◌, ◌≤◌, ◌==◌, ⊤, Bool, true, false, ◌&&◌, ◌||◌, not, List, [], ◌∷◌, ◌++◌, map, filter, length, Option, Some, None, Result, Ok, Err, if◌then◌else◌, is_some, nat_lt, option_map, slice_get, slice_index_or}
 use Rattle.std.specs.Option.{option_flatten}
 use Rattle.std.specs.List.{AllByRecursion, list_any, range_with_len}
@@ -160,7 +160,8 @@ abbrev pub IsArrangement : ℕ → List ℕ → Type 0
 IsArrangement count numbers =
     (number : ℕ) → length (filter (λ other. other == number) numbers) ≡ (if nat_lt number count then 1 else 0)
 
--- a request had ended before another began: it was whole, and its whole reply had come, in a first part of the beats, in which the other hadn't begun
+-- a request had ended before another began: it was whole, and its whole reply had come, or ended early, in a first part of the beats, in which the other
+-- hadn't begun
 pub record EndedBefore (errors : Errors) (beginning : Beginning) (beats : List ObservedBeat) (number later : ℕ) : Type 0 where
   pub first : List ObservedBeat
   pub rest : List ObservedBeat

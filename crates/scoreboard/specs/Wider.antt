@@ -55,9 +55,9 @@ abbrev pub AreTogether : Board → List ObservedBeat → Type 0
 AreTogether board [] = ⊤
 AreTogether board (seen ∷ rest) = (tells_apart (wrong_at AcceptanceOrder board seen) ≡ false) × AreTogether (after_seen AcceptanceOrder board seen) rest
 
--- a board of real time holds what one of acceptance order does, but for what it knows of races, and its verdict of a beat tells no more
+-- a board of real time holds what one of acceptance order does, but for what either knows of footprints, and its verdict of a beat tells no more
 pub record IsWiderThan (compared board : Board) (seen : ObservedBeat) (verdict : Option Wrong) : Type 0 where
-  pub holds : board_alone board ≡ compared
+  pub holds : board_alone board ≡ board_alone compared
   pub tells : TellsNoMore (wrong_at AcceptanceOrder compared seen) verdict
 
 -- of any beats, right or wrong: a board of real time is so beside one of acceptance order that got the same ones, until this one finds one of a busy source

@@ -3,13 +3,14 @@ ghost use Rattle.std.specs.Prelude.{◌≡◌, ◌≤◌, ℕ, length, map, IfOk
 ghost use Rattle.std.specs.List.{range_with_len};
 ghost use Rattle.score_setup.specs.ScoreSetups.{is_valid_to_score, limits_of};
 ghost use Rattle.scoreboard.specs.Boards.{client_beside, footprints_of, hit_client, opening_client, replies_open};
-ghost use Rattle.scoreboard.specs.FailedBursts.{after_hit};
+ghost use Rattle.scoreboard.specs.FailedBursts.{after_reached};
 ghost use Rattle.serial_memory.specs.SerialMemory.{doubts_of, rooms_of};
 ghost use Rattle.scoreboard.specs.InsideBoards.{ClientsHaveRoom, HaveRoomToWrite, IsMarkedAlone, client_of, footprint_of};
 ghost use Rattle.scoreboard.specs.Races.{beside_all, beside_dependent};
+ghost use Rattle.scoreboard.specs.Resets.{reset_client};
 
 use crate::clients::Client;
-use crate::failed_bursts::Span;
+use crate::failed_bursts::{Reach, Span};
 use crate::footprint::Footprint;
 use crate::in_flight::InFlight;
 use score_setup::ScoreConfig;
@@ -76,24 +77,34 @@ pub(crate) fn give_way(clients: &mut [Client], other: &Footprint)
     }
 }
 
-/// What those requests of some clients may write, in flight or begun, is indeterminate that share a byte with a burst that was
-/// answered with an error.
-pub(crate) fn mark_shared(marks: &mut SerialMemory, clients: &[Client], span: Span)
+/// What those requests of some clients may write, in flight or begun, is indeterminate that an event reaches.
+pub(crate) fn mark_reached(marks: &mut SerialMemory, clients: &[Client], reach: Reach)
     requires room { HaveRoomToWrite (rooms_of marks.old) (footprints_of (map client_of clients.now)) }
     ensures rest { IsMarkedAlone marks.old marks.new }
-    ensures bytes { doubts_of marks.new ≡ after_hit (doubts_of marks.old) span (footprints_of (map client_of clients.now)) }
+    ensures bytes { doubts_of marks.new ≡ after_reached (doubts_of marks.old) reach (footprints_of (map client_of clients.now)) }
 {
     for client in clients {
-        client.mark_shared(marks, span);
+        client.mark_reached(marks, reach);
     }
 }
 
-/// Those requests of some clients, in flight or begun, may have failed that share a byte with such a burst.
+/// Those requests of some clients, in flight or begun, may have failed that share a byte with a burst that was answered with
+/// an error.
 pub(crate) fn hit(clients: &mut [Client], span: Span)
     ensures clients { map client_of clients.new ≡ map (hit_client span) (map client_of clients.old) }
     ensures room { (room : ℕ) → ClientsHaveRoom room clients.old → ClientsHaveRoom room clients.new }
 {
     for client in clients.iter_mut() {
         client.hit(span);
+    }
+}
+
+/// Some clients have begun nothing, and nothing of them is in flight any more.
+pub(crate) fn reset(clients: &mut [Client])
+    ensures clients { map client_of clients.new ≡ map reset_client (map client_of clients.old) }
+    ensures room { (room : ℕ) → ClientsHaveRoom room clients.old → ClientsHaveRoom room clients.new }
+{
+    for client in clients.iter_mut() {
+        client.reset();
     }
 }

@@ -10,17 +10,18 @@ ghost use Rattle.setups.specs.declared.SetupFault.TheVariants.{NoMemory};
 ghost use Rattle.subordinate.specs.Faults.{is_good, standing_at};
 ghost use Rattle.scoreboard.specs.Boards.{acting, beginning_of, client_beside, early_due, fails, footprints_of, hit_client, opening_client, opening_from, replies_open};
 ghost use Rattle.scoreboard.specs.FailedBursts.{after_hit};
+ghost use Rattle.scoreboard.specs.Resets.{ResetsRightly, reset_on};
 ghost use Rattle.serial_memory.specs.SerialMemory.{HasRoomToGive, IsCheckedRequest, byte_at, carried_out, doubts_of, memory_of, place_in, rooms_of};
 ghost use Rattle.scoreboard.specs.InsideBoards.{ClientsHaveRoom, HasRoomForBeat, HasRoomToWrite, HaveRoomToWrite, IsAskedBy, IsMarkedAlone, client_of, footprint_of, most_words};
 ghost use Rattle.scoreboard.specs.InTurn.{after_turn, unless_fixed};
 ghost use Rattle.scoreboard.specs.Races.{after_given, after_joining, alone, beside_all, beside_dependent};
 
 use crate::all_clients::{
-    give_way, hit, limit, mark_beside, mark_shared, opening_clients, outstanding_of,
+    give_way, hit, limit, mark_beside, mark_reached, opening_clients, outstanding_of, reset,
 };
 use crate::clients::Client;
 use crate::early_port::EarlyPort;
-use crate::failed_bursts::Span;
+use crate::failed_bursts::{Reach, Span};
 use crate::footprint::Footprint;
 use crate::in_flight::InFlight;
 use crate::marks::mark_given;
@@ -45,10 +46,11 @@ const MOST_WORDS: usize = 512;
 /// them, or in any way that TileLink allows; by this a reply is due from its request's first beat on.
 ///
 /// A beat that breaks a rule changes nothing, but a beat of a due reply counts as come whatever it shows, and so does write data
-/// that breaks STROBE or WLAST; an address that breaks DEPTH, CROSS_4K or BURST_KIND alone opens its burst, of the port's depth
-/// up to as many again, and so does an AW that is wrong for the data before it alone. Of bytes that nobody knows, and that no
-/// request gave so far, nothing is compared, nor of those that an atomic made of them. All room is taken by `new`, but for pages:
-/// each takes its own when it is first given a byte, by `fill` or, in `judge`, by a request.
+/// that breaks STROBE or WLAST; the first beat of a reply counts where another has begun, and that one is over, as it ended
+/// early; an address that breaks DEPTH, CROSS_4K or BURST_KIND alone opens its burst, of the port's depth up to as many again,
+/// and so does an AW that is wrong for the data before it alone. Of bytes that nobody knows, and that no request gave so far,
+/// nothing is compared, nor of those that an atomic made of them. All room is taken by `new`, but for pages: each takes its own
+/// when it is first given a byte, by `fill` or, in `judge`, by a request.
 pub struct Scoreboard {
     policy: Policy,
     errors: Errors,
@@ -258,8 +260,8 @@ impl Scoreboard {
     /// are told as this project's bridge tells them, what is said of any beat is what is said of it in order of acceptance, or
     /// nothing where that is SOURCE_BUSY, W_WITHOUT_AW or PAYLOAD, up to the first SOURCE_BUSY or W_WITHOUT_AW. And a beat of a
     /// reply that is found wrong is wrong, by that rule, in each order of the requests that have begun in which none stands
-    /// behind one that began after it was whole and its whole reply had come, whatever those become of which beats are still to
-    /// come, and whatever those leave that have failed.
+    /// behind one that began after it was whole and its whole reply had come, or ended early, whatever those become of which beats
+    /// are still to come, and whatever those leave that have failed.
     pub fn judge(&mut self, seen: &ObservedBeat) -> Result<Option<Wrong>, AllocError>
         ensures answer { IfOk result (λ wrong. wrong ≡ wrong_at self.old.policy (board_of self.old) seen.now) }
         ensures state { OnOk result (board_of self.new ≡ after_seen self.old.policy (board_of self.old) seen.now) }
@@ -516,16 +518,16 @@ impl Scoreboard {
             joining,
             ..
         } = self;
+        let place = serial.place(request);
         if serial.knows_all() {
-            joining.clear_footprint();
+            joining.start_known_footprint(serial, place, request);
             joining.carry_out(serial, request);
             return;
         }
-        let place = serial.place(request);
         joining.start_footprint(serial, place, request);
         joining.carry_out(serial, request);
         mark_own(serial, joining.footprint(), request);
-        joining.clear_if_fixed();
+        joining.forget_reads_if_fixed();
     }
 
     /// Whether the reply to the request that has begun came already.
@@ -673,11 +675,30 @@ impl Scoreboard {
             serial,
             ..
         } = self;
-        mark_shared(serial, clients, span);
+        mark_reached(serial, clients, Reach::of_burst(span));
         hit(clients, span);
     }
 
-    /// How many accepted requests have a reply that wasn't observed whole.
+    /// The bridge was reset, with all that is connected to it: messages that had begun, replies that were due, requests in flight and
+    /// open bursts are gone. A request in flight took effect before, or never does: what it may have written isn't known any more,
+    /// until it is given again. Nothing else changes.
+    pub fn reset(&mut self)
+        ensures state { board_of self.new ≡ reset_on (board_of self.old) }
+        ensures rightly { ResetsRightly (board_of self.old) }
+        ensures policy { self.new.policy ≡ self.old.policy }
+    {
+        let Scoreboard {
+            clients,
+            serial,
+            axi,
+            ..
+        } = self;
+        mark_reached(serial, clients, Reach::of_reset());
+        reset(clients);
+        axi.clear();
+    }
+
+    /// How many accepted requests have a reply that isn't over.
     pub fn outstanding(&self) -> u16
         ensures { result ≡ replies_open (board_of self.now).clients }
     {
@@ -698,7 +719,7 @@ impl Scoreboard {
         self.clients.len() as u8
     }
 
-    /// The source of a client's accepted request whose reply wasn't observed whole, by its place; none behind the last.
+    /// The source of a client's accepted request whose reply isn't over, by its place; none behind the last.
     pub fn source_due(&self, client: u8, place: usize) -> Option<u8>
         ensures { result ≡ slice_get (sources_due (slice_get (board_of self.now).clients client)) place }
     {

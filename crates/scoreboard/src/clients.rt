@@ -1,23 +1,24 @@
 //! A client as a scoreboard sees it: what it has begun to ask, and its requests in flight.
-ghost use Rattle.std.specs.Prelude.{◌≡◌, ◌≤◌, None, Ok, Some, IfOk, false, is_some, length, map, slice_get, true, unwrap_or};
+ghost use Rattle.std.specs.Prelude.{◌≡◌, ◌≤◌, None, Ok, Some, IfOk, false, is_some, length, map, slice_get, true};
 ghost use Rattle.std.specs.List.{list_any};
 ghost use Rattle.tl_messages.specs.Requests.{HeldMessage, request_of};
 ghost use Rattle.tl_checker.specs.Ports.{joined};
 ghost use Rattle.tl_checker.specs.declared.Progress.TheVariants.{More, Whole};
 ghost use Rattle.score_setup.specs.ScoreSetups.{is_valid_to_score, limits_of};
-ghost use Rattle.scoreboard.specs.Boards.{answer_to, client_beside, client_footprints, early_after, early_left, has_replied, hit_client, is_spoiled, kept_from, next_to, opening_client, told_to, with_whole, wrong_reply};
-ghost use Rattle.scoreboard.specs.FailedBursts.{after_hit};
-ghost use Rattle.scoreboard.specs.Flights.{flights_after, in_flight, is_of_source, next_reply, replies_left};
+ghost use Rattle.scoreboard.specs.Boards.{answer_to, client_after, client_beside, client_cut, client_footprints, early_left, has_replied, hit_client, is_spoiled, kept_from, next_to, opening_client, told_to, with_whole, wrong_reply};
+ghost use Rattle.scoreboard.specs.FailedBursts.{after_reached};
+ghost use Rattle.scoreboard.specs.Flights.{in_flight, is_of_source, next_reply, replies_left};
 ghost use Rattle.serial_memory.specs.SerialMemory.{IsCheckedRequest, doubts_of, rooms_of};
 ghost use Rattle.scoreboard.specs.InsideBoards.{HaveRoomToWrite, IsAskedBy, IsFirstBeat, IsMarkedAlone, client_of, early_of, flight_of, flights_of, footprint_of, front_after};
 ghost use Rattle.scoreboard.specs.Races.{beside_all, beside_dependent, unless_failed};
+ghost use Rattle.scoreboard.specs.Resets.{reset_client};
 ghost use Rattle.scoreboard.specs.Telling.{flight_telling};
 
-use crate::failed_bursts::Span;
+use crate::failed_bursts::{Reach, Span};
 use crate::flights::Flights;
 use crate::footprint::Footprint;
 use crate::in_flight::{InFlight, wrong_told};
-use crate::marks::{mark_dependent, mark_shared};
+use crate::marks::{mark_dependent, mark_reached};
 use crate::{Errors, Policy, ReplyRule, Telling, Wrong};
 use score_setup::ScoreConfig;
 use serial_memory::SerialMemory;
@@ -244,14 +245,10 @@ impl Client {
         }
     }
 
-    /// Judges a beat on channel D.
-    pub(crate) fn judge_reply(&mut self, policy: Policy, beat: &DBeat) -> Option<Wrong>
+    /// Judges a beat on channel D, which then has come of the reply whose next it may be.
+    fn take_reply(&mut self, policy: Policy, beat: &DBeat) -> Option<Wrong>
         ensures wrong { result ≡ wrong_reply policy (told_to (client_of self.old)) (next_to policy (client_of self.old) beat.now.source) beat.now }
-        ensures state { client_of self.new ≡ record (client_of self.old) {
-          flights = flights_after (flights_of self.old.flights) beat.now.source;
-          early = early_after (client_of self.old) beat.now.source;
-          told = unwrap_or (told_to (client_of self.old)) beat.now.denied;
-        } }
+        ensures state { client_of self.new ≡ client_after beat.now (client_of self.old) }
         ensures room { self.new.flights.room ≡ self.old.flights.room }
     {
         let told = self.told();
@@ -260,6 +257,21 @@ impl Client {
             return self.judge_early(policy, told, beat);
         }
         self.flights.judge(policy, told, beat)
+    }
+
+    /// Judges a beat on channel D. Where the reply that has begun is over with it, as it is the first of another, that one begins.
+    pub(crate) fn judge_reply(&mut self, policy: Policy, beat: &DBeat) -> Option<Wrong>
+        ensures wrong { result ≡ wrong_reply policy (told_to (client_of self.old)) (next_to policy (client_of self.old) beat.now.source) beat.now }
+        ensures state { client_of self.new ≡ client_after beat.now (client_cut beat.now.source (client_of self.old)) }
+        ensures room { self.new.flights.room ≡ self.old.flights.room }
+    {
+        if !self.flights.is_over(beat.source) {
+            return self.take_reply(policy, beat);
+        }
+        let wrong = self.flights.wrong_begun(policy, self.told(), beat);
+        self.flights.cut_short();
+        let _first = self.take_reply(policy, beat);
+        wrong
     }
 
     /// What any of its requests may write, in flight or begun, isn't determined of another request.
@@ -290,15 +302,14 @@ impl Client {
         self.coming.give_way(other);
     }
 
-    /// What those of its requests may write, in flight or begun, is indeterminate that share a byte with a burst that was answered with an
-    /// error.
-    pub(crate) fn mark_shared(&self, marks: &mut SerialMemory, span: Span)
+    /// What those of its requests may write, in flight or begun, is indeterminate that an event reaches.
+    pub(crate) fn mark_reached(&self, marks: &mut SerialMemory, reach: Reach)
         requires room { HaveRoomToWrite (rooms_of marks.old) (client_footprints (client_of self.now)) }
         ensures rest { IsMarkedAlone marks.old marks.new }
-        ensures bytes { doubts_of marks.new ≡ after_hit (doubts_of marks.old) span (client_footprints (client_of self.now)) }
+        ensures bytes { doubts_of marks.new ≡ after_reached (doubts_of marks.old) reach (client_footprints (client_of self.now)) }
     {
-        self.flights.mark_shared(marks, span);
-        mark_shared(marks, &self.coming, span);
+        self.flights.mark_reached(marks, reach);
+        mark_reached(marks, &self.coming, reach);
     }
 
     /// Those of its requests, in flight or begun, may have failed that share a byte with such a burst.
@@ -308,6 +319,20 @@ impl Client {
     {
         self.flights.hit(span);
         self.coming.hit(span);
+    }
+
+    /// It has begun nothing, and nothing of it is in flight any more.
+    pub(crate) fn reset(&mut self)
+        ensures client { client_of self.new ≡ reset_client (client_of self.old) }
+        ensures room { self.new.flights.room ≡ self.old.flights.room }
+    {
+        self.port.clear_whole();
+        self.flights.clear();
+        self.has_begun = false;
+        self.corrupt = false;
+        self.coming.clear();
+        self.early = None;
+        self.told = false;
     }
 
     /// How much a beat of a source on channel D tells.

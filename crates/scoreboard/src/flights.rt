@@ -4,17 +4,17 @@ ghost use Rattle.std.specs.List.{list_any, position};
 ghost use Rattle.std.specs.Vec.{vec_capacity};
 ghost use Rattle.bus_words.specs.Places.{without_first};
 ghost use Rattle.scoreboard.specs.Boards.{wrong_reply};
-ghost use Rattle.scoreboard.specs.FailedBursts.{after_hit, hit_flight};
-ghost use Rattle.scoreboard.specs.Flights.{begun_after, due_to, each_flight, flights_after, in_flight, is_busy, is_of_source, next_reply, replies_left};
+ghost use Rattle.scoreboard.specs.FailedBursts.{after_reached, hit_flight};
+ghost use Rattle.scoreboard.specs.Flights.{begun_after, due_to, each_flight, flights_after, in_flight, is_busy, is_of_source, is_over, next_reply, no_flights, replies_left};
 ghost use Rattle.serial_memory.specs.SerialMemory.{doubts_of, rooms_of};
 ghost use Rattle.scoreboard.specs.InsideBoards.{HaveRoom, HaveRoomToWrite, IsMarkedAlone, flight_of, flights_of, footprint_of};
 ghost use Rattle.scoreboard.specs.Races.{beside_all, beside_dependent, flight_beside};
 ghost use Rattle.scoreboard.specs.Telling.{flight_telling};
 
-use crate::failed_bursts::Span;
+use crate::failed_bursts::{Reach, Span};
 use crate::footprint::Footprint;
 use crate::in_flight::InFlight;
-use crate::marks::{mark_dependent, mark_shared};
+use crate::marks::{mark_dependent, mark_reached};
 use crate::{Policy, ReplyRule, Telling, Wrong};
 use serial_memory::SerialMemory;
 use std::alloc::{AllocError, Global};
@@ -111,14 +111,14 @@ fn give_way_each(due: &mut [InFlight], other: &Footprint)
     }
 }
 
-/// What those requests may write is indeterminate that share a byte with a burst that was answered with an error.
-fn mark_shared_each(marks: &mut SerialMemory, due: &[InFlight], span: Span)
+/// What those requests may write is indeterminate that an event reaches.
+fn mark_reached_each(marks: &mut SerialMemory, due: &[InFlight], reach: Reach)
     requires room { HaveRoomToWrite (rooms_of marks.old) (map (λ flight. flight.footprint) (map flight_of due.now)) }
     ensures rest { IsMarkedAlone marks.old marks.new }
-    ensures bytes { doubts_of marks.new ≡ after_hit (doubts_of marks.old) span (map (λ flight. flight.footprint) (map flight_of due.now)) }
+    ensures bytes { doubts_of marks.new ≡ after_reached (doubts_of marks.old) reach (map (λ flight. flight.footprint) (map flight_of due.now)) }
 {
     for flight in due {
-        mark_shared(marks, flight.footprint(), span);
+        mark_reached(marks, flight.footprint(), reach);
     }
 }
 
@@ -257,6 +257,43 @@ impl Flights {
         self.begun = Some(flight);
     }
 
+    /// Whether the reply that has begun is over where a beat of a source comes: it is of another, and a reply is due to this one of
+    /// which no beat came.
+    pub(crate) fn is_over(&self, source: u8) -> bool
+        ensures { result ≡ is_over (flights_of self.now) source }
+    {
+        let Some(flight) = &self.begun else {
+            return false;
+        };
+        flight.source() != source && self.is_due(source)
+    }
+
+    /// What is wrong with a beat by the reply that has begun.
+    pub(crate) fn wrong_begun(
+        &self,
+        policy: Policy,
+        told: Option<bool>,
+        beat: &DBeat,
+    ) -> Option<Wrong>
+        ensures { result ≡ wrong_reply policy told (flights_of self.now).begun beat.now }
+    {
+        let Some(flight) = &self.begun else {
+            return Some(Wrong::Reply(ReplyRule::Unasked, None));
+        };
+        flight.wrong_reply(policy, told, beat)
+    }
+
+    /// The reply that has begun is over, though beats of it are missing.
+    pub(crate) fn cut_short(&mut self)
+        ensures flights { flights_of self.new ≡ record (flights_of self.old) { begun = None } }
+        ensures room { self.new.room ≡ self.old.room }
+    {
+        let Some(flight) = self.begun.take() else {
+            return;
+        };
+        self.spare.push_reserved(flight);
+    }
+
     /// Judges a beat on channel D, by whether the reply that has begun was denied. It then has come of the reply whose next it may
     /// be, if it is of its source.
     pub(crate) fn judge(
@@ -314,15 +351,15 @@ impl Flights {
         }
     }
 
-    /// What those may write is indeterminate that share a byte with a burst that was answered with an error.
-    pub(crate) fn mark_shared(&self, marks: &mut SerialMemory, span: Span)
+    /// What those may write is indeterminate that an event reaches.
+    pub(crate) fn mark_reached(&self, marks: &mut SerialMemory, reach: Reach)
         requires room { HaveRoomToWrite (rooms_of marks.old) (map (λ flight. flight.footprint) (in_flight (flights_of self.now))) }
         ensures rest { IsMarkedAlone marks.old marks.new }
-        ensures bytes { doubts_of marks.new ≡ after_hit (doubts_of marks.old) span (map (λ flight. flight.footprint) (in_flight (flights_of self.now))) }
+        ensures bytes { doubts_of marks.new ≡ after_reached (doubts_of marks.old) reach (map (λ flight. flight.footprint) (in_flight (flights_of self.now))) }
     {
-        mark_shared_each(marks, &self.due, span);
+        mark_reached_each(marks, &self.due, reach);
         if let Some(flight) = &self.begun {
-            mark_shared(marks, flight.footprint(), span);
+            mark_reached(marks, flight.footprint(), reach);
         }
     }
 
@@ -334,6 +371,19 @@ impl Flights {
         hit_each(&mut self.due, span);
         if let Some(flight) = &mut self.begun {
             flight.hit(span);
+        }
+    }
+
+    /// Nothing is in flight any more.
+    pub(crate) fn clear(&mut self)
+        ensures flights { flights_of self.new ≡ no_flights }
+        ensures room { self.new.room ≡ self.old.room }
+    {
+        if let Some(flight) = self.begun.take() {
+            self.spare.push_reserved(flight);
+        }
+        while let Some(flight) = self.due.pop() {
+            self.spare.push_reserved(flight);
         }
     }
 

@@ -5,11 +5,12 @@ ghost use Rattle.tl_messages.specs.Requests.{request_of};
 ghost use Rattle.serial_memory.specs.SerialMemory.{IsMemoryRange, doubts_of};
 ghost use Rattle.scoreboard.specs.InsideBoards.{determined_in, footprint_of, words_of};
 ghost use Rattle.scoreboard.specs.Boards.{kept_from};
-ghost use Rattle.scoreboard.specs.FailedBursts.{hit, shares};
+ghost use Rattle.scoreboard.specs.FailedBursts.{hit, reaches, shares};
 ghost use Rattle.scoreboard.specs.Flights.{no_footprint};
+ghost use Rattle.scoreboard.specs.InTurn.{unless_fixed};
 ghost use Rattle.scoreboard.specs.Races.{alone, beside, covers, is_fixed, may_read, meets, unless_failed};
 
-use crate::failed_bursts::Span;
+use crate::failed_bursts::{Reach, Span};
 use data_unit::full_mask;
 use serial_memory::SerialMemory;
 use std::alloc::{AllocError, Global};
@@ -209,6 +210,13 @@ impl Footprint {
             && u64::from(span.first) < end
     }
 
+    /// Whether an event reaches it.
+    pub(crate) fn is_reached(&self, reach: Reach) -> bool
+        ensures { result ≡ reaches reach (footprint_of self.now) }
+    {
+        reach.all || self.shares(reach.burst)
+    }
+
     /// It becomes a request that acts at an address, where it acts on a good page, alone.
     pub(crate) fn start(&mut self, marks: &SerialMemory, place: Option<u32>, request: &Request)
         requires range { IfSome place (λ address. IsMemoryRange address request.now.size) }
@@ -216,9 +224,37 @@ impl Footprint {
         ensures room { length self.new.determined ≡ length self.old.determined }
         ensures footprint { footprint_of self.new ≡ alone (doubts_of marks.now) place (request_of request.now) }
     {
-        let operation = request.operation();
-        self.reads = place.is_some() && may_read(operation);
-        self.writes = place.is_some() && operation.has_data();
+        let reads = place.is_some() && may_read(request.operation());
+        self.start_as(marks, place, request, reads);
+    }
+
+    /// The same of one of which all that it reads is known, so that this plays no part.
+    pub(crate) fn start_known(
+        &mut self,
+        marks: &SerialMemory,
+        place: Option<u32>,
+        request: &Request,
+    )
+        requires range { IfSome place (λ address. IsMemoryRange address request.now.size) }
+        requires room { words_of request.now.size ≤ length self.old.determined }
+        ensures room { length self.new.determined ≡ length self.old.determined }
+        ensures footprint { footprint_of self.new ≡ record (alone (λ x. false) place (request_of request.now)) { reads = false } }
+    {
+        self.start_as(marks, place, request, false);
+    }
+
+    /// It becomes a request that acts at an address, where it acts on a good page, alone, and reads there or doesn't.
+    fn start_as(&mut self, marks: &SerialMemory, place: Option<u32>, request: &Request, reads: bool)
+        requires range { IfSome place (λ address. IsMemoryRange address request.now.size) }
+        requires room { words_of request.now.size ≤ length self.old.determined }
+        ensures room { length self.new.determined ≡ length self.old.determined }
+        ensures footprint { footprint_of self.new ≡ record (alone (doubts_of marks.now) place (request_of request.now)) {
+          reads = reads;
+          determined = λ x. covers (alone (doubts_of marks.now) place (request_of request.now)) x && not (reads && doubts_of marks.now x);
+        } }
+    {
+        self.reads = reads;
+        self.writes = place.is_some() && request.operation().has_data();
         self.address = place.unwrap_or(0);
         self.size = request.size();
         self.failed = false;
@@ -333,6 +369,14 @@ impl Footprint {
             }
         }
         true
+    }
+
+    /// What it reads plays no part, where all of that is determined.
+    pub(crate) fn forget_reads_if_fixed(&mut self)
+        ensures footprint { footprint_of self.new ≡ unless_fixed (footprint_of self.old) }
+        ensures room { length self.new.determined ≡ length self.old.determined }
+    {
+        self.reads = self.reads && !self.is_fixed();
     }
 
     /// It becomes that of a request of which nobody asks.

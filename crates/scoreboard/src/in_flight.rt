@@ -1,5 +1,5 @@
 //! A request in flight, with its reply.
-ghost use Rattle.std.specs.Prelude.{◌≡◌, ◌≤◌, ◌<◌, ◌-◌, Some, IfOk, IfSome, drop, length, slice_get, true};
+ghost use Rattle.std.specs.Prelude.{◌≡◌, ◌≤◌, ◌<◌, ◌-◌, Some, IfOk, IfSome, drop, false, length, slice_get, true};
 ghost use Rattle.bus_words.specs.Tables.{first_broken};
 ghost use Rattle.tl_messages.specs.Operations.{beats_of};
 ghost use Rattle.tl_messages.specs.Requests.{request_of};
@@ -198,23 +198,13 @@ impl InFlight {
         &self.footprint
     }
 
-    /// Its footprint becomes that of a request of which nobody asks.
-    pub(crate) fn clear_footprint(&mut self)
-        ensures footprint { footprint_of self.new.footprint ≡ no_footprint }
-        ensures room { length self.new.footprint.determined ≡ length self.old.footprint.determined }
-    {
-        self.footprint.clear();
-    }
-
-    /// Its footprint becomes that of a request of which nobody asks, where all of its bytes are determined.
-    pub(crate) fn clear_if_fixed(&mut self)
+    /// What it reads plays no part in its footprint, where all of that is determined.
+    pub(crate) fn forget_reads_if_fixed(&mut self)
         ensures footprint { footprint_of self.new.footprint ≡ unless_fixed (footprint_of self.old.footprint) }
         ensures room { length self.new.footprint.determined ≡ length self.old.footprint.determined }
         ensures rest { self.new ≡ record self.old { footprint = self.new.footprint } }
     {
-        if self.footprint.is_fixed() {
-            self.footprint.clear();
-        }
+        self.footprint.forget_reads_if_fixed();
     }
 
     /// Its footprint becomes that of a request that acts at an address, where it acts on a good page, alone.
@@ -230,6 +220,21 @@ impl InFlight {
         ensures room { length self.new.footprint.determined ≡ length self.old.footprint.determined }
     {
         self.footprint.start(marks, place, request);
+    }
+
+    /// The same of one of which all that it reads is known, so that this plays no part.
+    pub(crate) fn start_known_footprint(
+        &mut self,
+        marks: &SerialMemory,
+        place: Option<u32>,
+        request: &Request,
+    )
+        requires range { IfSome place (λ address. IsMemoryRange address request.now.size) }
+        requires room { words_of request.now.size ≤ length self.old.footprint.determined }
+        ensures footprint { footprint_of self.new.footprint ≡ record (alone (λ x. false) place (request_of request.now)) { reads = false } }
+        ensures room { length self.new.footprint.determined ≡ length self.old.footprint.determined }
+    {
+        self.footprint.start_known(marks, place, request);
     }
 
     /// Of its bytes only those stay determined that are determined of another footprint, and it has failed if that one has.

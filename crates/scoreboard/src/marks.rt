@@ -5,10 +5,10 @@ ghost use Rattle.tl_messages.specs.Operations.{has_data};
 ghost use Rattle.tl_messages.specs.Requests.{bytes_given};
 ghost use Rattle.serial_memory.specs.SerialMemory.{IsCheckedRequest, doubts_of, rooms_of};
 ghost use Rattle.scoreboard.specs.InsideBoards.{HasRoomToWrite, IsMarkedAlone, determined_in, footprint_of, words_of};
-ghost use Rattle.scoreboard.specs.FailedBursts.{shares};
+ghost use Rattle.scoreboard.specs.FailedBursts.{reaches};
 ghost use Rattle.scoreboard.specs.Races.{after_given, covers, depends_on, may_write};
 
-use crate::failed_bursts::Span;
+use crate::failed_bursts::Reach;
 use crate::footprint::Footprint;
 use serial_memory::SerialMemory;
 use tl_messages::Request;
@@ -89,14 +89,14 @@ pub(crate) fn mark_dependent(marks: &mut SerialMemory, footprint: &Footprint, ot
     mark_all(marks, footprint);
 }
 
-/// All bytes of a request are indeterminate that may write, and shares one with a burst that was answered with an error.
-pub(crate) fn mark_shared(marks: &mut SerialMemory, footprint: &Footprint, span: Span)
+/// All bytes of a request are indeterminate that may write, and that an event reaches.
+pub(crate) fn mark_reached(marks: &mut SerialMemory, footprint: &Footprint, reach: Reach)
     requires room { HasRoomToWrite (rooms_of marks.old) (footprint_of footprint.now) }
     ensures rest { IsMarkedAlone marks.old marks.new }
     ensures bytes { (x : ℕ) → doubts_of marks.new x
-        ≡ (doubts_of marks.old x || shares span (footprint_of footprint.now) && may_write (footprint_of footprint.now) x) }
+        ≡ (doubts_of marks.old x || reaches reach (footprint_of footprint.now) && may_write (footprint_of footprint.now) x) }
 {
-    if !footprint.writes() || !footprint.shares(span) {
+    if !footprint.writes() || !footprint.is_reached(reach) {
         return;
     }
     mark_all(marks, footprint);

@@ -3,15 +3,16 @@ what the monitor saw.
 
     python3 examples/testbench/rtl/run.py [--runs N] [--first SEED] [--jobs N] [--simulator NAME] [--score PROGRAM]
                                           [--profile NAME] [--errors HOW] [--pages KIND] [--bridge NAME] [--habit NAME] [--calm]
+                                          [--resets N]
     python3 examples/testbench/rtl/run.py --right [--runs N] [--first SEED] [--jobs N] [--simulator NAME] [--score PROGRAM]
-                                          [--pages KIND]
+                                          [--pages KIND] [--resets N]
 
 For each of them it prints how many runs were told wrong, and after how many beats the first wrong line came. It ends with status 0
 exactly where the right bridge is never blamed and each fault is told in some run, with 1 where not, with 2 for words that it doesn't
 know, with 3 where a simulator or tlscore can't do its work, and with 4 where there is no simulator. --bridge streaming_bridge has
 another one judged, which tells errors in its own way: it asks for --profile tilelink --errors any, or with --calm for the first alone.
 By --errors any, without --calm, the memory whose good pages fail by lot is among them. By --pages any each memory begins with bytes
-by lot, which nobody tells tlscore.
+by lot, which nobody tells tlscore. By --resets N all of a testbench is reset N times in each run, but for the memory's bytes.
 
 --right has both bridges judged as they are, each by what it promises, N runs in all, and prints a table of them.
 """
@@ -79,6 +80,7 @@ class Bench(NamedTuple):
     habit: str = HABITS[0]
     is_calm: bool = False  # no access fails, and no beat is corrupt
     began: str = ""  # what the memory begins with, where that isn't what the set-up says
+    resets: int = 0  # how often all is reset meanwhile
 
     @property
     def name(self):
@@ -156,7 +158,7 @@ def judged(score, setup, text):
 def ran(bench, seed, making, score, folder):
     """Runs a testbench with a seed, once it is made, and has it judged."""
     seen = folder / f"seen-{seed}.lines"
-    simulated([*making.result(), f"+seed={seed}", f"+observed={seen}"])
+    simulated([*making.result(), f"+seed={seed}", f"+resets={bench.resets}", f"+observed={seen}"])
     text = seen.read_text()
     seen.unlink()
     told = judged(score, bench.asked.setup, f"{text}= end\n")  # a testbench ends where all is answered, or nothing moves any more
@@ -243,9 +245,14 @@ def plan_of(given):
     """Each testbench that is asked for, with its seeds."""
     seeds = range(given.first, given.first + given.runs)
     if given.right:
-        return right_plan(seeds, given.pages)
+        return with_resets(right_plan(seeds, given.pages), given.resets)
     asked = Asked(given.profile, given.errors, given.pages)
-    return [(bench, seeds) for bench in benches(given.bridge, asked, given.calm, given.habit)]
+    return with_resets([(bench, seeds) for bench in benches(given.bridge, asked, given.calm, given.habit)], given.resets)
+
+
+def with_resets(plan, resets):
+    """The same testbenches, reset so often."""
+    return [(bench._replace(resets=resets), seeds) for bench, seeds in plan]
 
 
 HEAD = f"{'bridge':22} {'memory':14} {'runs':>5} {'blamed':>6}   at once  sources  IDs  overtaking  streamed  foretold"
@@ -305,11 +312,12 @@ def words():
     asked.add_argument("--bridge", choices=BRIDGES, help="which bridge (the one that the faults are of)")
     asked.add_argument("--habit", choices=HABITS, help="how the streaming bridge tells errors (EARLY)")
     asked.add_argument("--calm", action="store_true", help="no access fails, and no beat is corrupt")
+    asked.add_argument("--resets", type=int, default=0, help="how often all is reset in each run (0)")
     asked.add_argument("--jobs", type=int, default=os.cpu_count() or 1, help="how many runs at once (one a processor)")
     takes_programs(asked)
     given = asked.parse_args()
-    if min(given.runs, given.first, given.jobs) < 1:
-        asked.error("runs, seeds and jobs are counted from 1")
+    if min(given.runs, given.first, given.jobs) < 1 or given.resets < 0:
+        asked.error("runs, seeds and jobs are counted from 1, and resets from 0")
     if given.right and (given.calm or given.profile or given.errors or given.bridge or given.habit):
         asked.error("--right chooses the bridges, and what is asked of them, itself")
     if given.habit and given.bridge != BRIDGES[1]:

@@ -62,6 +62,12 @@ class Counting:
         self.sent += 1
         self.streamed += self.sent > self.whole
 
+    def reset(self):
+        """Nothing is under way any more."""
+        for under_way in (self.waiting, self.came, self.replied):
+            under_way.clear()
+        self.sent = self.whole = 0
+
     def take(self, line):
         kind, *words = line.split()
         if kind == "A":
@@ -74,6 +80,8 @@ class Counting:
             self.ids.add(int(words[0]))
             if kind == "AW":
                 self.write()
+        elif kind == "=":
+            self.reset()
 
     def told(self):
         sets = frozenset(self.sources), frozenset(self.ids)

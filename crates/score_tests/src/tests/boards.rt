@@ -45,7 +45,7 @@ const READ: ArBeat = ArBeat {
     burst: 1,
 };
 
-/// A write and a read under way, a request whose reply is due, and nothing else.
+/// A write and a read under way, a request whose reply is due, and nothing else; and none of them once all is reset.
 #[test]
 fn what_has_no_answer(rt: HostRuntime) -> Result<(), Fail> {
     let setup = board_set_up(REGION).expect(&rt, "room");
@@ -66,6 +66,9 @@ fn what_has_no_answer(rt: HostRuntime) -> Result<(), Fail> {
         same(&rt, policy, ids, (Some(WRITE.id), Some(READ.id)));
         let more = (board.open_write(1), board.open_read(1));
         same(&rt, policy, more, (None, None));
+        board.reset();
+        let left = (board.outstanding(), board.open_bursts());
+        same(&rt, policy, left, (0, 0));
     }
     Ok(())
 }

@@ -1,8 +1,9 @@
 -- Requests of which all that they read is known: of their replies all is compared, and of a memory of which all is known they leave all known.
-use Rattle.std.proofs.Common.{◌≡◌, ℕ, ◌+◌, ◌-◌, ◌*◌, ◌^◌, Bool, true, false, ◌&&◌, not, if◌then◌else◌, List, [], ◌∷◌, length, Option, refl, sym, ◌∙◌, ap, ap₂, subst, arith}
+use Rattle.std.proofs.Common.{◌≡◌, ℕ, ◌+◌, ◌-◌, ◌*◌, ◌^◌, Bool, true, false, ◌&&◌, not, List, [], ◌∷◌, length, Option, refl, sym, ◌∙◌, ap, ap₂, subst, arith}
 use Rattle.std.specs.Prelude.{is_some}
 use Rattle.std.proofs.Math.Path.{fun_ext}
 use Rattle.std.proofs.lemmas.Bool.{and_parts}
+use Rattle.std.proofs.Math.Bool.{and-false}
 use Rattle.bus_words.specs.Lanes.{given_at, word_address}
 use Rattle.burst_plan.specs.PageMap.{address_of}
 use Rattle.setups.specs.Setups.{SetupLists, faults_of}
@@ -32,18 +33,29 @@ none_unknown footprint k beat lane fixed = by_reads footprint.reads refl (covers
     by_reads true is true covered = grind (arith, fixed_determined footprint x fixed is covered)
 
 -- so that it is compared whole, as where no footprint is kept
-dues_fixed : (footprint : Footprint) (beats : List DBeat) → is_fixed footprint ≡ true → dues_of no_footprint beats ≡ dues_of footprint beats
+pub dues_fixed : (footprint : Footprint) (beats : List DBeat) → is_fixed footprint ≡ true → dues_of no_footprint beats ≡ dues_of footprint beats
 dues_fixed footprint [] fixed = refl
 dues_fixed footprint (beat ∷ rest) fixed =
     ap₂ (λ (unknown : ℕ → Bool) (dues : List DueBeat). record { beat = beat; unknown = unknown } ∷ dues)
     (fun_ext (λ lane. sym (none_unknown footprint (beats_of footprint.size true - length (beat ∷ rest)) beat lane fixed))) (dues_fixed footprint rest fixed)
 
-pub dues_unless_fixed : (footprint : Footprint) (beats : List DBeat) → dues_of (unless_fixed footprint) beats ≡ dues_of footprint beats
-dues_unless_fixed footprint beats = by_test (is_fixed footprint) refl
+-- and so is it where the footprint is kept
+same_unknown : (footprint : Footprint) (k : ℕ) (beat : DBeat) (lane : ℕ) → is_unknown_in (unless_fixed footprint) k beat lane ≡ is_unknown_in footprint k beat lane
+same_unknown footprint k beat lane = by_test (is_fixed footprint) refl
   where
-    by_test : (b : Bool) → is_fixed footprint ≡ b → dues_of (unless_fixed footprint) beats ≡ dues_of footprint beats
-    by_test true is = rw is (dues_fixed footprint beats is)
-    by_test false is = rw is refl
+    by_test : (b : Bool) → is_fixed footprint ≡ b → is_unknown_in (unless_fixed footprint) k beat lane ≡ is_unknown_in footprint k beat lane
+    by_test true is = rw (is, none_unknown footprint k beat lane is) (grind arith)
+    by_test false is = rw is (grind arith)
+
+pub dues_unless_fixed : (footprint : Footprint) (beats : List DBeat) → dues_of (unless_fixed footprint) beats ≡ dues_of footprint beats
+dues_unless_fixed footprint [] = refl
+dues_unless_fixed footprint (beat ∷ rest) =
+    ap₂ (λ (unknown : ℕ → Bool) (dues : List DueBeat). record { beat = beat; unknown = unknown } ∷ dues)
+    (fun_ext (same_unknown footprint (beats_of footprint.size true - length (beat ∷ rest)) beat)) (dues_unless_fixed footprint rest)
+
+-- one that reads nothing tells nothing that isn't known
+pub dues_silent : (footprint : Footprint) (beats : List DBeat) → footprint.reads ≡ false → dues_of footprint beats ≡ dues_of no_footprint beats
+dues_silent footprint beats silent = sym (dues_fixed footprint beats (grind (arith, silent)))
 
 -- ---- where all is known
 
@@ -51,9 +63,14 @@ dues_unless_fixed footprint beats = by_test (is_fixed footprint) refl
 pub fixed_alone : (place : Option ℕ) (q : WholeRequest) → is_fixed (alone (λ x. false) place q) ≡ true
 fixed_alone place q = determined_fixed (alone (λ x. false) place q) (λ x covered. grind (arith, covered))
 
--- has no footprint
-pub none_kept : (place : Option ℕ) (q : WholeRequest) → unless_fixed (alone (λ x. false) place q) ≡ no_footprint
-none_kept place q = rw (fixed_alone place q) refl
+-- what is kept of a request of which all that it reads is known
+abbrev pub known_alone : Option ℕ → WholeRequest → Footprint
+known_alone place q = record (alone (λ x. false) place q) { reads = false }
+
+pub kept_known : (place : Option ℕ) (q : WholeRequest) → unless_fixed (alone (λ x. false) place q) ≡ known_alone place q
+kept_known place q =
+    ap (λ (reads : Bool). record (alone (λ x. false) place q) { reads = reads })
+    (ap (λ (fixed : Bool). (alone (λ x. false) place q).reads && not fixed) (fixed_alone place q) ∙ and-false (alone (λ x. false) place q).reads)
 
 -- and leaves all known
 pub known_after : (place : Option ℕ) (q : WholeRequest) → after_turn (λ x. false) (alone (λ x. false) place q) q.bytes ≡ (λ x. false)
@@ -61,9 +78,10 @@ known_after place q = fun_ext (λ x. grind (arith, fixed_alone place q))
 
 -- a request that takes effect in its turn on a board of which all is known
 pub in_turn_known : (board : Board) (number : ℕ) (client : ClientBoard) (q : WholeRequest) (place : Option ℕ)
-    → in_turn_on (record board { indeterminate = λ x. false }) number client q (alone (λ x. false) place q) ≡ with_taken (record board { indeterminate = λ x. false }) number client q no_footprint
+    → in_turn_on (record board { indeterminate = λ x. false }) number client q (alone (λ x. false) place q)
+    ≡ with_taken (record board { indeterminate = λ x. false }) number client q (known_alone place q)
 in_turn_known board number client q place =
-    ap₂ {C = Board} (λ (footprint : Footprint) (unknown : ℕ → Bool). record (with_taken board number client q footprint) { indeterminate = unknown }) (none_kept place q) (known_after place q)
+    ap₂ {C = Board} (λ (footprint : Footprint) (unknown : ℕ → Bool). record (with_taken board number client q footprint) { indeterminate = unknown }) (kept_known place q) (known_after place q)
 
 -- and a beat of a reply without a footprint is compared whole
 pub in_turn_alone : (beats : List DBeat) (beat : DBeat) → wrong_in_turn (dues_of no_footprint beats) beat ≡ wrong_beat beats beat
@@ -90,8 +108,8 @@ dues_from_zeros setup qs q beats =
 all_known : (doubts : ℕ → Bool) → ((x : ℕ) → doubts x ≡ false) → (λ x. false) ≡ doubts
 all_known doubts none = fun_ext (λ x. sym (none x))
 
-pub none_kept_of : (doubts : ℕ → Bool) → ((x : ℕ) → doubts x ≡ false) → (place : Option ℕ) (q : WholeRequest) → no_footprint ≡ unless_fixed (alone doubts place q)
-none_kept_of doubts none place q = sym (subst (λ (d : ℕ → Bool). unless_fixed (alone d place q) ≡ no_footprint) (all_known doubts none) (none_kept place q))
+pub kept_known_of : (doubts : ℕ → Bool) → ((x : ℕ) → doubts x ≡ false) → (place : Option ℕ) (q : WholeRequest) → known_alone place q ≡ unless_fixed (alone doubts place q)
+kept_known_of doubts none place q = sym (subst (λ (d : ℕ → Bool). unless_fixed (alone d place q) ≡ known_alone place q) (all_known doubts none) (kept_known place q))
 
 pub known_after_of : (doubts : ℕ → Bool) → ((x : ℕ) → doubts x ≡ false) → (place : Option ℕ) (q : WholeRequest) → doubts ≡ after_turn doubts (alone doubts place q) q.bytes
 known_after_of doubts none place q = sym (subst (λ (d : ℕ → Bool). after_turn d (alone d place q) q.bytes ≡ d) (all_known doubts none) (known_after place q))
@@ -127,10 +145,6 @@ given_in_turn doubts place q count = fun_ext (λ x. by_given x (footprint.writes
         let parts = and_parts footprint.writes (is_some (given_at q.bytes footprint.address x)) is in
         rw is (known x (given_within q.bytes footprint.address (2 ^ q.size) x count parts.1))
 
--- a footprint that isn't kept writes nothing
+-- a footprint that is kept writes as it did
 pub room_unless_fixed : (rooms : ℕ → Bool) (footprint : Footprint) → HasRoomToWrite rooms footprint → HasRoomToWrite rooms (unless_fixed footprint)
-room_unless_fixed rooms footprint room = by_fixed (is_fixed footprint)
-  where
-    by_fixed : (fixed : Bool) → HasRoomToWrite rooms (if fixed then no_footprint else footprint)
-    by_fixed true = λ writes. absurd (cc (writes))
-    by_fixed false = room
+room_unless_fixed rooms footprint room = room

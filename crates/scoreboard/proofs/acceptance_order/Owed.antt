@@ -1,5 +1,5 @@
 -- What a scoreboard holds in flight of a client is what is left to tell it, source by source.
-use Rattle.std.proofs.Common.{◌≡◌, Bool, ℕ, ◌==◌, true, false, ◌&&◌, List, [], ◌∷◌, ◌++◌, length, Option, Some, None, if◌then◌else◌, ◌⊎◌, inl, inr, refl, sym, ◌∙◌, ap, subst, arith}
+use Rattle.std.proofs.Common.{◌≡◌, Bool, ℕ, ◌==◌, true, false, ◌&&◌, not, List, [], ◌∷◌, ◌++◌, length, Option, Some, None, if◌then◌else◌, ◌⊎◌, inl, inr, refl, sym, ◌∙◌, ap, subst, arith}
 use Rattle.std.specs.Prelude.{◌≢◌, is_some, nat_lt}
 use Rattle.std.specs.List.{find}
 use Rattle.std.specs.Option.{option_to_list}
@@ -13,7 +13,7 @@ use Rattle.bus_words.proofs.FoundChanges.{find-append-fails}
 use Rattle.bus_words.proofs.PlaceChanges.{find-passes}
 use Rattle.tl_messages.specs.declared.DBeat.{DBeat}
 use Rattle.scoreboard.specs.Boards.{wrong_beat, wrong_in_turn, wrong_reply}
-use Rattle.scoreboard.specs.Flights.{Flights, Footprint, InFlight, begun_after, begun_is_of, due_after, flights_after, is_busy, is_of_source, next_reply, with_flight, with_left}
+use Rattle.scoreboard.specs.Flights.{Flights, Footprint, InFlight, begun_after, begun_is_of, begun_is_other, cut_short, due_after, flights_after, is_busy, is_of_source, next_reply, with_flight, with_left}
 use Rattle.scoreboard.specs.InTurn.{DueBeat, agrees_where_known, as_known, dues_of}
 use Rattle.scoreboard.specs.Right.{IsPartly, IsTold, left_of}
 use Rattle.scoreboard.specs.declared.Policy.TheVariants.{AcceptanceOrder}
@@ -147,6 +147,19 @@ right_comes flights beat dues none = by_begun flights.due flights.begun dues non
         let own : flight.source ≡ beat.source = sym (subst (AreOf flight.source) has.beats_are are.0.own).0 ∙ known_source has.due beat has.same in
         let passes = eq-eqb flight.source beat.source own in
         comes due (Some flight) beat flight refl own (rw passes refl) (rw passes refl) (λ source is. sym (eqb-true flight.source source is) ∙ own) right
+
+-- no reply is over with it
+pub none_over : (flights : Flights) (source : ℕ) → begun_is_other source flights.begun ≡ false → cut_short flights source ≡ flights
+none_over flights source none = rw none refl
+
+pub uncut : (flights : Flights) (beat : DBeat) → Comes flights beat → cut_short flights beat.source ≡ flights
+uncut flights beat come = none_over flights beat.source (by_begun flights.begun refl)
+  where
+    by_begun : (begun : Option InFlight) → flights.begun ≡ begun → begun_is_other beat.source begun ≡ false
+    by_begun None is = refl
+    by_begun (Some flight) is =
+        let own = come.alone flight.source (ap (begun_is_of flight.source) is ∙ eqb_same flight.source) in
+        ap not (eq-eqb flight.source beat.source own)
 
 pub dues_after : (flights : Flights) (beat : DBeat) → AreDues (flying flights) → Comes flights beat → AreDues (flying (flights_after flights beat.source))
 dues_after flights beat dues come =

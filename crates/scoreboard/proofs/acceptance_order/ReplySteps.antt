@@ -8,13 +8,13 @@ use Rattle.axi_checker.specs.declared.AxiBeat.{AxiBeat}
 use Rattle.axi_checker.specs.Rules.{axi_fault, first_axi_fault, open_after_all}
 use Rattle.config.specs.Configs.{axi_port_of}
 use Rattle.scoreboard.specs.AxiPorts.{PortBoard, after_in_order, drained, wrong_axi, wrong_in_order}
-use Rattle.scoreboard.specs.Boards.{Beginning, Board, ClientBoard, early_after, told_to, with_client, wrong_reply}
-use Rattle.scoreboard.specs.Flights.{flights_after, next_reply}
+use Rattle.scoreboard.specs.Boards.{Beginning, Board, ClientBoard, client_after, client_cut, early_after, told_to, with_client, wrong_reply}
+use Rattle.scoreboard.specs.Flights.{Flights, flights_after, next_reply}
 use Rattle.scoreboard.specs.Observed.{Observed, with_axi_beat, with_reply_beat}
 use Rattle.scoreboard.specs.declared.Policy.TheVariants.{AcceptanceOrder}
 use Rattle.scoreboard.specs.Right.{IsFree, IsPartly, IsRightNow, IsTold, left_of, replies_to}
 use Rattle.scoreboard.proofs.acceptance_order.BoardOf.{IsBoardOf, IsClientOf}
-use Rattle.scoreboard.proofs.acceptance_order.Owed.{Comes, IsOwed, as_untold, dues_after, eqb_same, left_before, left_comes, owed_after, owed_beside, right_comes, same_or_not}
+use Rattle.scoreboard.proofs.acceptance_order.Owed.{Comes, IsOwed, as_untold, dues_after, eqb_same, left_before, left_comes, owed_after, owed_beside, right_comes, same_or_not, uncut}
 use Rattle.scoreboard.proofs.acceptance_order.RequestSteps.{board_with, client_kept}
 use Rattle.scoreboard.proofs.acceptance_order.SeenLists.{axi_fault-append, open_after_all-append}
 use Rattle.scoreboard.proofs.acceptance_order.Told.{left-beat}
@@ -75,11 +75,13 @@ right_told beginning observed number client beat to right =
 
 pub step_reply : (beginning : Beginning) (observed : Observed) (board : Board) (number : ℕ) (client : ClientBoard) (beat : DBeat) → IsBoardOf beginning observed board → slice_get board.clients number ≡ Some client
     → wrong_reply AcceptanceOrder (told_to client) (next_reply client.flights beat.source) beat ≡ None
-    → IsBoardOf beginning (with_reply_beat number beat observed) (with_client number (record client { flights = flights_after client.flights beat.source; early = early_after client beat.source; told = unwrap_or (told_to client) beat.denied }) board)
+    → IsBoardOf beginning (with_reply_beat number beat observed) (with_client number (client_after beat (client_cut beat.source client)) board)
 step_reply beginning observed board number client beat of there none =
-    board_with number client _ board.memory board.indeterminate of there (client_told beginning observed number client beat to)
+    subst (λ (flights : Flights). IsBoardOf beginning (with_reply_beat number beat observed) (with_client number (client_after beat (record client { flights = flights })) board))
+    (sym (uncut client.flights beat to.comes))
+    (board_with number client _ board.memory board.indeterminate of there (client_told beginning observed number client beat to)
     (λ other found differs was. client_kept was refl (λ source. refl) (λ source. told_other observed number beat other source (inl differs))) of.memory of.unknown refl
-    (right_told beginning observed number client beat to of.right)
+    (right_told beginning observed number client beat to of.right))
   where
     to : ComesTo beginning observed number client beat
     to = record { of = of.clients number client there; comes = right_comes client.flights beat (of.clients number client there).dues (as_untold (told_to client) (next_reply client.flights beat.source) beat ∙ none) }

@@ -1,6 +1,6 @@
 -- What a board holds after a beat, client by client, and that it stays held so.
-use Rattle.std.proofs.Common.{◌≡◌, ℕ, ◌<◌, ◌≤◌, ◌/◌, Bool, true, false, List, map, set, length, get_or, Some, refl, sym, subst, ◌∙◌, ap, ap₂}
-use Rattle.std.specs.Prelude.{IfSome, slice_get, unwrap_or}
+use Rattle.std.proofs.Common.{◌≡◌, ℕ, ◌<◌, ◌≤◌, ◌/◌, Bool, true, false, List, [], ◌∷◌, map, set, length, get_or, Some, refl, sym, subst, ◌∙◌, ap, ap₂}
+use Rattle.std.specs.Prelude.{IfSome, slice_get}
 use Rattle.std.specs.Option.{option_map}
 use Rattle.std.proofs.lemmas.List.{length-map, length-set, map-set}
 use Rattle.std.proofs.lemmas.Option.{same_Some, slice_get-map, slice_get_read}
@@ -10,11 +10,12 @@ use Rattle.tl_messages.specs.Operations.{has_data}
 use Rattle.tl_messages.specs.Requests.{HeldMessage, WholeRequest, begun, bytes_given, request_of}
 use Rattle.tl_messages.specs.declared.ABeat.{ABeat}
 use Rattle.tl_messages.specs.declared.DBeat.{DBeat}
-use Rattle.scoreboard.specs.Boards.{Board, ClientBoard, acting, after_d, begun_on, client_beside, client_footprints, coming_on, early_after, early_due, fails, flight_for, footprints_of, given_on, has_replied, hit_client, in_turn_on, joined_on, joining_on, told_to, with_accepted, with_client, with_taken, with_whole}
+use Rattle.scoreboard.specs.Boards.{Board, ClientBoard, acting, after_d, begun_on, client_after, client_beside, client_cut, client_footprints, coming_on, early_due, fails, flight_for, footprints_of, given_on, has_replied, hit_client, in_turn_on, joined_on, joining_on, with_accepted, with_client, with_taken, with_whole}
 use Rattle.scoreboard.specs.FailedBursts.{Span}
-use Rattle.scoreboard.specs.Flights.{Footprint, InFlight, flights_after, is_of_source}
+use Rattle.scoreboard.specs.Flights.{Footprint, InFlight, is_of_source}
 use Rattle.scoreboard.specs.InTurn.{after_turn, unless_fixed}
-use Rattle.scoreboard.specs.InsideBoards.{HaveRoomToWrite, BoardState, ClientState, ClientsHaveRoom, FlightState, IsFreeOf, board_of, client_of, flight_of, flights_of, footprint_of}
+use Rattle.scoreboard.specs.Resets.{reset_client}
+use Rattle.scoreboard.specs.InsideBoards.{HaveRoomToWrite, BoardState, ClientState, ClientsHaveRoom, FlightState, IsFreeOf, board_of, client_of, flight_of, footprint_of}
 use Rattle.scoreboard.specs.Races.{after_given, after_joining, beside_dependent, flight_beside, joining, unless_failed}
 use Rattle.serial_memory.specs.SerialMemory.{HasRoomToGive, Memory, MemoryState, carried_out, doubts_of, memory_of, place_in, rooms_of}
 use Rattle.scoreboard.specs.declared.Errors.{Errors}
@@ -40,7 +41,7 @@ client_is clients number one found there is = same_Some _ _ (sym (client_there c
 -- ---- a beat on channel D
 
 pub replied : (state : BoardState) (number : ℕ) (found new : ClientState) (beat : DBeat) → slice_get state.clients number ≡ Some found
-    → client_of new ≡ record (client_of found) { flights = flights_after (flights_of found.flights) beat.source; early = early_after (client_of found) beat.source; told = unwrap_or (told_to (client_of found)) beat.denied }
+    → client_of new ≡ client_after beat (client_cut beat.source (client_of found))
     → board_of (record state { clients = set state.clients number new }) ≡ after_d (board_of state) number (slice_get (board_of state).clients number) beat
 replied state number found new beat there is =
     rw (client_there state.clients number found there)
@@ -77,6 +78,15 @@ all_kept room rooms clients new change is good fits held =
 pub beside_kept : (room : ℕ) (rooms : ℕ → Bool) (clients given : List ClientState) (footprint : Footprint) → map client_of given ≡ map (client_beside footprint) (map client_of clients)
     → (ClientsHaveRoom room clients → ClientsHaveRoom room given) → AreKept room rooms clients → AreKept room rooms given
 beside_kept room rooms clients given footprint is fits held = all_kept room rooms clients given (client_beside footprint) is (all_beside rooms footprint (map client_of clients)) fits held
+
+-- that have begun nothing, so that they write nothing
+reset_room : (rooms : ℕ → Bool) (clients : List ClientBoard) → HaveRoomToWrite rooms (footprints_of (map reset_client clients))
+reset_room rooms [] = tt
+reset_room rooms (client ∷ clients) = (λ writes. absurd (cc (writes)), reset_room rooms clients)
+
+pub reset_kept : (room : ℕ) (rooms : ℕ → Bool) (clients new : List ClientState) → map client_of new ≡ map reset_client (map client_of clients)
+    → (ClientsHaveRoom room clients → ClientsHaveRoom room new) → AreKept room rooms clients → AreKept room rooms new
+reset_kept room rooms clients new is fits held = all_kept room rooms clients new reset_client is (λ good. reset_room rooms (map client_of clients)) fits held
 
 -- of which those are hit that share a byte with a burst
 pub hit_kept : (room : ℕ) (rooms : ℕ → Bool) (clients new : List ClientState) (span : Span) → map client_of new ≡ map (hit_client span) (map client_of clients)

@@ -9,9 +9,9 @@ use Rattle.bus_words.proofs.PlaceChanges.{all-append, all-find, all-map, all-set
 use Rattle.tl_messages.specs.Operations.{has_data}
 use Rattle.tl_messages.specs.Requests.{WholeRequest}
 use Rattle.tl_messages.specs.declared.DBeat.{DBeat}
-use Rattle.scoreboard.specs.Boards.{ClientBoard, client_beside, client_footprints, footprints_of, hit_client, with_accepted, with_whole}
+use Rattle.scoreboard.specs.Boards.{ClientBoard, client_beside, client_cut, client_footprints, footprints_of, hit_client, with_accepted, with_whole}
 use Rattle.scoreboard.specs.FailedBursts.{Span, hit, shares}
-use Rattle.scoreboard.specs.Flights.{Footprint, InFlight, begun_after, flights_after, in_flight, is_of_source, with_left}
+use Rattle.scoreboard.specs.Flights.{Footprint, InFlight, begun_after, flights_after, in_flight, is_of_source, is_over, with_left}
 use Rattle.scoreboard.specs.InsideBoards.{HaveRoomToWrite, ClientState, HasRoomToWrite, client_changed, client_of, flight_changed}
 use Rattle.scoreboard.specs.Races.{beside, joining, unless_failed}
 
@@ -114,6 +114,16 @@ module _ (rooms : ℕ → Bool) where
       by_begun None none =
           (all-without_first HasRoom (is_of_source source) due all, begun_good (find (is_of_source source) due) source (found (find (is_of_source source) due) refl), (room_parts client good).2)
       by_begun (Some flight) some = (all, begun_good (Some flight) source some, (room_parts client good).2)
+
+  -- as the beat finds it
+  pub room_cut : (client : ClientBoard) (source : ℕ) → HaveRoomToWrite rooms (client_footprints client) → HaveRoomToWrite rooms (client_footprints (client_cut source client))
+  room_cut client source good =
+      let parts = room_parts client good in
+      room_whole (client_cut source client) (parts.0, by_over (is_over client.flights source) client.flights.begun parts.1, parts.2)
+    where
+      by_over : (over : Bool) (begun : Option InFlight) → AllByRecursion HasRoom (option_to_list begun) → AllByRecursion HasRoom (option_to_list (if over then None else begun))
+      by_over true begun all = tt
+      by_over false begun all = all
 
   -- where each footprint changes, and stays on a good page
   module _ (change : Footprint → Footprint) (keeps : (footprint : Footprint) → HasRoomToWrite rooms footprint → HasRoomToWrite rooms (change footprint)) where

@@ -11,7 +11,7 @@ use Rattle.axi_checker.specs.declared.AxiRule.{AxiRule}
 use Rattle.axi_checker.specs.Rules.{axi_fault}
 use Rattle.scoreboard.specs.AxiPorts.{PortBoard, port_after, port_wrong, wrong_axi, wrong_with_early}
 use Rattle.scoreboard.specs.Boards.{Board, after_axi, hit_on}
-use Rattle.scoreboard.specs.FailedBursts.{Span, after_hit, answered_span, failed_span, shares}
+use Rattle.scoreboard.specs.FailedBursts.{Reach, Span, after_reached, answered_span, failed_span, reaches}
 use Rattle.scoreboard.specs.Flights.{Footprint}
 use Rattle.scoreboard.specs.InsideBoards.{span_told}
 use Rattle.scoreboard.specs.Races.{may_write}
@@ -23,17 +23,18 @@ use Rattle.scoreboard.specs.declared.Wrong.{Wrong}
 
 -- ---- what is indeterminate of some requests
 
-pub after_hit-none : (m : ℕ → Bool) (span : Span) → after_hit m span [] ≡ m
-after_hit-none m span = fun_ext (λ x. or-false (m x))
+pub after_reached-none : (m : ℕ → Bool) (reach : Reach) → after_reached m reach [] ≡ m
+after_reached-none m reach = fun_ext (λ x. or-false (m x))
 
-pub after_hit-append : (m : ℕ → Bool) (span : Span) (xs ys : List Footprint) → after_hit (after_hit m span xs) span ys ≡ after_hit m span (xs ++ ys)
-after_hit-append m span xs ys = fun_ext (λ x. rw (list_any-append (λ footprint. shares span footprint && may_write footprint x) xs ys) (grind arith))
+pub after_reached-append : (m : ℕ → Bool) (reach : Reach) (xs ys : List Footprint)
+    → after_reached (after_reached m reach xs) reach ys ≡ after_reached m reach (xs ++ ys)
+after_reached-append m reach xs ys = fun_ext (λ x. rw (list_any-append (λ footprint. reaches reach footprint && may_write footprint x) xs ys) (grind arith))
 
 -- one more
-pub after_hit-last : (m now new : ℕ → Bool) (span : Span) (xs : List Footprint) (footprint : Footprint) → now ≡ after_hit m span xs
-    → ((x : ℕ) → new x ≡ (now x || shares span footprint && may_write footprint x)) → new ≡ after_hit m span (xs ++ footprint ∷ [])
-after_hit-last m now new span xs footprint before step =
-    fun_ext (λ x. step x ∙ rw (before, list_any-append (λ one. shares span one && may_write one x) xs (footprint ∷ [])) (grind arith))
+pub after_reached-last : (m now new : ℕ → Bool) (reach : Reach) (xs : List Footprint) (footprint : Footprint) → now ≡ after_reached m reach xs
+    → ((x : ℕ) → new x ≡ (now x || reaches reach footprint && may_write footprint x)) → new ≡ after_reached m reach (xs ++ footprint ∷ [])
+after_reached-last m now new reach xs footprint before step =
+    fun_ext (λ x. step x ∙ rw (before, list_any-append (λ one. reaches reach one && may_write one x) xs (footprint ∷ [])) (grind arith))
 
 -- ---- what a beat on the AXI4 port tells
 

@@ -131,7 +131,7 @@ module _ (board : Board) (number : ℕ) (client : ClientBoard) (q : WholeRequest
       board.indeterminate board.memory.bytes (first_of Strict number q true n) accepted well refl refl
       (joins_right board.memory.faults board.memory.regions board.indeterminate (footprint_at board.clients) (footprints_of board.clients) q are well)
       are explains.apart explains.either (own_flight board number client q sure there free) (other_flight board number client q sure there free) before after start explains.entries none elsewhere explains.distinct explains.known refl
-      explains.small refl in
+      explains.small refl explains.spared in
       record {
         sources =
             sources_with beside_it number (client_beside sure client) (changed board number client q sure there free) (there_beside board number client q sure there free)
@@ -151,6 +151,7 @@ module _ (board : Board) (number : ℕ) (client : ClientBoard) (q : WholeRequest
         begun = λ c some.
             any_with (begun_to c) before after (first_of Strict number q true n)
             (explains.begun c (sym (still_some board number client q sure there free (begun_at c) (not_due c)) ∙ some));
+        spared = with_it.spared_now;
       }
     where
       are : AreAll (footprint_at board.clients) (footprints_of board.clients)

@@ -1,5 +1,5 @@
 -- Orders that keep real time arise as requests are put in with their first beats, one after another, each as what it becomes.
-use Rattle.std.proofs.Common.{◌≡◌, ◌≢◌, ℕ, zero, suc, ◌+◌, ◌<◌, ◌≤◌, ◌==◌, Bool, true, false, ◌&&◌, ◌||◌, not, List, [], ◌∷◌, ◌++◌, map, filter, length, Option, Some, None, Result, Ok, Err, inl, inr, if◌then◌else◌, nat_lt, refl, sym, ◌∙◌, ap, subst, arith}
+use Rattle.std.proofs.Common.{◌≡◌, ◌≢◌, ℕ, zero, suc, ◌+◌, ◌<◌, ◌≤◌, ◌==◌, Bool, true, false, ◌&&◌, ◌||◌, not, List, [], ◌∷◌, ◌++◌, map, filter, length, Option, Some, None, Result, Ok, Err, inl, inr, if◌then◌else◌, nat_lt, refl, sym, ◌∙◌, ap, ap₂, subst, arith}
 use Rattle.std.specs.Prelude.{slice_get}
 use Rattle.std.specs.List.{AllByRecursion, list_any, range_with_len}
 use Rattle.std.proofs.lemmas.Bool.{both_ways, cases_eq, cases_Bool, false_from_ne_true, lt-ltb, ltb-true, or_right}
@@ -21,9 +21,10 @@ use Rattle.scoreboard.specs.declared.Errors.{Errors}
 use Rattle.scoreboard.specs.declared.Policy.TheVariants as policy
 use Rattle.scoreboard.specs.declared.ObservedBeat.{ObservedBeat}
 use Rattle.scoreboard.specs.declared.ObservedBeat.TheVariants.{A, D, Axi as OnAxi, Drained}
-use Rattle.scoreboard.specs.Orders.{Entry, Order, after_beat, begun_to, board_after, counted, has_ended, is_due, reply_beats, with_beat}
+use Rattle.scoreboard.specs.Orders.{Entry, Order, after_beat, awaits, begun_to, begun_to_other, board_after, counted, cut_short, ended_early, has_ended, is_due, is_over, reply_beats, with_beat, with_counted}
 use Rattle.scoreboard.specs.RealTime.{EndedBefore, IsOrderOf, KeepsRealTime, MayBecome, MayBecomeAll, acting_footprint, arranged, as_begun, becoming, begun_in, begun_next, completed, heard, numbered, struck, with_answered, with_failed, with_progress, with_request}
 use Rattle.serial_memory.specs.SerialMemory.{Memory}
+use Rattle.scoreboard.proofs.MappedLists.{any_map}
 use Rattle.scoreboard.proofs.real_time.RequestActs.{well_bytes}
 use Rattle.scoreboard.proofs.real_time.StepOrders as steps
 use Rattle.scoreboard.proofs.real_time.StepOrders.{GoesOn, GoesOnAnswered, GoesOnRequest, GoesOnTaken, HasFate, IsOrderFrom, IsPutIn, fated_of, finished, first_of, is_coming}
@@ -190,6 +191,38 @@ beat_kept begun client source entry q fields =
     by_whole true = refl
     by_whole false = refl
 
+-- a reply that is over
+other_kept : (client source : ℕ) → IsKept (begun_to_other client source)
+other_kept client source entry q fields = ap (λ (r : WholeRequest). begun_to_other client source (record entry { request = r })) fields
+
+waits_kept : (client source : ℕ) → IsKept (awaits client source)
+waits_kept client source entry q fields = ap (λ (r : WholeRequest). awaits client source (record entry { request = r })) fields
+
+early_request : (over : Bool) (client : ℕ) (entry : Entry) → (ended_early over client entry).request ≡ entry.request
+early_request over client entry =
+    elim (cases_Bool (over && begun_to client entry)) [
+      | inl is ↦ rw is refl
+      | inr is ↦ rw is refl
+    ]
+
+early_kept : (over : Bool) (client : ℕ) (entry : Entry) (q : WholeRequest) → HasFields entry q
+    → ended_early over client (record entry { request = q }) ≡ record (ended_early over client entry) { request = q }
+early_kept over client entry q fields =
+    elim (cases_Bool (over && begun_to client entry)) [
+      | inl is ↦ let other = same ∙ is in rw (is, other) (ap (λ (r : WholeRequest). record entry { request = q; came = reply_beats r }) fields)
+      | inr is ↦ let other = same ∙ is in rw (is, other) refl
+    ]
+  where
+    same : (over && begun_to client (record entry { request = q })) ≡ (over && begun_to client entry)
+    same = ap (λ (b : Bool). over && b) (begun_kept client entry q fields)
+
+-- and whether one has begun then
+early_begun_kept : (over : Bool) (client : ℕ) → IsKept (λ entry. begun_to client (ended_early over client entry))
+early_begun_kept over client entry q fields =
+    ap (begun_to client) (early_kept over client entry q fields)
+    ∙ begun_kept client (ended_early over client entry) q
+    (fields ∙ ap (λ (r : WholeRequest). record r { bytes = q.bytes; corrupt = q.corrupt }) (sym (early_request over client entry)))
+
 -- its last beat
 finish_kept : (errors : Errors) (client : ℕ) (q r : WholeRequest) (entry : Entry) → (is_coming client entry ≡ true → reply_beats q ≡ reply_beats r)
     → record (completed errors client q entry) { request = r } ≡ finished errors client q (record entry { request = r })
@@ -336,24 +369,59 @@ module _ (errors : Errors) (setup : Beginning) (beats : List ObservedBeat) (requ
     quiet : now ≡ begun done → longer ≡ so_far done
     quiet same = ap entries_of (is_next ∙ same)
 
+    -- a change of each that asks nothing of a request that it may become otherwise
+    each_change : (order : Order) (change : Entry → Entry)
+        → ((k : ℕ) → k < length order → record (change (numbered order k)) { request = requests k } ≡ change (becoming order requests k))
+        → entries_of (map change order) ≡ map change (entries_of order)
+    each_change order change same =
+        ap (λ n. map (becoming (map change order) requests) (below n numbers)) (length-map order change)
+        ∙ same_below (becoming (map change order) requests) (λ k. change (becoming order requests k)) (length order) numbers
+        (λ k small. ap (λ (entry : Entry). record entry { request = requests k }) (numbered_map change order k small) ∙ same k small)
+        ∙ sym (map-map change (becoming order requests) (below (length order) numbers))
+
     -- a beat of a reply
     beat : (client source : ℕ) → now ≡ after_beat (begun done) client source → longer ≡ after_beat (so_far done) client source
     beat client source same =
         ap entries_of (is_next ∙ same)
-        ∙ ap (λ n. map (becoming (map change (begun done)) requests) (below n numbers)) (length-map (begun done) change)
-        ∙ same_below (becoming (map change (begun done)) requests) (λ k. change (becoming (begun done) requests k)) (length (begun done)) numbers each
-        ∙ sym (map-map change (becoming (begun done) requests) (below (length (begun done)) numbers))
-        ∙ ap (λ (begun : Bool). map (with_beat begun client source) (so_far done))
-        (sym (any_so_far done (seen ∷ rest) (begun_to client) parts (begun_kept client)))
+        ∙ each_change cut (with_beat begun_then client source) each_counted
+        ∙ ap (map (with_beat begun_then client source)) (each_change (begun done) (ended_early over client) each_cut)
+        ∙ ap (λ (b : Bool). map (with_beat b client source) (map (ended_early over client) (so_far done))) begun_same
+        ∙ ap (λ (b : Bool). with_counted (map (ended_early b client) (so_far done)) client source) over_same
       where
-        change : Entry → Entry
-        change = with_beat (list_any (begun_to client) (begun done)) client source
+        over : Bool
+        over = is_over (begun done) client source
 
-        each : (k : ℕ) → k < length (begun done) → becoming (map change (begun done)) requests k ≡ change (becoming (begun done) requests k)
-        each k small =
-            ap (λ (entry : Entry). record entry { request = requests k }) (numbered_map change (begun done) k small)
-            ∙ sym (beat_kept (list_any (begun_to client) (begun done)) client source (numbered (begun done) k) (requests k)
-            (fields_there done (seen ∷ rest) parts k small))
+        cut : Order
+        cut = cut_short (begun done) client source
+
+        begun_then : Bool
+        begun_then = list_any (begun_to client) cut
+
+        each_cut : (k : ℕ) → k < length (begun done)
+            → record (ended_early over client (numbered (begun done) k)) { request = requests k } ≡ ended_early over client (becoming (begun done) requests k)
+        each_cut k small = sym (early_kept over client (numbered (begun done) k) (requests k) (fields_there done (seen ∷ rest) parts k small))
+
+        fields_cut : (k : ℕ) → k < length cut → HasFields (numbered cut k) (requests k)
+        fields_cut k small =
+            let within : k < length (begun done) = omega (arith, small, length-map (begun done) (ended_early over client)) in
+            let is = ap (λ (entry : Entry). entry.request) (numbered_map (ended_early over client) (begun done) k within) ∙ early_request over client (numbered (begun done) k) in
+            fields_there done (seen ∷ rest) parts k within
+            ∙ ap (λ (r : WholeRequest). record r { bytes = (requests k).bytes; corrupt = (requests k).corrupt }) (sym is)
+
+        each_counted : (k : ℕ) → k < length cut
+            → record (with_beat begun_then client source (numbered cut k)) { request = requests k } ≡ with_beat begun_then client source (becoming cut requests k)
+        each_counted k small = sym (beat_kept begun_then client source (numbered cut k) (requests k) (fields_cut k small))
+
+        begun_same : begun_then ≡ list_any (begun_to client) (map (ended_early over client) (so_far done))
+        begun_same =
+            any_map (begun_to client) (ended_early over client) (begun done)
+            ∙ sym (any_so_far done (seen ∷ rest) (λ entry. begun_to client (ended_early over client entry)) parts (early_begun_kept over client))
+            ∙ sym (any_map (begun_to client) (ended_early over client) (so_far done))
+
+        over_same : over ≡ is_over (so_far done) client source
+        over_same =
+            ap₂ (λ (other waits : Bool). other && waits) (sym (any_so_far done (seen ∷ rest) (begun_to_other client source) parts (other_kept client source)))
+            (sym (any_so_far done (seen ∷ rest) (awaits client source) parts (waits_kept client source)))
 
     -- how errors may be told there
     abbrev errors_now : Errors
@@ -364,25 +432,19 @@ module _ (errors : Errors) (setup : Beginning) (beats : List ObservedBeat) (requ
     fail memory None same = quiet same
     fail memory (Some span) same =
         ap entries_of (is_next ∙ same)
-        ∙ ap (λ n. map (becoming (map change (begun done)) requests) (below n numbers)) (length-map (begun done) change)
-        ∙ same_below (becoming (map change (begun done)) requests) (λ k. change (becoming (begun done) requests k)) (length (begun done)) numbers each
-        ∙ sym (map-map change (becoming (begun done) requests) (below (length (begun done)) numbers))
+        ∙ each_change (begun done) change each
       where
         change : Entry → Entry
         change = struck memory span
 
-        each : (k : ℕ) → k < length (begun done) → becoming (map change (begun done)) requests k ≡ change (becoming (begun done) requests k)
-        each k small =
-            ap (λ (entry : Entry). record entry { request = requests k }) (numbered_map change (begun done) k small)
-            ∙ struck_kept memory span (numbered (begun done) k) (requests k) (fields_there done (seen ∷ rest) parts k small)
+        each : (k : ℕ) → k < length (begun done) → record (change (numbered (begun done) k)) { request = requests k } ≡ change (becoming (begun done) requests k)
+        each k small = struck_kept memory span (numbered (begun done) k) (requests k) (fields_there done (seen ∷ rest) parts k small)
 
     -- a beat between the first and the last of a request
     hear : (client : ℕ) (q : WholeRequest) → now ≡ map (heard errors_now client q) (begun done) → longer ≡ map (heard errors_now client q) (so_far done)
     hear client q same =
         ap entries_of (is_next ∙ same)
-        ∙ ap (λ n. map (becoming (map change (begun done)) requests) (below n numbers)) (length-map (begun done) change)
-        ∙ same_below (becoming (map change (begun done)) requests) (λ k. change (becoming (begun done) requests k)) (length (begun done)) numbers each
-        ∙ sym (map-map change (becoming (begun done) requests) (below (length (begun done)) numbers))
+        ∙ each_change (begun done) change each
       where
         change : Entry → Entry
         change = heard errors_now client q
@@ -394,10 +456,8 @@ module _ (errors : Errors) (setup : Beginning) (beats : List ObservedBeat) (requ
               | inr is ↦ rw is refl
             ]
 
-        each : (k : ℕ) → k < length (begun done) → becoming (map change (begun done)) requests k ≡ change (becoming (begun done) requests k)
-        each k small =
-            ap (λ (entry : Entry). record entry { request = requests k }) (numbered_map change (begun done) k small)
-            ∙ by_open (numbered (begun done) k) (requests k)
+        each : (k : ℕ) → k < length (begun done) → record (change (numbered (begun done) k)) { request = requests k } ≡ change (becoming (begun done) requests k)
+        each k small = by_open (numbered (begun done) k) (requests k)
 
     -- the last beat of a request
     finish : (client : ℕ) (q : WholeRequest) → now ≡ map (completed errors_now client q) (begun done)

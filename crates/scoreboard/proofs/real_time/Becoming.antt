@@ -17,7 +17,7 @@ use Rattle.scoreboard.specs.Boards.{Beginning, Board, ClientBoard, after_a, afte
 use Rattle.scoreboard.specs.FailedBursts.{Span, failed_span, shares}
 use Rattle.scoreboard.specs.Flights.{is_busy}
 use Rattle.scoreboard.specs.InsideBoards.{front_after}
-use Rattle.scoreboard.specs.Orders.{Entry, Order, begun_to, board_after, counted, has_ended, is_due, reply_beats, with_beat}
+use Rattle.scoreboard.specs.Orders.{Entry, Order, begun_to, board_after, counted, cut_short, ended_early, has_ended, is_due, is_over, reply_beats, with_beat}
 use Rattle.scoreboard.specs.RealTime.{GivesBytes, MayBecome, acting_footprint, begun_from, begun_in, begun_next, completed, entry_of, heard, numbered, struck, with_answered, with_failed, with_progress, with_request}
 use Rattle.serial_memory.specs.SerialMemory.{Memory}
 use Rattle.scoreboard.specs.declared.Errors.{Errors}
@@ -306,6 +306,15 @@ held_beat errors fronts next begun client source entry same was =
     by_whole true held = held
     by_whole false held = held
 
+-- nor does a reply that is over
+held_early : (errors : Errors) (fronts : ℕ → Option HeldMessage) (over : Bool) (client : ℕ) (entry : Entry) → IsHeldBy errors fronts entry
+    → IsHeldBy errors fronts (ended_early over client entry)
+held_early errors fronts over client entry was =
+    elim (cases_Bool (over && begun_to client entry)) [
+      | inl is ↦ rw is was
+      | inr is ↦ rw is was
+    ]
+
 held_request : (board : Board) (number : ℕ) (beat : ABeat) (now : Order) → AreFronts board.clients → AreHeld board.errors (front_at board.clients) now
     → AreHeld board.errors (front_at (after_a RealTime board number (slice_get board.clients number) beat).clients)
     (with_request board.errors number (slice_get board.clients number) beat now)
@@ -367,9 +376,13 @@ followed_next board seen now follows =
     by_seen (A number beat) = held_request board number beat now follows.fronts follows.held
     by_seen (D number beat) =
         let next = front_at (after_seen RealTime board (D number beat)).clients in
-        let begun = list_any (begun_to number) now in
-        each_map (IsHeldBy board.errors (front_at board.clients)) (IsHeldBy board.errors next) (with_beat begun number beat.source) now
-        (λ entry. held_beat board.errors (front_at board.clients) next begun number beat.source entry (λ other. front_replied board number other beat)) follows.held
+        let over = is_over now number beat.source in
+        let cut = cut_short now number beat.source in
+        let begun = list_any (begun_to number) cut in
+        each_map (IsHeldBy board.errors (front_at board.clients)) (IsHeldBy board.errors next) (with_beat begun number beat.source) cut
+        (λ entry. held_beat board.errors (front_at board.clients) next begun number beat.source entry (λ other. front_replied board number other beat))
+        (each_map (IsHeldBy board.errors (front_at board.clients)) (IsHeldBy board.errors (front_at board.clients)) (ended_early over number) now
+        (held_early board.errors (front_at board.clients) over number) follows.held)
     by_seen (OnAxi beat) =
         let span = failed_span board.errors board.axi beat in
         held_failed board.errors board.memory (front_at board.clients) (front_at (after_seen RealTime board (OnAxi beat)).clients) span now
@@ -403,6 +416,14 @@ may_beat begun client source entry fated q =
     by_whole : (whole : Bool) → MayBecome (as_fated fated (counted whole entry)) q → MayBecome (as_fated fated entry) q
     by_whole true may = record { same = may.same; fields = may.fields; corrupt = may.corrupt; bytes = may.bytes; left = may.left }
     by_whole false may = record { same = may.same; fields = may.fields; corrupt = may.corrupt; bytes = may.bytes; left = may.left }
+
+may_early : (over : Bool) (client : ℕ) (entry : Entry) (fated : Bool) (q : WholeRequest) → MayBecome (as_fated fated (ended_early over client entry)) q
+    → MayBecome (as_fated fated entry) q
+may_early over client entry fated q =
+    elim (cases_Bool (over && begun_to client entry)) [
+      | inl is ↦ rw is (λ may. record { same = may.same; fields = may.fields; corrupt = may.corrupt; bytes = may.bytes; left = may.left })
+      | inr is ↦ rw is (λ may. may)
+    ]
 
 may_failed : (fate : ℕ → Bool) (memory : Memory) (span : Option Span) (now : Order) (requests : ℕ → WholeRequest)
     → MayBecomeFated fate (with_failed memory span now) requests → MayBecomeFated fate now requests
@@ -445,13 +466,16 @@ may_request fate board number beat now requests follows = by_client (slice_get b
 
 pub may_before : (fate : ℕ → Bool) (board : Board) (seen : ObservedBeat) (now : Order) (requests : ℕ → WholeRequest) → IsFollowed board now
     → MayBecomeFated fate (begun_next board seen now) requests → MayBecomeFated fate now requests
-may_before fate board (A number beat) now requests follows may k small = may_request fate board number beat now requests follows may k small
-may_before fate board (D number beat) now requests follows may k small =
-    may_change fate (with_beat (list_any (begun_to number) now) number beat.source) now requests
-    (λ i below. may_beat (list_any (begun_to number) now) number beat.source (numbered now i) (fate i) (requests i)) may k small
-may_before fate board (OnAxi beat) now requests follows may k small =
-    may_failed fate board.memory (failed_span board.errors board.axi beat) now requests may k small
-may_before fate board Drained now requests follows may k small = may k small
+may_before fate board (A number beat) now requests follows may = may_request fate board number beat now requests follows may
+may_before fate board (D number beat) now requests follows may =
+    let over = is_over now number beat.source in
+    let cut = cut_short now number beat.source in
+    let begun = list_any (begun_to number) cut in
+    may_change fate (ended_early over number) now requests (λ i below. may_early over number (numbered now i) (fate i) (requests i))
+    (may_change fate (with_beat begun number beat.source) cut requests (λ i below. may_beat begun number beat.source (numbered cut i) (fate i) (requests i)) may)
+may_before fate board (OnAxi beat) now requests follows may =
+    may_failed fate board.memory (failed_span board.errors board.axi beat) now requests may
+may_before fate board Drained now requests follows may = may
 
 -- along a list of beats
 pub may_from : (fate : ℕ → Bool) (beats : List ObservedBeat) (board : Board) (now : Order) (requests : ℕ → WholeRequest) → IsFollowed board now

@@ -43,7 +43,7 @@ use Rattle.scoreboard.proofs.real_time.Entries.{place_of}
 use Rattle.scoreboard.proofs.real_time.Lengths.{some_beats}
 use Rattle.scoreboard.proofs.real_time.ReplyMoves.{waits_for}
 use Rattle.scoreboard.proofs.real_time.Follows.{Follows, IsFailing, IsFated, IsFollowed, IsMarked, IsOpen, begun_here, begun_settled, follows_as, run_settled, settle, settled, some_passes}
-use Rattle.scoreboard.proofs.real_time.FollowsEarly.{follows_reply}
+use Rattle.scoreboard.proofs.real_time.FollowsCut.{follows_reply}
 use Rattle.scoreboard.proofs.real_time.FollowsHits.{follows_failed}
 use Rattle.scoreboard.proofs.real_time.FollowsReplies.{EarlyDue, WholeDue, due_cases, due_settled, due_whole, early_due_in, early_there, nobody_due}
 use Rattle.scoreboard.proofs.real_time.Comings.{early_at, early_in}
@@ -573,9 +573,9 @@ follows_opening start fate errors setup begins any = (
             ap (λ (c : ClientBoard). is_some c.front) opened.1
 
 -- where addresses lead stays
-record SameSetup (old new : Board) : Type 0 where
-  faults : new.memory.faults ≡ old.memory.faults
-  regions : new.memory.regions ≡ old.memory.regions
+pub record SameSetup (old new : Board) : Type 0 where
+  pub faults : new.memory.faults ≡ old.memory.faults
+  pub regions : new.memory.regions ≡ old.memory.regions
 
 next_setup : (board : Board) (seen : ObservedBeat) → SameSetup board (after_seen RealTime board seen)
 next_setup board (A number beat) = record { faults = grind arith; regions = grind arith }
@@ -589,7 +589,7 @@ next_setup board (OnAxi beat) =
     by_span (Some span) old = record { faults = refl; regions = refl }
 next_setup board Drained = record { faults = refl; regions = refl }
 
-all_setup : (beats : List ObservedBeat) (board : Board) → SameSetup board (after_all RealTime board beats)
+pub all_setup : (beats : List ObservedBeat) (board : Board) → SameSetup board (after_all RealTime board beats)
 all_setup [] board = record { faults = refl; regions = refl }
 all_setup (seen ∷ beats) board =
     let first = next_setup board seen in
@@ -598,7 +598,7 @@ all_setup (seen ∷ beats) board =
 
 -- ---- the laws
 
-followed : (start : Bytes) (errors : Errors) (setup : Beginning) (before : List ObservedBeat) (order : Order) → MayBegin setup start → IsOrderOf errors setup before order
+pub followed : (start : Bytes) (errors : Errors) (setup : Beginning) (before : List ObservedBeat) (order : Order) → MayBegin setup start → IsOrderOf errors setup before order
     → (shadow : Shadow) × Follows start (board_after errors setup before) shadow order × AllByRecursion (λ entry. shadow.fate entry.number ≡ true → entry.spoiled ≡ true) order
 followed start errors setup before order begins orders =
     let (shadow, follows, is) =
@@ -619,7 +619,7 @@ wrong_as_in setup start order asked (Reply broken due) is none = absurd (cc (sym
 wrong_as_in setup start order asked (Axi broken) is none = absurd is
 wrong_as_in setup start order asked WrongPlace is none = absurd is
 
-run_all : (setup : SetupLists) (order : Order) (m : Bytes)
+pub run_all : (setup : SetupLists) (order : Order) (m : Bytes)
     → bytes_after_all (faults_of setup) setup.regions (map (λ entry. entry.request) order) m ≡ run (faults_of setup) setup.regions m order
 run_all setup [] m = refl
 run_all setup (entry ∷ order) m = run_all setup order (carry (faults_of setup) setup.regions entry.request m)

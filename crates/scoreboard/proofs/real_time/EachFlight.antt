@@ -15,9 +15,9 @@ use Rattle.tl_checker.specs.declared.Progress.TheVariants.{More, Whole}
 use Rattle.tl_checker.specs.declared.TlRule.{TlRule}
 use Rattle.axi_checker.specs.declared.AxiBeat.{AxiBeat}
 use Rattle.scoreboard.specs.AxiPorts.{port_after}
-use Rattle.scoreboard.specs.Boards.{Board, ClientBoard, after_a, after_d, after_seen, answer_to, answered_on, client_beside, coming_on, early_after, early_due, flight_for, has_replied, hit_client, hit_on, is_spoiled, joining_on, more_on, told_to, whole_on, with_accepted, with_client, with_whole}
+use Rattle.scoreboard.specs.Boards.{Board, ClientBoard, after_a, after_d, after_seen, answer_to, answered_on, client_after, client_beside, client_cut, coming_on, early_after, early_due, flight_for, has_replied, hit_client, hit_on, is_spoiled, joining_on, more_on, told_to, whole_on, with_accepted, with_client, with_whole}
 use Rattle.scoreboard.specs.FailedBursts.{Span, failed_span, hit_flight}
-use Rattle.scoreboard.specs.Flights.{Footprint, InFlight, begun_after, flights_after, is_of_source, with_left}
+use Rattle.scoreboard.specs.Flights.{Footprint, InFlight, begun_after, flights_after, is_of_source, is_over, with_left}
 use Rattle.scoreboard.specs.Races.{flight_beside, unless_failed}
 use Rattle.scoreboard.specs.declared.Errors.{Errors}
 use Rattle.scoreboard.specs.declared.Errors.TheVariants.{Any, Strict}
@@ -64,7 +64,7 @@ module _ (P : InFlight → Type 0) (beside_kept : (footprint : Footprint) (fligh
       by_source true = left (drop 1 flight.beats) (left_kept flight all.0)
       by_source false = all
 
-  each_replied : (client : ClientBoard) (source : ℕ) (told : Bool) → IsOfEach P client
+  pub each_replied : (client : ClientBoard) (source : ℕ) (told : Bool) → IsOfEach P client
       → IsOfEach P (record client { flights = flights_after client.flights source; early = early_after client source; told = told })
   each_replied client source told all = by_begun client.flights.begun all.1
     where
@@ -80,6 +80,13 @@ module _ (P : InFlight → Type 0) (beside_kept : (footprint : Footprint) (fligh
       by_begun None none =
           (all-without_first P (is_of_source source) due all.0, begun_left (find (is_of_source source) due) source (found (find (is_of_source source) due) refl))
       by_begun (Some flight) some = (all.0, begun_left (Some flight) source some)
+
+  pub each_cut : (client : ClientBoard) (source : ℕ) → IsOfEach P client → IsOfEach P (client_cut source client)
+  each_cut client source all = (all.0, by_over (is_over client.flights source) client.flights.begun all.1)
+    where
+      by_over : (over : Bool) (begun : Option InFlight) → AllByRecursion P (option_to_list begun) → AllByRecursion P (option_to_list (if over then None else begun))
+      by_over true begun some = tt
+      by_over false begun some = some
 
   -- ---- all clients
 
@@ -148,9 +155,9 @@ module _ (P : InFlight → Type 0) (beside_kept : (footprint : Footprint) (fligh
         by_client : (o : Option ClientBoard) → slice_get board.clients number ≡ o → AreOfEach P (after_d board number o beat).clients
         by_client None there = are
         by_client (Some client) there =
-            let told = unwrap_or (told_to client) beat.denied in
-            each_client (IsOfEach P) board.clients number client (record client { flights = flights_after client.flights beat.source; early = early_after client beat.source; told = told }) there are
-            (each_replied client beat.source told (are number client there))
+            let changed = client_cut beat.source client in
+            each_client (IsOfEach P) board.clients number client (client_after beat changed) there are
+            (each_replied changed beat.source (unwrap_or (told_to changed) beat.denied) (each_cut client beat.source (are number client there)))
 
     -- with a beat on the AXI4 port, which may be an error response where errors are told in any way
     axi_each : (beat : AxiBeat) → AreOfEach P (after_seen RealTime board (OnAxi beat)).clients

@@ -1,6 +1,6 @@
 -- What a board knows of an order: the bytes that aren't indeterminate are what the order leaves, and what is left of each reply was made of
 -- bytes that are those before its request, where they are determined. And it knows so at the start.
-use Rattle.std.proofs.Common.{◌≡◌, ℕ, zero, suc, ◌+◌, true, false, List, [], map, set, Option, Some, None, inl, inr, sym, ◌∙◌, ap, subst, arith}
+use Rattle.std.proofs.Common.{◌≡◌, ℕ, zero, suc, ◌+◌, true, false, List, [], map, set, Option, Some, None, inl, inr, refl, sym, ◌∙◌, ap, subst, arith}
 use Rattle.std.specs.Prelude.{is_some, slice_get}
 use Rattle.std.specs.List.{list_any, range_with_len}
 use Rattle.std.proofs.Math.Path.{fun_ext}
@@ -20,6 +20,7 @@ use Rattle.scoreboard.proofs.real_time.Entries.{AreDistinct, Each, Stands, run}
 use Rattle.scoreboard.proofs.real_time.Places.{HaveSources, NothingComes, Place, begun_at, due_at, flight_at, flight_in, flights_at, flights_kept, footprint_at, footprint_in, none_in}
 use Rattle.scoreboard.proofs.real_time.ReplyMoves.{waits_for}
 use Rattle.scoreboard.proofs.real_time.RequestActs.{AreBytes}
+use Rattle.scoreboard.proofs.real_time.Spared.{AreSpared}
 
 pub record Explains (start : Bytes) (board : Board) (order : Order) : Type 0 where
   pub sources : HaveAllSources board.clients
@@ -32,6 +33,7 @@ pub record Explains (start : Bytes) (board : Board) (order : Order) : Type 0 whe
   pub known : (x : ℕ) → board.indeterminate x ≡ false → run board.memory.faults board.memory.regions start order x ≡ board.memory.bytes x
   pub waiting : (client source : ℕ) → is_some (flight_at board.clients (due_at client source)) ≡ true → list_any (waits_for client source) order ≡ true
   pub begun : (client : ℕ) → is_some (flight_at board.clients (begun_at client)) ≡ true → list_any (begun_to client) order ≡ true
+  pub spared : AreSpared board.memory.faults board.memory.regions board.indeterminate start order
 
 -- ---- one client changes
 
@@ -69,6 +71,7 @@ explains_as {start} board order clients port same are nothing explains =
       known = explains.known;
       waiting = λ client source some. explains.waiting client source (ap (λ (f : Place → Option InFlight). is_some (f (due_at client source))) same ∙ some);
       begun = λ client some. explains.begun client (ap (λ (f : Place → Option InFlight). is_some (f (begun_at client))) same ∙ some);
+      spared = explains.spared;
     }
 
 -- a client that keeps its requests in flight
@@ -109,6 +112,7 @@ explains_opening start errors setup begins =
       known = begins.known;
       waiting = λ client source some. absurd (cc (sym (ap (λ (o : Option InFlight). is_some o) (nothing (due_at client source))) ∙ some));
       begun = λ client some. absurd (cc (sym (ap (λ (o : Option InFlight). is_some o) (nothing (begun_at client))) ∙ some));
+      spared = λ gone unended x certain leave. refl;
     }
   where
     nothing : (place : Place) → flight_at (opening_board setup.lists).clients place ≡ None

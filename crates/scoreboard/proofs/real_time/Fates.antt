@@ -4,6 +4,7 @@ use Rattle.std.proofs.Common.{◌≡◌, ℕ, ◌+◌, ◌<◌, ◌≤◌, ◌==
 use Rattle.std.specs.Prelude.{slice_get}
 use Rattle.std.specs.List.{list_any}
 use Rattle.std.proofs.lemmas.Bool.{and_parts, cases_Bool, cases_eq, cases_lt, le-leb, leb-true, not-true, or_cases, or_left}
+use Rattle.std.proofs.lemmas.Bool.Decides.{nat_tests}
 use Rattle.std.proofs.lemmas.List.{get_or_past, length-append, length-map}
 use Rattle.tl_messages.specs.Requests.{HeldMessage, WholeRequest, request_of}
 use Rattle.tl_checker.specs.Ports.{joined}
@@ -14,7 +15,7 @@ use Rattle.axi_checker.specs.declared.AxiBeat.{AxiBeat}
 use Rattle.scoreboard.specs.AxiPorts.{PortBoard}
 use Rattle.scoreboard.specs.Boards.{Beginning, Board, ClientBoard, after_all, after_seen, answer_to, is_spoiled, opening_from}
 use Rattle.scoreboard.specs.FailedBursts.{Span, failed_span, shares}
-use Rattle.scoreboard.specs.Orders.{Entry, Order, begun_to, board_after, counted, has_ended, is_due, reply_beats, with_beat}
+use Rattle.scoreboard.specs.Orders.{Entry, Order, after_beat, begun_to, board_after, counted, cut_short, ended_early, has_ended, is_due, is_over, reply_beats, with_beat}
 use Rattle.scoreboard.specs.RealTime.{acting_footprint, begun_from, begun_in, begun_next, completed, entry_of, heard, is_open, numbered, struck, with_answered, with_failed, with_progress, with_request}
 use Rattle.serial_memory.specs.SerialMemory.{Memory}
 use Rattle.scoreboard.specs.declared.Errors.{Errors}
@@ -139,6 +140,19 @@ beat_keeps errors begun client source entry is =
       record { starts = is.starts; told = is.told },
     )
 
+early_keeps : (errors : Errors) (over : Bool) (client : ℕ) → Keeps errors (ended_early over client)
+early_keeps errors over client entry is =
+    elim (cases_Bool (over && begun_to client entry)) [
+      | inl ends ↦ rw ends (turned (and_parts over (begun_to client entry) ends).1)
+      | inr other ↦ rw other (grows_same entry, is)
+    ]
+  where
+    turned : begun_to client entry ≡ true → Grows entry (record entry { came = reply_beats entry.request }) × IsRecorded errors (record entry { came = reply_beats entry.request })
+    turned has = (
+      record { number = refl; spoiled = λ was. was; ended = λ was. le-leb (reply_beats entry.request) (reply_beats entry.request) (omega arith); still = λ was now. now },
+      record { starts = λ unwhole. absurd (let none = is.starts unwhole in grind (arith, nat_tests, has, none)); told = is.told },
+    )
+
 -- ---- all that have begun
 
 pub record IsCounted (errors : Errors) (now : Order) : Type 0 where
@@ -233,8 +247,12 @@ goes_next board (A number beat) now is = by_client (slice_get board.clients numb
     by_client None = goes_same board.errors now is
     by_client (Some client) = by_answer client.front (joined client.limits client.front beat) (answer_to RealTime client beat)
 goes_next board (D client beat) now is =
-    goes_map board.errors (with_beat (list_any (begun_to client) now) client beat.source) now
-    (beat_keeps board.errors (list_any (begun_to client) now) client beat.source) is
+    let cut = cut_short now client beat.source in
+    let over = is_over now client beat.source in
+    let first = goes_map board.errors (ended_early over client) now (early_keeps board.errors over client) is in
+    goes_then board.errors now cut (after_beat now client beat.source) first
+    (goes_map board.errors (with_beat (list_any (begun_to client) cut) client beat.source) cut
+    (beat_keeps board.errors (list_any (begun_to client) cut) client beat.source) first.counted)
 goes_next board (OnAxi beat) now is =
     goes_failed board.errors board.memory (failed_span board.errors board.axi beat) now (told_any board.errors board.axi beat) is
 goes_next board Drained now is = goes_same board.errors now is

@@ -1,17 +1,15 @@
 -- Boards without their footprints: requests in flight are found, join and end as with them.
-use Rattle.std.proofs.Common.{◌≡◌, ℕ, Bool, true, false, List, [], ◌∷◌, map, Option, None, Some, if◌then◌else◌, refl, ◌∙◌, ap, ap₂, arith}
-use Rattle.std.specs.Prelude.{is_some, slice_set}
+use Rattle.std.proofs.Common.{◌≡◌, ℕ, Bool, true, false, ◌&&◌, List, [], ◌∷◌, map, Option, None, Some, if◌then◌else◌, refl, sym, ◌∙◌, ap, ap₂, arith}
+use Rattle.std.specs.Prelude.{is_some, slice_set, unwrap_or}
 use Rattle.tl_messages.specs.declared.DBeat.{DBeat}
-use Rattle.std.specs.List.{range_with_len}
 use Rattle.std.specs.Option.{option_map}
 use Rattle.std.proofs.lemmas.List.{map-append, map-set, set-set}
 use Rattle.std.proofs.lemmas.Simd.{map-map}
 use Rattle.bus_words.proofs.MappedPlaces.{map_same}
 use Rattle.tl_messages.specs.Requests.{WholeRequest}
-use Rattle.setups.specs.Setups.{SetupLists}
-use Rattle.scoreboard.specs.Boards.{Board, ClientBoard, begun_on, client_beside, early_after, early_left, flight_for, given_on, has_replied, hit_client, hit_on, joined_on, opening_board, opening_client, told_to, with_accepted, with_client, with_taken, with_whole}
+use Rattle.scoreboard.specs.Boards.{Board, ClientBoard, after_d, begun_on, client_after, client_beside, client_cut, early_after, early_left, flight_for, given_on, has_replied, hit_client, hit_on, joined_on, told_to, with_accepted, with_client, with_taken, with_whole}
 use Rattle.scoreboard.specs.FailedBursts.{Span, hit_flight}
-use Rattle.scoreboard.specs.Flights.{Flights, Footprint, InFlight, each_flight, flights_after, is_busy, is_of_source, next_reply, no_footprint}
+use Rattle.scoreboard.specs.Flights.{Flights, Footprint, InFlight, begun_is_other, cut_short, each_flight, flights_after, is_busy, is_of_source, is_over, next_reply, no_footprint}
 use Rattle.scoreboard.specs.Races.{flight_beside}
 use Rattle.scoreboard.specs.Wider.{board_alone, client_alone, flight_alone}
 use Rattle.scoreboard.specs.declared.Policy.{Policy}
@@ -32,6 +30,23 @@ pub flights_alone : (flights : Flights) (source : ℕ) → each_flight flight_al
 flights_alone flights source =
     ap₂ {C = Flights} (λ (due : List InFlight) (begun : Option InFlight). record { due = due; begun = begun })
     (grind (arith, without_first_map (is_of_source source) flight_alone flights.due)) (rw (next_alone flights source) (grind arith))
+
+-- as a beat finds them
+pub cut_alone : (flights : Flights) (source : ℕ) → each_flight flight_alone (cut_short flights source) ≡ cut_short (each_flight flight_alone flights) source
+cut_alone flights source =
+    ap {B = Flights} (λ (begun : Option InFlight). record { due = map flight_alone flights.due; begun = begun })
+    (by_over (is_over flights source) flights.begun ∙ ap (λ (over : Bool). if over then None else option_map flight_alone flights.begun) (sym same))
+  where
+    other_same : (begun : Option InFlight) → begun_is_other source (option_map flight_alone begun) ≡ begun_is_other source begun
+    other_same None = refl
+    other_same (Some flight) = refl
+
+    same : is_over (each_flight flight_alone flights) source ≡ is_over flights source
+    same = ap₂ (λ (other due : Bool). other && due) (other_same flights.begun) (any_map (is_of_source source) flight_alone flights.due)
+
+    by_over : (over : Bool) (begun : Option InFlight) → option_map flight_alone (if over then None else begun) ≡ (if over then None else option_map flight_alone begun)
+    by_over true begun = refl
+    by_over false begun = refl
 
 -- what was told
 pub told_alone : (client : ClientBoard) → told_to client ≡ told_to (client_alone client)
@@ -76,6 +91,14 @@ joined_alone board number client q footprint =
     (map-set client_alone (map (client_beside footprint) board.clients) number (with_accepted flight (client_beside footprint client))
     ∙ ap₂ (λ (clients : List ClientBoard) (changed : ClientBoard). slice_set clients number changed) (clients_beside footprint board.clients)
     (accepted_alone flight (client_beside footprint client) ∙ ap (with_accepted (flight_alone flight)) (beside_alone footprint client)))
+
+-- taken in its turn
+pub taken_alone : (board : Board) (number : ℕ) (client : ClientBoard) (q : WholeRequest) (footprint : Footprint)
+    → board_alone (with_taken board number client q footprint) ≡ with_taken (board_alone board) number (client_alone client) q no_footprint
+taken_alone board number client q footprint =
+    let flight : InFlight = flight_for board.memory footprint q in
+    ap (with_clients (with_taken board number client q footprint))
+    (map-set client_alone board.clients number (with_accepted flight client) ∙ ap (slice_set (map client_alone board.clients) number) (accepted_alone flight client))
 
 -- that had begun before
 pub given_alone : (board : Board) (number : ℕ) (client : ClientBoard) (q : WholeRequest) (footprint : Footprint)
@@ -130,8 +153,24 @@ none_left false source = refl
 pub early_alone : (client : ClientBoard) (source : ℕ) → early_after (client_alone client) source ≡ None
 early_alone client source = none_left (is_some (next_reply (client_alone client).flights source)) source
 
--- nothing is in flight at the start
-pub opens_alone : (setup : SetupLists) → board_alone (opening_board setup) ≡ opening_board setup
-opens_alone setup =
-    ap (with_clients (opening_board setup))
-    (map-map client_alone (opening_client setup.config) (range_with_len 0 setup.config.clients))
+-- ---- a beat on channel D
+
+told_after : (old : Board) (number : ℕ) (client : ClientBoard) (beat : DBeat)
+    → board_alone (with_client number (client_after beat client) old) ≡ with_client number (client_after beat (client_alone client)) (board_alone old)
+told_after old number client beat =
+    client_changed_alone old number (client_after beat client)
+    ∙ ap₂ (λ (flights : Flights) (told : Bool). with_client number (record (client_alone client) { flights = flights; told = told }) (board_alone old))
+    (flights_alone client.flights beat.source) (ap (λ (o : Option Bool). unwrap_or o beat.denied) (told_alone client))
+    ∙ ap (λ (early : Option DBeat). with_client number (record (client_alone client) {
+      flights = flights_after (client_alone client).flights beat.source;
+      early = early;
+      told = unwrap_or (told_to (client_alone client)) beat.denied;
+    }) (board_alone old)) (sym (early_alone client beat.source))
+
+pub reply_alone : (old : Board) (number : ℕ) (found : Option ClientBoard) (beat : DBeat)
+    → board_alone (after_d old number found beat) ≡ after_d (board_alone old) number (option_map client_alone found) beat
+reply_alone old number None beat = refl
+reply_alone old number (Some client) beat =
+    told_after old number (client_cut beat.source client) beat
+    ∙ ap (λ (flights : Flights). with_client number (client_after beat (record (client_alone client) { flights = flights })) (board_alone old))
+    (cut_alone client.flights beat.source)

@@ -1,4 +1,4 @@
--- A beat of a reply that comes before its request is whole, and any beat on channel D: the board, its shadow and an order go on together.
+-- A beat of a reply that comes before its request is whole, and any beat on channel D with which no reply is over: the board, its shadow and an order go on together.
 use Rattle.std.proofs.Common.{◌≡◌, ℕ, ◌==◌, Bool, true, false, ◌&&◌, List, [], ◌∷◌, map, set, Option, Some, None, inl, inr, if◌then◌else◌, refl, sym, ◌∙◌, ap, subst, arith}
 use Rattle.std.specs.Prelude.{is_none, is_some, slice_get, unwrap_or}
 use Rattle.responses.specs.Shown.{beat_without_data}
@@ -12,9 +12,9 @@ use Rattle.std.proofs.lemmas.Bool.Decides.{nat_tests}
 use Rattle.bus_words.proofs.StoredPlaces.{get_set}
 use Rattle.tl_messages.specs.declared.DBeat.{DBeat}
 use Rattle.meaning.specs.Meaning.{Bytes, acknowledged}
-use Rattle.scoreboard.specs.Boards.{Board, ClientBoard, after_d, early_after, early_left, told_to, with_client}
+use Rattle.scoreboard.specs.Boards.{Board, ClientBoard, client_after, early_after, early_left, told_to, with_client}
 use Rattle.scoreboard.specs.Flights.{Flights, Footprint, InFlight, flights_after, next_reply}
-use Rattle.scoreboard.specs.Orders.{Entry, Order, after_beat, begun_to, counted, is_due, with_beat}
+use Rattle.scoreboard.specs.Orders.{Entry, Order, with_counted, begun_to, counted, is_due, with_beat}
 use Rattle.scoreboard.proofs.MappedLists.{any_map}
 use Rattle.scoreboard.proofs.real_time.Ahead.{IsAhead, Shadow, comes, shadow_of}
 use Rattle.scoreboard.proofs.real_time.Entries.{place_of}
@@ -224,7 +224,7 @@ module _ {start : Bytes} (board : Board) (shadow : Shadow) (order : Order) (foll
           by_whole true whole = subst (IsFated shadow) (sym (whole_still entry marked.0 opened.0 whole)) (fated.0)
           by_whole false unwhole = by_due unwhole (is_due begun number source entry && entry.request.source == source) refl
 
-      pub early_replied : IsFollowed start shadow.fate (with_client number (record client { early = None }) board) (after_beat order number source)
+      pub early_replied : IsFollowed start shadow.fate (with_client number (record client { early = None }) board) (with_counted order number source)
       early_replied = (
         shadow,
         record {
@@ -260,15 +260,20 @@ module _ {start : Bytes} (board : Board) (shadow : Shadow) (order : Order) (foll
               by_due false is = rw is refl
               by_due true is = rw is (by_whole entry.whole)
 
-pub follows_reply : {start : Bytes} (fate : ℕ → Bool) (board : Board) (order : Order) (number : ℕ) (beat : DBeat) → IsFollowed start fate board order
-    → AllByRecursion (HasFate fate) (after_beat order number beat.source)
-    → IsFollowed start fate (after_d board number (slice_get board.clients number) beat) (after_beat order number beat.source)
-follows_reply {start} fate board order number beat followed ending =
-    subst (λ (f : ℕ → Bool). IsFollowed start f (after_d board number (slice_get board.clients number) beat) (after_beat order number beat.source)) followed.2
+-- a board after a beat on channel D with which no reply is over
+abbrev pub after_uncut : Board → ℕ → Option ClientBoard → DBeat → Board
+after_uncut board number None beat = board
+after_uncut board number (Some client) beat = with_client number (client_after beat client) board
+
+pub follows_counted : {start : Bytes} (fate : ℕ → Bool) (board : Board) (order : Order) (number : ℕ) (beat : DBeat) → IsFollowed start fate board order
+    → AllByRecursion (HasFate fate) (with_counted order number beat.source)
+    → IsFollowed start fate (after_uncut board number (slice_get board.clients number) beat) (with_counted order number beat.source)
+follows_counted {start} fate board order number beat followed ending =
+    subst (λ (f : ℕ → Bool). IsFollowed start f (after_uncut board number (slice_get board.clients number) beat) (with_counted order number beat.source)) followed.2
     (by_client (slice_get board.clients number) refl)
   where
-    ends : AllByRecursion (HasFate followed.0.fate) (after_beat order number beat.source)
-    ends = subst (λ (f : ℕ → Bool). AllByRecursion (HasFate f) (after_beat order number beat.source)) (sym followed.2) ending
+    ends : AllByRecursion (HasFate followed.0.fate) (with_counted order number beat.source)
+    ends = subst (λ (f : ℕ → Bool). AllByRecursion (HasFate f) (with_counted order number beat.source)) (sym followed.2) ending
 
     none_of : slice_get board.clients number ≡ None → (due : DBeat) → early_at board.clients number ≡ Some due → (due.source == beat.source) ≡ false
     none_of none due is = absurd (cc (sym (ap early_in none) ∙ is))
@@ -277,7 +282,7 @@ follows_reply {start} fate board order number beat followed ending =
     module_told : (client : ClientBoard) → slice_get board.clients number ≡ Some client → (changed : ClientBoard) → slice_get (set board.clients number changed) number ≡ Some changed
     module_told client there changed = get_set board.clients number changed (slice_get_within board.clients number client there)
 
-    by_client : (o : Option ClientBoard) → slice_get board.clients number ≡ o → IsFollowed start followed.0.fate (after_d board number o beat) (after_beat order number beat.source)
+    by_client : (o : Option ClientBoard) → slice_get board.clients number ≡ o → IsFollowed start followed.0.fate (after_uncut board number o beat) (with_counted order number beat.source)
     by_client None none =
         subst (IsFollowed start followed.0.fate board)
         (sym (none_due board followed.0 order followed.1 number beat.source (none_at board.clients (list_any (begun_to number) order) number beat.source none) (none_of none))) (followed.0, followed.1, refl)
@@ -298,14 +303,14 @@ follows_reply {start} fate board order number beat followed ending =
         -- the client as it is then
         as_then : (early : Option DBeat) → early ≡ early_after client beat.source
             → IsFollowed start followed.0.fate (record board { clients = set (set board.clients number heard) number (record heard { flights = flights_after client.flights beat.source; early = early }) })
-            (after_beat order number beat.source)
-            → IsFollowed start followed.0.fate (after_d board number (Some client) beat) (after_beat order number beat.source)
+            (with_counted order number beat.source)
+            → IsFollowed start followed.0.fate (after_uncut board number (Some client) beat) (with_counted order number beat.source)
         as_then early is after =
-            subst (λ (clients : List ClientBoard). IsFollowed start followed.0.fate (record board { clients = clients }) (after_beat order number beat.source))
+            subst (λ (clients : List ClientBoard). IsFollowed start followed.0.fate (record board { clients = clients }) (with_counted order number beat.source))
             (set-set board.clients number heard (record heard { flights = flights_after client.flights beat.source; early = early })
             ∙ ap (λ (e : Option DBeat). set board.clients number (record heard { flights = flights_after client.flights beat.source; early = e })) is) after
 
-        by_next : (o : Option InFlight) → next_reply client.flights beat.source ≡ o → IsFollowed start followed.0.fate (after_d board number (Some client) beat) (after_beat order number beat.source)
+        by_next : (o : Option InFlight) → next_reply client.flights beat.source ≡ o → IsFollowed start followed.0.fate (after_uncut board number (Some client) beat) (with_counted order number beat.source)
         by_next (Some due) is =
             as_then client.early (sym (ap (λ (o : Option InFlight). if is_some o then client.early else early_left client.early beat.source) is))
             (replied (with_client number heard board) followed.0 order heard_follows number beat.source heard heard_there ends due is)
@@ -315,23 +320,23 @@ follows_reply {start} fate board order number beat followed ending =
             still = ap (λ (o : Option InFlight). if is_some o then client.early else early_left client.early beat.source) nothing
 
             none_has_it : early_left client.early beat.source ≡ client.early → ((due : DBeat) → client.early ≡ Some due → (due.source == beat.source) ≡ false)
-                → IsFollowed start followed.0.fate (after_d board number (Some client) beat) (after_beat order number beat.source)
+                → IsFollowed start followed.0.fate (after_uncut board number (Some client) beat) (with_counted order number beat.source)
             none_has_it same no_early =
                 as_then client.early (sym (still ∙ same))
                 (none_replied (with_client number heard board) followed.0 order heard_follows number beat.source heard heard_there ends nothing no_early)
 
             by_source : (due : DBeat) → client.early ≡ Some due → (b : Bool) → (due.source == beat.source) ≡ b
-                → IsFollowed start followed.0.fate (after_d board number (Some client) beat) (after_beat order number beat.source)
+                → IsFollowed start followed.0.fate (after_uncut board number (Some client) beat) (with_counted order number beat.source)
             by_source due is false other =
                 none_has_it (ap (λ (o : Option DBeat). early_left o beat.source) is ∙ rw other (sym is))
                 (λ its its_is. let one : Some due ≡ Some its = sym is ∙ its_is in let same : due ≡ its = cc (one) in sym (ap (λ (d : DBeat). d.source == beat.source) same) ∙ other)
             by_source due is true own =
                 as_then None (sym (still ∙ ap (λ (o : Option DBeat). early_left o beat.source) is ∙ rw own refl))
                 (subst (λ (flights : Flights). IsFollowed start followed.0.fate (record board { clients = set (set board.clients number heard) number (record heard { flights = flights; early = None }) })
-                (after_beat order number beat.source)) (sym (flights_none beat.source client.flights nothing))
+                (with_counted order number beat.source)) (sym (flights_none beat.source client.flights nothing))
                 (early_replied (with_client number heard board) followed.0 order heard_follows number beat.source heard heard_there nothing due is own))
 
-            by_early : (o : Option DBeat) → client.early ≡ o → IsFollowed start followed.0.fate (after_d board number (Some client) beat) (after_beat order number beat.source)
+            by_early : (o : Option DBeat) → client.early ≡ o → IsFollowed start followed.0.fate (after_uncut board number (Some client) beat) (with_counted order number beat.source)
             by_early None is =
                 none_has_it (ap (λ (o : Option DBeat). early_left o beat.source) is ∙ sym is) (λ due its. absurd (cc (sym is ∙ its)))
             by_early (Some due) is = by_source due is (due.source == beat.source) refl

@@ -1,9 +1,8 @@
--- A request whose reply came before it was whole has ended with its last beat: the board, its shadow and the order go on together.
-use Rattle.std.proofs.Common.{◌≡◌, ℕ, Bool, true, false, map, Option, Some, refl, sym, ◌∙◌, ap, subst, arith}
+-- A request that has ended though beats of its reply are missing, or came before it was whole: the board, its shadow and the order go on together.
+use Rattle.std.proofs.Common.{◌≡◌, ℕ, Bool, true, false, map, Option, None, Some, refl, sym, ◌∙◌, ap, subst, arith}
 use Rattle.std.specs.Prelude.{is_some, slice_get}
 use Rattle.std.specs.List.{list_any}
 use Rattle.std.proofs.Math.Path.{fun_ext}
-use Rattle.std.proofs.lemmas.Bool.Decides.{nat_tests}
 use Rattle.std.proofs.lemmas.Simd.{map-map}
 use Rattle.bus_words.proofs.MappedPlaces.{map_same}
 use Rattle.meaning.specs.Meaning.{Bytes}
@@ -18,11 +17,12 @@ use Rattle.scoreboard.proofs.real_time.Explained.{Explains}
 use Rattle.scoreboard.proofs.real_time.Follows.{ActsAs, Follows, IsFailing, IsFated, IsFollowed, IsMarked, IsOpen, all_mapped, replied_by, settle, settled}
 use Rattle.scoreboard.proofs.real_time.FollowsChanges as changes
 use Rattle.scoreboard.proofs.real_time.Places.{Place, coming_at, due_at, flight_at}
-use Rattle.scoreboard.proofs.real_time.Removed.{Ends, Over, Still, away_from, coming_less, comes_less, early_less, ended, ended_ahead, ends, explains_ended, kept_at, without}
+use Rattle.scoreboard.proofs.real_time.Removed.{Ends, Over, Still, away_from, coming_less, comes_less, early_less, ended, ended_ahead, ends, explains_ended, kept_at, place_at, stands_at, stands_there, without}
 use Rattle.scoreboard.proofs.real_time.StepOrders.{is_coming}
 
-module _ {start : Bytes} (board : Board) (shadow : Shadow) (order : Order) (follows : Follows start board shadow order) (number source : ℕ) (client : ClientBoard)
-    (there : slice_get board.clients number ≡ Some client) (none : comes board.clients number ≡ false) where
+module _ {start : Bytes} (board : Board) (shadow : Shadow) (order : Order) (follows : Follows start board shadow order) (number : ℕ) (source : Option ℕ) (client : ClientBoard)
+    (there : slice_get board.clients number ≡ Some client)
+    (free : (c : ℕ) → comes board.clients c ≡ true → due_at c (shadow.finals c).source ≡ place_at number source → ⊥) where
   -- the same client on the shadow
   there_too : (other : ClientBoard) × (slice_get shadow.clients number ≡ Some other)
   there_too = changes.there_too board shadow order follows number client there
@@ -37,7 +37,15 @@ module _ {start : Bytes} (board : Board) (shadow : Shadow) (order : Order) (foll
   now_shadow = record shadow { clients = (with_client number (without source other) (shadow_of board shadow)).clients }
 
   settled_ended : (entry : Entry) → settled (ended number source entry) ≡ ended number source (settled entry)
-  settled_ended entry = grind arith
+  settled_ended entry = by_ends (ends number source entry)
+    where
+      same : (s : Option ℕ) → stands_at number s (settled entry) ≡ stands_at number s entry
+      same None = refl
+      same (Some s) = refl
+
+      by_ends : Ends number source entry → settled (ended number source entry) ≡ ended number source (settled entry)
+      by_ends (Over stands is) = let here : stands_at number source (settled entry) ≡ true = same source ∙ stands in ap settled is ∙ rw here refl
+      by_ends (Still none is) = let away : stands_at number source (settled entry) ≡ false = same source ∙ none in ap settled is ∙ rw away refl
 
   settle_ended : settle (map (ended number source) order) ≡ map (ended number source) (settle order)
   settle_ended =
@@ -46,15 +54,15 @@ module _ {start : Bytes} (board : Board) (shadow : Shadow) (order : Order) (foll
       ∙ sym (map-map (ended number source) settled order)
 
   comes_now : (c : ℕ) → comes now.clients c ≡ comes board.clients c
-  comes_now = comes_less board shadow follows.ahead number source client other there there_too.1 (follows.explains.sources number other there_too.1) none
+  comes_now = comes_less board shadow follows.ahead number source client other there there_too.1 (follows.explains.sources number other there_too.1) free
 
   early_now : (c : ℕ) → early_at now.clients c ≡ early_at board.clients c
-  early_now = early_less board shadow follows.ahead number source client other there there_too.1 (follows.explains.sources number other there_too.1) none
+  early_now = early_less board shadow follows.ahead number source client other there there_too.1 (follows.explains.sources number other there_too.1) free
 
   coming_now : (c : ℕ) → coming_at now.clients c ≡ coming_at board.clients c
-  coming_now = coming_less board shadow follows.ahead number source client other there there_too.1 (follows.explains.sources number other there_too.1) none
+  coming_now = coming_less board shadow follows.ahead number source client other there there_too.1 (follows.explains.sources number other there_too.1) free
 
-  kept : (place : Place) → (place ≡ due_at number source → ⊥) → flight_at now.clients place ≡ flight_at board.clients place
+  kept : (place : Place) → (place ≡ place_at number source → ⊥) → flight_at now.clients place ≡ flight_at board.clients place
   kept place away = kept_at board.clients number source client there (follows.ahead.sources number client there) place away
 
   marked : (entry : Entry) → IsMarked board.clients entry → IsMarked now.clients (ended number source entry)
@@ -74,10 +82,10 @@ module _ {start : Bytes} (board : Board) (shadow : Shadow) (order : Order) (foll
   opened entry was unwhole = by_ends (ends number source entry)
     where
       by_ends : Ends number source entry → IsOpen now now_shadow (ended number source entry)
-      by_ends (Over waits is) =
+      by_ends (Over stands is) =
           let it = was (sym (ap (λ (e : Entry). e.whole) is) ∙ unwhole) in
-          let client_is : entry.client ≡ number = grind (arith, nat_tests, waits) in
-          absurd (cc (sym none ∙ ap (comes board.clients) (sym client_is) ∙ it.begun))
+          let place : place_of entry ≡ due_at entry.client (shadow.finals entry.client).source = grind (arith, it.none_came, it.final) in
+          absurd (free entry.client it.begun (sym place ∙ stands_there number source entry stands))
       by_ends (Still not_waiting is) =
           let it = was (sym (ap (λ (e : Entry). e.whole) is) ∙ unwhole) in
           subst (IsOpen now now_shadow) (sym is)
@@ -98,7 +106,7 @@ module _ {start : Bytes} (board : Board) (shadow : Shadow) (order : Order) (foll
       subst (λ (e : Entry). IsFated now_shadow e) (sym still.0) was whole live
 
   -- where the one that ends has failed, if it is fated
-  pub removed_follows : ((flight : InFlight) → flight_at board.clients (due_at number source) ≡ Some flight → shadow.fates (due_at number source) ≡ true
+  pub removed_follows : ((flight : InFlight) → flight_at board.clients (place_at number source) ≡ Some flight → shadow.fates (place_at number source) ≡ true
       → flight.footprint.failed ≡ true)
       → IsFollowed start shadow.fate (with_client number (without source client) board) (map (ended number source) order)
   removed_follows spent = (
@@ -107,7 +115,7 @@ module _ {start : Bytes} (board : Board) (shadow : Shadow) (order : Order) (foll
       explains =
           subst (Explains start (shadow_of now now_shadow)) (sym settle_ended)
           (explains_ended (shadow_of board shadow) (settle order) follows.explains number source other there_too.1);
-      ahead = ended_ahead board shadow follows.ahead number source client other there there_too.1 (follows.explains.sources number other there_too.1) none spent;
+      ahead = ended_ahead board shadow follows.ahead number source client other there there_too.1 (follows.explains.sources number other there_too.1) free spent;
       marked = all_mapped (IsMarked board.clients) (IsMarked now.clients) (ended number source) order marked follows.marked;
       failing = all_mapped (IsFailing board) (IsFailing now) (ended number source) order failing follows.failing;
       fated = all_mapped (IsFated shadow) (IsFated now_shadow) (ended number source) order fated follows.fated;
@@ -125,4 +133,8 @@ module _ {start : Bytes} (board : Board) (shadow : Shadow) (order : Order) (foll
   )
     where
       coming_kept : (c : ℕ) (entry : Entry) → is_coming c (ended number source entry) ≡ is_coming c entry
-      coming_kept c entry = grind arith
+      coming_kept c entry = by_ends (ends number source entry)
+        where
+          by_ends : Ends number source entry → is_coming c (ended number source entry) ≡ is_coming c entry
+          by_ends (Over stands is) = ap (is_coming c) is
+          by_ends (Still still is) = ap (is_coming c) is

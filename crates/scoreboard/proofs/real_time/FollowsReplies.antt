@@ -13,7 +13,7 @@ use Rattle.tl_messages.specs.declared.DBeat.{DBeat}
 use Rattle.meaning.specs.Meaning.{Bytes, acknowledged}
 use Rattle.scoreboard.specs.Boards.{Board, ClientBoard, with_client}
 use Rattle.scoreboard.specs.Flights.{Flights, Footprint, InFlight, begun_after, flights_after, is_of_source, next_reply, with_left}
-use Rattle.scoreboard.specs.Orders.{Entry, Order, after_beat, begun_to, counted, has_ended, is_due, with_beat}
+use Rattle.scoreboard.specs.Orders.{Entry, Order, with_counted, begun_to, counted, has_ended, is_due, with_beat}
 use Rattle.scoreboard.proofs.MappedLists.{any_map}
 use Rattle.scoreboard.proofs.real_time.Ahead.{IsAhead, IsFinal, Shadow, comes, fates_other, fates_own, fates_with, shadow_of}
 use Rattle.scoreboard.proofs.real_time.Entries.{Each, Stands, carry, place_of}
@@ -176,7 +176,7 @@ module _ {start : Bytes} (board : Board) (shadow : Shadow) (order : Order) (foll
           absurd (cc (sym none ∙ eq-eqb entry.request.source source its_source))
 
   -- and the beat counts for none
-  pub none_due : flight_at board.clients from ≡ None → NoneEarly → after_beat order number source ≡ order
+  pub none_due : flight_at board.clients from ≡ None → NoneEarly → with_counted order number source ≡ order
   none_due nothing no_early = none_counted begun number source order (nobody_due nothing no_early)
 
   -- where something is due it is due on the shadow to the same
@@ -200,7 +200,7 @@ module _ {start : Bytes} (board : Board) (shadow : Shadow) (order : Order) (foll
   -- ---- the client is there
 
   module _ (client : ClientBoard) (there : slice_get board.clients number ≡ Some client)
-      (ends : AllByRecursion (HasFate shadow.fate) (after_beat order number source)) where
+      (ends : AllByRecursion (HasFate shadow.fate) (with_counted order number source)) where
     abbrev changed : ClientBoard
     changed = record client { flights = flights_after client.flights source }
 
@@ -211,14 +211,14 @@ module _ {start : Bytes} (board : Board) (shadow : Shadow) (order : Order) (foll
     next = next_is board.clients number source client there begun (begun_here board shadow order follows number)
 
     -- nothing is due
-    quiet : flight_at board.clients from ≡ None → NoneEarly → IsFollowed start shadow.fate now (after_beat order number source)
+    quiet : flight_at board.clients from ≡ None → NoneEarly → IsFollowed start shadow.fate now (with_counted order number source)
     quiet nothing no_early =
         let still = flights_none source client.flights (sym next ∙ nothing) in
         let back = set_back board.clients number client there in
         let same : board ≡ now =
         ap {B = Board} (λ clients. record board { clients = clients }) (sym back)
         ∙ ap {B = Board} (λ (flights : Flights). record board { clients = set board.clients number (record client { flights = flights }) }) (sym still) in
-        subst (λ b. IsFollowed start shadow.fate b (after_beat order number source)) same
+        subst (λ b. IsFollowed start shadow.fate b (with_counted order number source)) same
         (subst (IsFollowed start shadow.fate board) (sym (none_due nothing no_early)) (shadow, follows, refl))
 
     module _ (due : InFlight) (is_due_here : flight_at board.clients from ≡ Some due) where
@@ -285,7 +285,7 @@ module _ {start : Bytes} (board : Board) (shadow : Shadow) (order : Order) (foll
           let last = settle_beat rest marked.1 opened.1 in
           cc (first, last)
 
-      now_explains : Explains start (shadow_of now now_shadow) (settle (after_beat order number source))
+      now_explains : Explains start (shadow_of now now_shadow) (settle (with_counted order number source))
       now_explains =
           subst (Explains start (shadow_of now now_shadow))
           (ap (λ (b : Bool). map (with_beat b number source) (settle order)) (begun_settled board shadow order follows number) ∙ sym (settle_beat order follows.marked follows.open_ones))
@@ -625,7 +625,7 @@ module _ {start : Bytes} (board : Board) (shadow : Shadow) (order : Order) (foll
       now_fails [] marked opened failing = tt
       now_fails (entry ∷ rest) marked opened failing = (now_failing entry marked.0 opened.0 failing.0, now_fails rest marked.1 opened.1 failing.1)
 
-      moved : IsFollowed start shadow.fate now (after_beat order number source)
+      moved : IsFollowed start shadow.fate now (with_counted order number source)
       moved = (
         now_shadow,
         record {
@@ -657,10 +657,10 @@ module _ {start : Bytes} (board : Board) (shadow : Shadow) (order : Order) (foll
 
     -- one in flight has it
     pub replied : (due : InFlight) → next_reply client.flights source ≡ Some due
-        → IsFollowed start shadow.fate (with_client number (record client { flights = flights_after client.flights source }) board) (after_beat order number source)
+        → IsFollowed start shadow.fate (with_client number (record client { flights = flights_after client.flights source }) board) (with_counted order number source)
     replied due is = moved due (next ∙ is)
 
     -- none in flight has it, and none early
     pub none_replied : next_reply client.flights source ≡ None → ((due : DBeat) → client.early ≡ Some due → (due.source == source) ≡ false)
-        → IsFollowed start shadow.fate (with_client number (record client { flights = flights_after client.flights source }) board) (after_beat order number source)
+        → IsFollowed start shadow.fate (with_client number (record client { flights = flights_after client.flights source }) board) (with_counted order number source)
     none_replied nothing no_early = quiet (next ∙ nothing) (λ due is. no_early due (sym (ap early_in there) ∙ is))

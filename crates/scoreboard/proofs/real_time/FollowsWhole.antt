@@ -414,7 +414,7 @@ module _ {start : Bytes} (board : Board) (shadow : Shadow) (order : Order) (foll
     finished_ended : has_replied board.errors client ≡ true → (some_order : Order) → AllByRecursion (IsMarked board.clients) some_order
         → AllByRecursion (λ entry. entry.whole ≡ false → IsOpen board shadow entry) some_order
         → AllByRecursion (λ entry. is_coming number entry ≡ true → MayBecome (fated_of shadow.fate board.errors number q true entry.number) entry.request) some_order
-        → map (ended number q.source) (map (made_whole board.errors number q) some_order) ≡ map (finished board.errors number q) some_order
+        → map (ended number (Some q.source)) (map (made_whole board.errors number q) some_order) ≡ map (finished board.errors number q) some_order
     finished_ended some_reply [] marked opened becoming = refl
     finished_ended some_reply (entry ∷ rest) marked opened becoming =
         let first = one (is_coming number entry) refl in
@@ -424,14 +424,14 @@ module _ {start : Bytes} (board : Board) (shadow : Shadow) (order : Order) (foll
         waits : Entry → Bool
         waits some_entry = some_entry.client == number && some_entry.request.source == q.source && some_entry.came == 0
 
-        one : (b : Bool) → is_coming number entry ≡ b → ended number q.source (made_whole board.errors number q entry) ≡ finished board.errors number q entry
+        one : (b : Bool) → is_coming number entry ≡ b → ended number (Some q.source) (made_whole board.errors number q entry) ≡ finished board.errors number q entry
         one true is =
             let parts = coming_parts number entry is in
             let came : entry.replied ≡ true = own_replied entry opened.0 is ∙ some_reply in
             let none_came = (opened.0 parts.1).none_came in
             let source = ap (λ (x : WholeRequest). x.source) (becoming.0 is).fields in
             let waiting : waits entry ≡ true = grind (arith, nat_tests, parts.0, none_came, source) in
-            ap (ended number q.source) (made_is board.errors number q entry is) ∙ rw (waiting, is, came) refl
+            ap (ended number (Some q.source)) (made_is board.errors number q entry is) ∙ rw (waiting, is, came) refl
         one false is =
             let not_waiting : waits entry ≡ false =
             false_from_ne_true (waits entry) (λ waiting.
@@ -440,10 +440,10 @@ module _ {start : Bytes} (board : Board) (shadow : Shadow) (order : Order) (foll
             let unwhole : entry.whole ≡ false =
             marked.0 live ∙ ap (λ (p : Place). is_some (flight_at board.clients p)) its_place ∙ ap (λ (o : Option InFlight). is_some o) none_due in
             grind (arith, is, unwhole, waiting)) in
-            ap (ended number q.source) (made_not board.errors number q entry is) ∙ rw (not_waiting, is) refl
+            ap (ended number (Some q.source)) (made_not board.errors number q entry is) ∙ rw (not_waiting, is) refl
 
     -- the client with it and without it again
-    without_it : without q.source (with_accepted flight_now client) ≡ with_whole true flight_now client
+    without_it : without (Some q.source) (with_accepted flight_now client) ≡ with_whole true flight_now client
     without_it =
         ap (λ (due : List InFlight). record client { front = None; flights = record client.flights { due = due }; coming = no_footprint; early = None })
         (without_last q.source client.flights.due flight_now free refl)
@@ -507,11 +507,12 @@ module _ {start : Bytes} (board : Board) (shadow : Shadow) (order : Order) (foll
         by_replied false none =
             subst₂ (IsFollowed start shadow.fate) (ap given_by (sym none)) (finished_same none order follows.open_ones) (given_shadow, whole_follows, refl)
         by_replied true some_reply =
-            let after = removed_follows given_now given_shadow (map (made_whole board.errors number q) order) whole_follows number q.source
-            (with_accepted flight_now client) accepted_there (comes_same board.clients number client (with_accepted flight_now client) there)
+            let after = removed_follows given_now given_shadow (map (made_whole board.errors number q) order) whole_follows number (Some q.source)
+            (with_accepted flight_now client) accepted_there (λ c some same. absurd (cc (
+            sym (comes_same board.clients number client (with_accepted flight_now client) there) ∙ ap (comes given_now.clients) (sym (ap (λ (p : Place). p.client) same)) ∙ some)))
             (spent some_reply) in
             subst₂ (IsFollowed start shadow.fate)
             (ap {B = Board} (λ (clients : List ClientBoard). record given_now { clients = clients })
-            (set-set board.clients number (with_accepted flight_now client) (without q.source (with_accepted flight_now client)) ∙ ap (set board.clients number) without_it)
+            (set-set board.clients number (with_accepted flight_now client) (without (Some q.source) (with_accepted flight_now client)) ∙ ap (set board.clients number) without_it)
             ∙ ap given_by (sym some_reply))
             (finished_ended some_reply order follows.marked follows.open_ones becomes) after

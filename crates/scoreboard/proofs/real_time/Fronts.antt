@@ -1,6 +1,6 @@
 -- What each client has begun, along lists of beats: it came of beats that begin a message, and its source is one to which no reply waits.
 use Rattle.std.proofs.Common.{◌≡◌, ℕ, zero, suc, ◌==◌, Bool, true, false, List, [], ◌∷◌, map, set, Option, Some, None, IfSome, Result, Ok, Err, inl, inr, if◌then◌else◌, refl, ◌∙◌, ap, subst}
-use Rattle.std.specs.Prelude.{is_some, slice_get, unwrap_or}
+use Rattle.std.specs.Prelude.{is_some, slice_get}
 use Rattle.std.specs.List.{list_any}
 use Rattle.std.specs.Option.{option_map}
 use Rattle.std.proofs.lemmas.Bool.{cases_eq, eq-eqb, ne_eqb}
@@ -15,9 +15,9 @@ use Rattle.tl_checker.specs.declared.Progress.TheVariants.{More, Whole}
 use Rattle.tl_checker.specs.declared.TlRule.{TlRule}
 use Rattle.setups.specs.Setups.{SetupLists}
 use Rattle.scoreboard.specs.AxiPorts.{port_after}
-use Rattle.scoreboard.specs.Boards.{Board, ClientBoard, after_a, after_d, after_seen, answer_to, answered_on, client_beside, coming_on, early_after, early_due, flight_for, has_replied, hit_client, hit_on, is_spoiled, joining_on, more_on, opening_board, told_to, whole_on, with_accepted, with_client, with_whole}
+use Rattle.scoreboard.specs.Boards.{Board, ClientBoard, after_a, after_d, after_seen, answer_to, answered_on, client_after, client_beside, client_cut, coming_on, early_due, flight_for, has_replied, hit_client, hit_on, is_spoiled, joining_on, more_on, opening_board, whole_on, with_accepted, with_client, with_whole}
 use Rattle.scoreboard.specs.FailedBursts.{Span, failed_span, hit_flight}
-use Rattle.scoreboard.specs.Flights.{Footprint, InFlight, flights_after, is_of_source}
+use Rattle.scoreboard.specs.Flights.{Footprint, InFlight, cut_short, flights_after, is_of_source}
 use Rattle.scoreboard.specs.InsideBoards.{front_after}
 use Rattle.scoreboard.specs.Races.{flight_beside, unless_failed}
 use Rattle.scoreboard.specs.declared.ObservedBeat.{ObservedBeat}
@@ -109,15 +109,15 @@ fronts_reply : (board : Board) (number : ℕ) (beat : DBeat) → AreFronts board
 fronts_reply board number beat are = by_client (slice_get board.clients number) refl
   where
     still : (client : ClientBoard) (o : Option HeldMessage) → IfSome o (λ held. list_any (is_of_source held.source) client.flights.due ≡ false)
-        → IfSome o (λ held. list_any (is_of_source held.source) (flights_after client.flights beat.source).due ≡ false)
+        → IfSome o (λ held. list_any (is_of_source held.source) (flights_after (cut_short client.flights beat.source) beat.source).due ≡ false)
     still client None free = tt
-    still client (Some held) free = free_after beat.source client.flights held.source free
+    still client (Some held) free = free_after beat.source (cut_short client.flights beat.source) held.source free
 
     by_client : (found : Option ClientBoard) → slice_get board.clients number ≡ found → AreFronts (after_d board number found beat).clients
     by_client None there = are
     by_client (Some client) there =
         let right = are number client there in
-        each_client IsFrontRight board.clients number client (record client { flights = flights_after client.flights beat.source; early = early_after client beat.source; told = unwrap_or (told_to client) beat.denied }) there are
+        each_client IsFrontRight board.clients number client (client_after beat (client_cut beat.source client)) there are
         (record { heard = right.heard; free = still client client.front right.free })
 
 -- ---- an error response
@@ -234,7 +234,7 @@ front_replied board number other beat = by_client (slice_get board.clients numbe
         → front_at (after_d board number found beat).clients other ≡ front_at board.clients other
     by_client None there = refl
     by_client (Some client) there =
-        front_kept board.clients number other client (record client { flights = flights_after client.flights beat.source; early = early_after client beat.source; told = unwrap_or (told_to client) beat.denied }) there refl
+        front_kept board.clients number other client (client_after beat (client_cut beat.source client)) there refl
 
 -- with an error response
 pub front_hit : (span : Option Span) (board : Board) (other : ℕ) → front_at (hit_on span board).clients other ≡ front_at board.clients other

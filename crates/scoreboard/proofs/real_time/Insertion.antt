@@ -16,6 +16,8 @@ use Rattle.scoreboard.specs.Races.{after_given, after_joining, beside, covers, d
 use Rattle.scoreboard.proofs.real_time.Entries.{AreDistinct, Differ, Each, IsElsewhere, Stands, all_parts, carry, distinct_after, each_joined, each_parts, none_ended, place_of, run, run-append}
 use Rattle.scoreboard.proofs.real_time.Places.{Place, footprint_in}
 use Rattle.scoreboard.proofs.real_time.RequestActs.{Acts, AreBytes, IsWell, acts, gives, own}
+use Rattle.scoreboard.specs.Resets.{AreUnended, left_in}
+use Rattle.scoreboard.proofs.real_time.Spared.{AreSpared, Leave, all_left, all_old, all_own, leaves_unwritten, left_append}
 use Rattle.scoreboard.proofs.real_time.Apart.{AreAll, AreApart, AreEither, AreJoined, IsJoining, fixed_determined, joined_apart, joined_either}
 
 module _ (faults : Faults) (regions : List Region) where
@@ -236,14 +238,16 @@ module _ (faults : Faults) (regions : List Region) (flights new_flights : Place 
     pub either_now : AreEither now_indeterminate now_footprints
     pub entries : Each faults regions HeldNow m (before ++ entry ∷ after)
     pub known : (x : ℕ) → now_indeterminate x ≡ false → run faults regions m (before ++ entry ∷ after) x ≡ carry faults regions entry.request bytes x
+    pub spared_now : AreSpared faults regions now_indeterminate m (before ++ entry ∷ after)
 
   pub inserted : (before after : Order) (m : Bytes) → Each faults regions Held m (before ++ after) → list_any has_ended after ≡ false
       → AllByRecursion (IsElsewhere (place_of entry)) (before ++ after) → AreDistinct (before ++ after)
       → ((x : ℕ) → indeterminate x ≡ false → run faults regions m (before ++ after) x ≡ bytes x)
       → flight.source ≡ entry.request.source → AreBytes bytes
       → flight.beats ≡ drop entry.came (shown entry.request (meaning faults regions entry.request bytes).reply)
+      → AreSpared faults regions indeterminate m (before ++ after)
       → IsInserted before after m
-  inserted before after m each live elsewhere distinct known source are_bytes left =
+  inserted before after m each live elsewhere distinct known source are_bytes left spared =
       record {
         apart_now = now_apart;
         either_now = now_either;
@@ -266,6 +270,11 @@ module _ (faults : Faults) (regions : List Region) (flights new_flights : Place 
               each_behind after mid (carry faults regions entry.request mid) behind (distinct_after before after distinct) (agree_first after mid behind) held.1,
             );
         known = λ x certain. ap (λ (f : Bytes). f x) (run-append faults regions m before (entry ∷ after)) ∙ known_now x certain (gives footprint entry.request.bytes x) refl;
+        spared_now = λ gone unended x certain leave.
+            ap (λ (some : Order). run faults regions m some x) (left_append gone before (entry ∷ after))
+            ∙ ap (λ (f : Bytes). f x) (run-append faults regions m (left_in gone before) (left_in gone (entry ∷ after)))
+            ∙ by_gone gone unended x certain leave (gone entry.number) refl
+            ∙ sym (ap (λ (f : Bytes). f x) (run-append faults regions m before (entry ∷ after)));
       }
     where
       mid : Bytes
@@ -306,3 +315,69 @@ module _ (faults : Faults) (regions : List Region) (flights new_flights : Place 
           ∙ (acts faults regions entry.request well).same mid bytes x (same_gives x ∙ given)
           (λ reads y covered. reads_known y reads (fixed_determined footprint y both.1 (ap (λ (r : Footprint). r.reads) acting ∙ reads)
           (ap (λ (r : Footprint). covers r y) acting ∙ covered)))
+
+      -- ---- where some of those that haven't ended never take effect
+
+      mid_left : (ℕ → Bool) → Bytes
+      mid_left gone = run faults regions m (left_in gone before)
+
+      behind_left : (gone : ℕ → Bool) → AllByRecursion IsInFlight (left_in gone after)
+      behind_left gone = all_left IsInFlight gone after behind
+
+      unended_old : (gone : ℕ → Bool) → AreUnended gone (before ++ entry ∷ after) → AreUnended gone (before ++ after)
+      unended_old gone unended = all_old (λ other. gone other.number ≡ true → has_ended other ≡ false) before after entry unended
+
+      -- what was known of them without it
+      spared_mid : (gone : ℕ → Bool) → AreUnended gone (before ++ entry ∷ after) → (x : ℕ) → indeterminate x ≡ false
+          → Leave faults regions gone x (before ++ after) → run faults regions (mid_left gone) (left_in gone after) x ≡ run faults regions mid after x
+      spared_mid gone unended x is leave =
+          sym (ap (λ (f : Bytes). f x) (run-append faults regions m (left_in gone before) (left_in gone after)))
+          ∙ sym (ap (λ (some : Order). run faults regions m some x) (left_append gone before after))
+          ∙ spared gone (unended_old gone unended) x is leave
+          ∙ ap (λ (f : Bytes). f x) (run-append faults regions m before after)
+
+      -- what it reads and is determined is the same
+      reads_left : (gone : ℕ → Bool) → AreUnended gone (before ++ entry ∷ after) → (x : ℕ) → (own faults regions entry.request).reads ≡ true
+          → footprint.determined x ≡ true → mid_left gone x ≡ mid x
+      reads_left gone unended x reads determined =
+          sym (untouched faults regions (left_in gone after) (mid_left gone) x (leaves_determined (left_in gone after) x (behind_left gone) determined))
+          ∙ spared_mid gone unended x (joining.known x (ap (λ (r : Footprint). r.reads) acting ∙ reads) determined)
+          (leaves_unwritten faults regions flights gone x (λ i. joining.alone i x determined) (before ++ after) m each (unended_old gone unended))
+          ∙ untouched faults regions after mid x (leaves_determined after x behind determined)
+
+      -- what it doesn't give is the same without it
+      beside_it : (n : Bytes) (order : Order) → AllByRecursion IsInFlight order → (x : ℕ) → now_indeterminate x ≡ false
+          → gives footprint entry.request.bytes x ≡ false
+          → run faults regions (carry faults regions entry.request n) order x ≡ run faults regions n order x
+      beside_it n order flying x certain given =
+          run_outside order (carry faults regions entry.request n) n flying
+          (λ y away. kept n y (or_parts (gives footprint entry.request.bytes y) (now_indeterminate y) away).0) x
+          (or_from (gives footprint entry.request.bytes x) (now_indeterminate x) given certain)
+
+      not_gone : (gone : ℕ → Bool) → AreUnended gone (before ++ entry ∷ after) → (x : ℕ) → now_indeterminate x ≡ false
+          → Leave faults regions gone x (before ++ after) → (g : Bool) → gives footprint entry.request.bytes x ≡ g
+          → run faults regions (carry faults regions entry.request (mid_left gone)) (left_in gone after) x ≡ run faults regions (carry faults regions entry.request mid) after x
+      not_gone gone unended x certain leave false given =
+          beside_it (mid_left gone) (left_in gone after) (behind_left gone) x certain given
+          ∙ spared_mid gone unended x (rw given at (given_now x certain)) leave
+          ∙ sym (beside_it mid after behind x certain given)
+      not_gone gone unended x certain leave true given =
+          let doubt : not (footprint.determined x && is_fixed footprint) ≡ false = rw given at (given_now x certain) in
+          let both = and_parts (footprint.determined x) (is_fixed footprint) (grind (arith, doubt)) in
+          untouched faults regions (left_in gone after) (carry faults regions entry.request (mid_left gone)) x (leaves_determined (left_in gone after) x (behind_left gone) both.0)
+          ∙ (acts faults regions entry.request well).same (mid_left gone) mid x (same_gives x ∙ given)
+          (λ reads y covered. reads_left gone unended y reads (fixed_determined footprint y both.1 (ap (λ (r : Footprint). r.reads) acting ∙ reads)
+          (ap (λ (r : Footprint). covers r y) acting ∙ covered)))
+          ∙ sym (untouched faults regions after (carry faults regions entry.request mid) x (leaves_determined after x behind both.0))
+
+      by_gone : (gone : ℕ → Bool) → AreUnended gone (before ++ entry ∷ after) → (x : ℕ) → now_indeterminate x ≡ false
+          → Leave faults regions gone x (before ++ entry ∷ after) → (g : Bool) → gone entry.number ≡ g
+          → run faults regions (mid_left gone) (left_in gone (entry ∷ after)) x ≡ run faults regions mid (entry ∷ after) x
+      by_gone gone unended x certain leave false stays =
+          let old = all_old (λ other. gone other.number ≡ true → may_write (own faults regions other.request) x ≡ false) before after entry leave in
+          rw stays (not_gone gone unended x certain old (gives footprint entry.request.bytes x) refl)
+      by_gone gone unended x certain leave true goes =
+          let old = all_old (λ other. gone other.number ≡ true → may_write (own faults regions other.request) x ≡ false) before after entry leave in
+          let own_none = all_own (λ other. gone other.number ≡ true → may_write (own faults regions other.request) x ≡ false) before after entry leave goes in
+          let given : gives footprint entry.request.bytes x ≡ false = not_written x (ap (λ (r : Footprint). may_write r x) acting ∙ own_none) in
+          rw goes (spared_mid gone unended x (rw given at (given_now x certain)) old ∙ sym (beside_it mid after behind x certain given))

@@ -1,10 +1,10 @@
--- A reply that came before its request was whole ends it when it is whole: on a board and on its shadow the request is in flight no more, whatever reply has
--- begun.
-use Rattle.std.proofs.Common.{◌≡◌, ℕ, ◌==◌, Bool, true, false, List, [], ◌∷◌, map, set, Option, Some, None, ◌⊎◌, inl, inr, if◌then◌else◌, refl, sym, ◌∙◌, ap, ap₂, subst, arith}
+-- A request that has ended though beats of its reply are missing, or came before it was whole: on a board and on its shadow it is in flight no more, at
+-- whichever of its client's places it was.
+use Rattle.std.proofs.Common.{◌≡◌, ℕ, ◌==◌, Bool, true, false, List, [], ◌∷◌, map, set, Option, Some, None, ◌⊎◌, inl, inr, if◌then◌else◌, refl, sym, ◌∙◌, ap, subst, arith}
 use Rattle.std.specs.Prelude.{is_some, slice_get}
 use Rattle.std.specs.List.{AllByRecursion, list_any}
 use Rattle.std.proofs.Math.Path.{fun_ext}
-use Rattle.std.proofs.lemmas.Bool.{cases_eq, ne_eqb}
+use Rattle.std.proofs.lemmas.Bool.{cases_eq}
 use Rattle.std.proofs.lemmas.Bool.Decides.{nat_tests}
 use Rattle.std.proofs.lemmas.List.{length-set}
 use Rattle.bus_words.specs.Places.{AreDistinct, without_first}
@@ -23,55 +23,80 @@ use Rattle.scoreboard.proofs.real_time.Comings.{comes_other, comes_same, early_a
 use Rattle.scoreboard.proofs.real_time.Entries.{AreDistinct as AreApartEntries, Differ, Each, IsLive, Stands, carry, place_of, run}
 use Rattle.scoreboard.proofs.real_time.Explained.{Explains, nothing_with, sources_with}
 use Rattle.scoreboard.proofs.real_time.FlightPlaces.{coming_other, coming_same}
+use Rattle.scoreboard.proofs.real_time.Lengths.{some_beats}
 use Rattle.scoreboard.proofs.real_time.Places.{HaveSources, Place, begun_at, cases_place, coming_at, coming_in, due_at, flight_at, flight_in, flights_in, flights_other, flights_same, footprint_in}
 use Rattle.scoreboard.proofs.real_time.ReplyMoves.{waits_for}
 use Rattle.scoreboard.proofs.real_time.RequestActs.{IsWell}
 use Rattle.scoreboard.proofs.real_time.ReplySeen.{found_gone}
+use Rattle.scoreboard.proofs.real_time.Spared.{KeepsEnds, spared_changed}
 
--- a client without the request that is due to a source
-abbrev pub without : ℕ → ClientBoard → ClientBoard
-without source client = record client { flights = record client.flights { due = without_first (is_of_source source) client.flights.due } }
+-- what a client has in flight without the one at a place: without the one that is due to a source, or the one whose reply has begun
+abbrev pub less_at : Option ℕ → Flights → Flights
+less_at None flights = record flights { begun = None }
+less_at (Some source) flights = record flights { due = without_first (is_of_source source) flights.due }
 
--- one that waits for the reply to a source has ended
-abbrev pub ended : ℕ → ℕ → Entry → Entry
-ended number source entry = if waits_for number source entry then record entry { came = reply_beats entry.request } else entry
+-- a client without it
+abbrev pub without : Option ℕ → ClientBoard → ClientBoard
+without source client = record client { flights = less_at source client.flights }
+
+-- a client's place
+abbrev pub place_at : ℕ → Option ℕ → Place
+place_at number source = record { client = number; source = source }
+
+-- whether a request is in flight there: one that waits for the reply to a source, or one whose reply has begun
+abbrev pub stands_at : ℕ → Option ℕ → Entry → Bool
+stands_at number None entry = begun_to number entry
+stands_at number (Some source) entry = waits_for number source entry
+
+-- where it is there it has ended
+abbrev pub ended : ℕ → Option ℕ → Entry → Entry
+ended number source entry = if stands_at number source entry then record entry { came = reply_beats entry.request } else entry
 
 -- ---- what is in flight at the places
 
-module _ (clients : List ClientBoard) (number source : ℕ) (client : ClientBoard) (there : slice_get clients number ≡ Some client)
+gone_in : (source : Option ℕ) (flights : Flights) → HaveSources flights → flight_in (less_at source flights) source ≡ None
+gone_in None flights sources = refl
+gone_in (Some source) flights sources = found_gone source flights.due sources
+
+kept_in : (source : Option ℕ) (flights : Flights) (other : Option ℕ) → (other ≡ source → ⊥) → flight_in (less_at source flights) other ≡ flight_in flights other
+kept_in None flights None away = absurd (away refl)
+kept_in None flights (Some other) away = refl
+kept_in (Some source) flights None away = refl
+kept_in (Some source) flights (Some other) away = find_other source other flights.due (λ same. away (ap Some same))
+
+sources_in : (source : Option ℕ) (flights : Flights) → HaveSources flights → HaveSources (less_at source flights)
+sources_in None flights sources = sources
+sources_in (Some source) flights sources =
+    subst AreDistinct (sym (without_first_map (λ n. n == source) (λ (flight : InFlight). flight.source) flights.due))
+    (distinct-without_first (λ n. n == source) (map (λ (flight : InFlight). flight.source) flights.due) sources)
+
+module _ (clients : List ClientBoard) (number : ℕ) (source : Option ℕ) (client : ClientBoard) (there : slice_get clients number ≡ Some client)
     (sources : HaveSources client.flights) where
   abbrev less : List ClientBoard
   less = set clients number (without source client)
 
-  pub gone_at : flight_at (set clients number (without source client)) (due_at number source) ≡ None
-  gone_at = ap (λ (f : Flights). flight_in f (Some source)) (flights_same clients number client (without source client) there) ∙ found_gone source client.flights.due sources
+  pub gone_at : flight_at (set clients number (without source client)) (place_at number source) ≡ None
+  gone_at = ap (λ (f : Flights). flight_in f source) (flights_same clients number client (without source client) there) ∙ gone_in source client.flights sources
 
-  pub kept_at : (place : Place) → (place ≡ due_at number source → ⊥) → flight_at (set clients number (without source client)) place ≡ flight_at clients place
+  pub kept_at : (place : Place) → (place ≡ place_at number source → ⊥) → flight_at (set clients number (without source client)) place ≡ flight_at clients place
   kept_at place away = by_client (cases_eq place.client number)
     where
-      by_source : (s : Option ℕ) → (record { client = number; source = s } ≡ due_at number source → ⊥)
-          → flight_in (without source client).flights s ≡ flight_in client.flights s
-      by_source None differ = refl
-      by_source (Some s) differ = find_other source s client.flights.due (λ same. differ (ap (due_at number) same))
-
       by_client : (place.client ≡ number) ⊎ (place.client ≡ number → ⊥) → flight_at less place ≡ flight_at clients place
       by_client (inr differ) = ap (λ (f : Flights). flight_in f place.source) (flights_other clients number place.client (without source client) differ)
       by_client (inl same) =
-          let is : place ≡ record { client = number; source = place.source } = ap (λ c. record { client = c; source = place.source }) same in
+          let is : place ≡ place_at number place.source = ap (λ c. record { client = c; source = place.source }) same in
           ap (flight_at less) is
           ∙ ap (λ (f : Flights). flight_in f place.source) (flights_same clients number client (without source client) there)
-          ∙ by_source place.source (λ other. away (is ∙ other))
+          ∙ kept_in source client.flights place.source (λ other. away (is ∙ ap (place_at number) other))
           ∙ sym (ap (flight_at clients) is ∙ ap (λ (f : Flights). flight_in f place.source) (ap flights_in there))
 
   pub sources_less : HaveSources (without source client).flights
-  sources_less =
-      subst AreDistinct (sym (without_first_map (λ n. n == source) (λ (flight : InFlight). flight.source) client.flights.due))
-      (distinct-without_first (λ n. n == source) (map (λ (flight : InFlight). flight.source) client.flights.due) sources)
+  sources_less = sources_in source client.flights sources
 
   -- the footprint at a place is none, or what it was
   footprint_less : (place : Place) → (footprint_in (flight_at less place) ≡ no_footprint) ⊎ (footprint_in (flight_at less place) ≡ footprint_in (flight_at clients place))
   footprint_less place =
-      elim (cases_place place (due_at number source)) [
+      elim (cases_place place (place_at number source)) [
         | inl same ↦ inl (ap footprint_in (ap (flight_at less) same ∙ gone_at))
         | inr away ↦ inr (ap footprint_in (kept_at place away))
       ]
@@ -99,19 +124,33 @@ module _ (clients : List ClientBoard) (number source : ℕ) (client : ClientBoar
 
 -- ---- the entries
 
-module _ (number source : ℕ) where
+module _ (number : ℕ) (source : Option ℕ) where
   abbrev step : Entry → Entry
   step entry = ended number source entry
 
-  -- one that waits has ended, another is as it was
+  pub stands_there : (entry : Entry) → stands_at number source entry ≡ true → place_of entry ≡ place_at number source
+  stands_there entry = by_source source
+    where
+      by_source : (s : Option ℕ) → stands_at number s entry ≡ true → place_of entry ≡ place_at number s
+      by_source None is = grind (arith, nat_tests, is)
+      by_source (Some s) is = grind (arith, nat_tests, is)
+
+  pub there_stands : (entry : Entry) → has_ended entry ≡ false → place_of entry ≡ place_at number source → stands_at number source entry ≡ true
+  there_stands entry live = by_source source
+    where
+      by_source : (s : Option ℕ) → place_of entry ≡ place_at number s → stands_at number s entry ≡ true
+      by_source None same = grind (arith, nat_tests, live, same)
+      by_source (Some s) same = grind (arith, nat_tests, same)
+
+  -- one that is there has ended, another is as it was
   pub data Ends (entry : Entry) : Type 0 where
-    Over : waits_for number source entry ≡ true → ended number source entry ≡ record entry { came = reply_beats entry.request } → Ends entry
-    Still : waits_for number source entry ≡ false → ended number source entry ≡ entry → Ends entry
+    Over : stands_at number source entry ≡ true → ended number source entry ≡ record entry { came = reply_beats entry.request } → Ends entry
+    Still : stands_at number source entry ≡ false → ended number source entry ≡ entry → Ends entry
 
   pub ends : (entry : Entry) → Ends entry
-  ends entry = by_test (waits_for number source entry) refl
+  ends entry = by_test (stands_at number source entry) refl
     where
-      by_test : (b : Bool) → waits_for number source entry ≡ b → Ends entry
+      by_test : (b : Bool) → stands_at number source entry ≡ b → Ends entry
       by_test true is = Over is (rw is refl)
       by_test false is = Still is (rw is refl)
 
@@ -120,17 +159,33 @@ module _ (number source : ℕ) where
 
   -- one that is live still is elsewhere
   pub away_from : (entry : Entry) → has_ended (ended number source entry) ≡ false → Ends entry
-      → (ended number source entry ≡ entry) × (place_of entry ≡ due_at number source → ⊥)
-  away_from entry live (Over waits is) = absurd (cc (sym live ∙ over_ended entry is))
+      → (ended number source entry ≡ entry) × (place_of entry ≡ place_at number source → ⊥)
+  away_from entry live (Over stands is) = absurd (cc (sym live ∙ over_ended entry is))
   away_from entry live (Still none is) =
-      (is, λ same. let waits : waits_for number source entry ≡ true = grind (arith, nat_tests, same) in absurd (cc (sym none ∙ waits)))
+      (is, λ same. absurd (cc (sym none ∙ there_stands entry (sym (ap (λ (e : Entry). has_ended e) is) ∙ live) same)))
 
   same_request : (entry : Entry) → (step entry).request ≡ entry.request
-  same_request entry = grind arith
+  same_request entry = by_ends (ends entry)
+    where
+      by_ends : Ends entry → (step entry).request ≡ entry.request
+      by_ends (Over stands is) = ap (λ (e : Entry). e.request) is
+      by_ends (Still none is) = ap (λ (e : Entry). e.request) is
 
   run_ended : (faults : Faults) (regions : List Region) (order : Order) (m : Bytes) → run faults regions m (map step order) ≡ run faults regions m order
   run_ended faults regions [] m = refl
   run_ended faults regions (entry ∷ order) m = rw (run, same_request entry) (run_ended faults regions order (carry faults regions entry.request m))
+
+  pub ended_keeps : KeepsEnds (ended number source)
+  ended_keeps =
+      record {
+        number = λ entry. by_ends entry (ends entry);
+        request = same_request;
+        ends = λ entry live. sym (ap (λ (e : Entry). has_ended e) (away_from entry live (ends entry)).0) ∙ live;
+      }
+    where
+      by_ends : (entry : Entry) → Ends entry → (step entry).number ≡ entry.number
+      by_ends entry (Over stands is) = ap (λ (e : Entry). e.number) is
+      by_ends entry (Still none is) = ap (λ (e : Entry). e.number) is
 
   differ_ended : (entry other : Entry) → Differ entry other → Differ (step entry) (step other)
   differ_ended entry other differ live its_live same =
@@ -147,41 +202,34 @@ module _ (number source : ℕ) where
   distinct_ended [] distinct = tt
   distinct_ended (entry ∷ order) distinct = (differ_all entry order distinct.0, distinct_ended order distinct.1)
 
-  -- one that waits for another source still does, and one that has begun too
-  waits_still : (c s : ℕ) → (due_at c s ≡ due_at number source → ⊥) → (entry : Entry) → waits_for c s (step entry) ≡ waits_for c s entry
+  -- one that waits elsewhere still does, and one that has begun there too
+  waits_still : (c s : ℕ) → (due_at c s ≡ place_at number source → ⊥) → (entry : Entry) → waits_for c s (step entry) ≡ waits_for c s entry
   waits_still c s differ entry = by_ends (ends entry)
     where
+      by_waits : (b : Bool) → waits_for c s entry ≡ b → stands_at number source entry ≡ true → waits_for c s (record entry { came = reply_beats entry.request }) ≡ b
+      by_waits true waits stands =
+          let its : place_of entry ≡ due_at c s = grind (arith, nat_tests, waits) in absurd (differ (sym its ∙ stands_there entry stands))
+      by_waits false none stands = grind (arith, nat_tests, some_beats entry.request)
+
       by_ends : Ends entry → waits_for c s (step entry) ≡ waits_for c s entry
       by_ends (Still none is) = ap (waits_for c s) is
-      by_ends (Over waits is) =
-          let client : entry.client ≡ number = grind (arith, nat_tests, waits) in
-          let its_source : entry.request.source ≡ source = grind (arith, nat_tests, waits) in
-          by_both (cases_eq c number) (cases_eq s source) client its_source
-        where
-          by_both : (c ≡ number) ⊎ (c ≡ number → ⊥) → (s ≡ source) ⊎ (s ≡ source → ⊥) → entry.client ≡ number → entry.request.source ≡ source
-              → waits_for c s (step entry) ≡ waits_for c s entry
-          by_both (inl same) (inl own) client its = absurd (differ (ap₂ due_at same own))
-          by_both (inr other) sources client its =
-              let none : (entry.client == c) ≡ false = ne_eqb entry.client c (λ is_it. other (sym is_it ∙ client)) in
-              ap (waits_for c s) is ∙ rw none refl
-          by_both clients (inr other) client its =
-              let none : (entry.request.source == s) ≡ false = ne_eqb entry.request.source s (λ is_it. other (sym is_it ∙ its)) in
-              ap (waits_for c s) is ∙ grind (arith, none)
+      by_ends (Over stands is) = ap (waits_for c s) is ∙ by_waits (waits_for c s entry) refl stands
 
-  begun_still : (c : ℕ) (entry : Entry) → begun_to c entry ≡ true → begun_to c (step entry) ≡ true
-  begun_still c entry has = by_ends (ends entry)
+  begun_still : (c : ℕ) → (begun_at c ≡ place_at number source → ⊥) → (entry : Entry) → begun_to c entry ≡ true → begun_to c (step entry) ≡ true
+  begun_still c differ entry has = by_ends (ends entry)
     where
       by_ends : Ends entry → begun_to c (step entry) ≡ true
       by_ends (Still none is) = ap (begun_to c) is ∙ has
-      by_ends (Over waits is) = absurd (grind (arith, nat_tests, has, waits))
+      by_ends (Over stands is) =
+          let its : place_of entry ≡ begun_at c = grind (arith, nat_tests, has) in absurd (differ (sym its ∙ stands_there entry stands))
 
-  any_begun : (c : ℕ) (order : Order) → list_any (begun_to c) order ≡ true → list_any (begun_to c) (map step order) ≡ true
-  any_begun c [] some = some
-  any_begun c (entry ∷ order) some = grind (arith, some, begun_still c entry, any_begun c order)
+  any_begun : (c : ℕ) → (begun_at c ≡ place_at number source → ⊥) → (order : Order) → list_any (begun_to c) order ≡ true → list_any (begun_to c) (map step order) ≡ true
+  any_begun c differ [] some = some
+  any_begun c differ (entry ∷ order) some = grind (arith, some, begun_still c differ entry, any_begun c differ order)
 
 -- ---- on a board that explains an order
 
-module _ {start : Bytes} (board : Board) (order : Order) (explains : Explains start board order) (number source : ℕ) (client : ClientBoard)
+module _ {start : Bytes} (board : Board) (order : Order) (explains : Explains start board order) (number : ℕ) (source : Option ℕ) (client : ClientBoard)
     (there : slice_get board.clients number ≡ Some client) where
   abbrev faults : Faults
   faults = board.memory.faults
@@ -207,7 +255,7 @@ module _ {start : Bytes} (board : Board) (order : Order) (explains : Explains st
       by_whole (Over waits is) = ap (λ (e : Entry). e.whole) is ∙ held.whole
       by_whole (Still none is) = ap (λ (e : Entry). e.whole) is ∙ held.whole
 
-      by_live : has_ended (ended number source entry) ≡ false → (ended number source entry ≡ entry) × (place_of entry ≡ due_at number source → ⊥)
+      by_live : has_ended (ended number source entry) ≡ false → (ended number source entry ≡ entry) × (place_of entry ≡ place_at number source → ⊥)
           → IsLive faults regions (flight_at now) (ended number source entry) m
       by_live live (same, away) =
           let was = held.live (sym (ap (λ (e : Entry). has_ended e) same) ∙ live) in
@@ -242,15 +290,20 @@ module _ {start : Bytes} (board : Board) (order : Order) (explains : Explains st
         distinct = distinct_ended number source order explains.distinct;
         entries = each_ended order start explains.entries;
         known = λ x certain. ap (λ (f : Bytes). f x) (run_ended number source faults regions order start) ∙ explains.known x certain;
-        waiting = λ c s some. by_place c s some (cases_place (due_at c s) (due_at number source));
-        begun = λ c some. any_begun number source c order
-            (explains.begun c (sym (ap (λ (o : Option InFlight). is_some o) (kept_at board.clients number source client there sources (begun_at c) (not_due c))) ∙ some));
+        waiting = λ c s some. by_place c s some (cases_place (due_at c s) (place_at number source));
+        begun = λ c some. by_begun c some (cases_place (begun_at c) (place_at number source));
+        spared = spared_changed faults regions (ended number source) board.indeterminate start order (ended_keeps number source) explains.spared;
       }
     where
-      not_due : (c : ℕ) → begun_at c ≡ due_at number source → ⊥
-      not_due c same = let is = ap (λ (p : Place). p.source) same in absurd (cc (is))
+      by_begun : (c : ℕ) → is_some (flight_at now (begun_at c)) ≡ true → (begun_at c ≡ place_at number source) ⊎ (begun_at c ≡ place_at number source → ⊥)
+          → list_any (begun_to c) (map (ended number source) order) ≡ true
+      by_begun c some (inl same) =
+          absurd (cc (sym (ap (λ (o : Option InFlight). is_some o) (ap (flight_at now) same ∙ gone_at board.clients number source client there sources)) ∙ some))
+      by_begun c some (inr away) =
+          any_begun number source c away order
+          (explains.begun c (sym (ap (λ (o : Option InFlight). is_some o) (kept_at board.clients number source client there sources (begun_at c) away)) ∙ some))
 
-      by_place : (c s : ℕ) → is_some (flight_at now (due_at c s)) ≡ true → (due_at c s ≡ due_at number source) ⊎ (due_at c s ≡ due_at number source → ⊥)
+      by_place : (c s : ℕ) → is_some (flight_at now (due_at c s)) ≡ true → (due_at c s ≡ place_at number source) ⊎ (due_at c s ≡ place_at number source → ⊥)
           → list_any (waits_for c s) (map (ended number source) order) ≡ true
       by_place c s some (inl same) =
           absurd (cc (sym (ap (λ (o : Option InFlight). is_some o) (ap (flight_at now) same ∙ gone_at board.clients number source client there sources)) ∙ some))
@@ -261,9 +314,10 @@ module _ {start : Bytes} (board : Board) (order : Order) (explains : Explains st
 
 -- ---- a board and its shadow
 
-module _ (board : Board) (shadow : Shadow) (ahead : IsAhead board shadow) (number source : ℕ) (client other : ClientBoard)
+module _ (board : Board) (shadow : Shadow) (ahead : IsAhead board shadow) (number : ℕ) (source : Option ℕ) (client other : ClientBoard)
     (there : slice_get board.clients number ≡ Some client) (there_too : slice_get shadow.clients number ≡ Some other)
-    (sources_too : HaveSources other.flights) (none : comes board.clients number ≡ false) where
+    (sources_too : HaveSources other.flights)
+    (free : (c : ℕ) → comes board.clients c ≡ true → due_at c (shadow.finals c).source ≡ place_at number source → ⊥) where
   abbrev mine : List ClientBoard
   mine = set board.clients number (without source client)
 
@@ -273,10 +327,10 @@ module _ (board : Board) (shadow : Shadow) (ahead : IsAhead board shadow) (numbe
   own_sources : HaveSources client.flights
   own_sources = ahead.sources number client there
 
-  kept_mine : (place : Place) → (place ≡ due_at number source → ⊥) → flight_at mine place ≡ flight_at board.clients place
+  kept_mine : (place : Place) → (place ≡ place_at number source → ⊥) → flight_at mine place ≡ flight_at board.clients place
   kept_mine place away = kept_at board.clients number source client there own_sources place away
 
-  kept_theirs : (place : Place) → (place ≡ due_at number source → ⊥) → flight_at theirs place ≡ flight_at shadow.clients place
+  kept_theirs : (place : Place) → (place ≡ place_at number source → ⊥) → flight_at theirs place ≡ flight_at shadow.clients place
   kept_theirs place away = kept_at shadow.clients number source other there_too sources_too place away
 
   pub comes_less : (c : ℕ) → comes (set board.clients number (without source client)) c ≡ comes board.clients c
@@ -306,14 +360,7 @@ module _ (board : Board) (shadow : Shadow) (ahead : IsAhead board shadow) (numbe
         | inr differ ↦ coming_other board.clients number c (without source client) differ
       ]
 
-  -- what has begun is another's
-  apart : (c : ℕ) → comes board.clients c ≡ true → c ≡ number → ⊥
-  apart c some same = absurd (cc (sym none ∙ ap (comes board.clients) (sym same) ∙ some))
-
-  others_place : (c s : ℕ) → (c ≡ number → ⊥) → due_at c s ≡ due_at number source → ⊥
-  others_place c s differ same = differ (ap (λ (p : Place). p.client) same)
-
-  pub ended_ahead : (spent : (flight : InFlight) → flight_at board.clients (due_at number source) ≡ Some flight → shadow.fates (due_at number source) ≡ true
+  pub ended_ahead : (spent : (flight : InFlight) → flight_at board.clients (place_at number source) ≡ Some flight → shadow.fates (place_at number source) ≡ true
       → flight.footprint.failed ≡ true)
       → IsAhead (with_client number (without source client) board) (record shadow { clients = set shadow.clients number (without source other) })
   ended_ahead spent =
@@ -321,7 +368,7 @@ module _ (board : Board) (shadow : Shadow) (ahead : IsAhead board shadow) (numbe
         sources = sources_with board.clients number client (without source client) there ahead.sources (sources_less board.clients number source client there own_sources);
         small = ahead.small;
         many = length-set shadow.clients number (without source other) ∙ ahead.many ∙ sym (length-set board.clients number (without source client));
-        placed = λ place flight is. elim (cases_place place (due_at number source)) [
+        placed = λ place flight is. elim (cases_place place (place_at number source)) [
           | inl same ↦ absurd (cc (sym (ap (flight_at mine) same ∙ gone_at board.clients number source client there own_sources) ∙ is))
           | inr away ↦
               let old = ahead.placed place flight (sym (kept_mine place away) ∙ is) in
@@ -333,10 +380,10 @@ module _ (board : Board) (shadow : Shadow) (ahead : IsAhead board shadow) (numbe
             subst (λ coming. HasBecome board.memory.faults board.memory.regions theirs coming c (shadow.finals c)) (sym (coming_less c))
             (record {
               other = old.other;
-              there = kept_theirs (due_at c (shadow.finals c).source) (others_place c (shadow.finals c).source (apart c before)) ∙ old.there;
+              there = kept_theirs (due_at c (shadow.finals c).source) (free c before) ∙ old.there;
               becomes = old.becomes;
             });
-        others = λ place its is nothing. elim (cases_place place (due_at number source)) [
+        others = λ place its is nothing. elim (cases_place place (place_at number source)) [
           | inl same ↦ absurd (cc (sym (ap (flight_at theirs) same ∙ gone_at shadow.clients number source other there_too sources_too) ∙ is))
           | inr away ↦
               let old = ahead.others place its (sym (kept_theirs place away) ∙ is) (sym (kept_mine place away) ∙ nothing) in
@@ -344,9 +391,9 @@ module _ (board : Board) (shadow : Shadow) (ahead : IsAhead board shadow) (numbe
         ];
         waits = λ c some.
             let before = sym (comes_less c) ∙ some in
-            kept_mine (due_at c (shadow.finals c).source) (others_place c (shadow.finals c).source (apart c before)) ∙ ahead.waits c before;
+            kept_mine (due_at c (shadow.finals c).source) (free c before) ∙ ahead.waits c before;
         known = λ x certain nothing unfated.
-            let same = ahead.known x certain (λ c some. nothing c (comes_less c ∙ some)) (λ place flight is. elim (cases_place place (due_at number source)) [
+            let same = ahead.known x certain (λ c some. nothing c (comes_less c ∙ some)) (λ place flight is. elim (cases_place place (place_at number source)) [
               | inl same ↦ λ fated sound.
                   absurd (cc (sym sound ∙ spent flight (ap (flight_at board.clients) (sym same) ∙ is) (ap shadow.fates (sym same) ∙ fated)))
               | inr away ↦ unfated place flight (kept_mine place away ∙ is)

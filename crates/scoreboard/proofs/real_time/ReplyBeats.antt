@@ -7,12 +7,13 @@ use Rattle.bus_words.proofs.PlaceChanges.{find-passes}
 use Rattle.meaning.specs.Meaning.{Bytes}
 use Rattle.scoreboard.specs.Boards.{Board, ClientBoard}
 use Rattle.scoreboard.specs.Flights.{InFlight, flights_after, is_of_source, next_reply}
-use Rattle.scoreboard.specs.Orders.{Entry, Order, after_beat, begun_to}
+use Rattle.scoreboard.specs.Orders.{Entry, Order, begun_to, with_beat, with_counted}
 use Rattle.scoreboard.proofs.real_time.Entries.{Stands}
 use Rattle.scoreboard.proofs.real_time.Explained.{Explains, explains_with, nothing_with, sources_with}
 use Rattle.scoreboard.proofs.real_time.Places.{HaveSources, Place, flight_at}
-use Rattle.scoreboard.proofs.real_time.ReplyMoves.{AreMoved, Moves, begun_next, distinct_next, each_next, run_moved, waiting_next}
+use Rattle.scoreboard.proofs.real_time.ReplyMoves.{AreMoved, Moves, begun_next, distinct_next, each_next, moved_keeps, run_moved, waiting_next}
 use Rattle.scoreboard.proofs.real_time.ReplySeen.{are_moved, flights_still, next_is, sources_after, still_apart, still_either}
+use Rattle.scoreboard.proofs.real_time.Spared.{spared_changed}
 use Rattle.scoreboard.proofs.real_time.ReplySteps.{begun_as, counts_none, due_counted, moves_all, next_at, none_due}
 
 module _ {start : Bytes} (board : Board) (order : Order) (number source : ℕ) (explains : Explains start board order) where
@@ -23,7 +24,7 @@ module _ {start : Bytes} (board : Board) (order : Order) (number source : ℕ) (
   from = next_at (list_any (begun_to number) order) number source
 
   -- of a client that isn't there nothing is due
-  nobody : slice_get board.clients number ≡ None → Explains start board (after_beat order number source)
+  nobody : slice_get board.clients number ≡ None → Explains start board (with_counted order number source)
   nobody none =
       subst (Explains start board)
       (sym (counts_none board order explains number source (λ flight there own.
@@ -34,7 +35,7 @@ module _ {start : Bytes} (board : Board) (order : Order) (number source : ℕ) (
     changed = record client { flights = flights_after client.flights source }
 
     abbrev Kept : Type 0
-    Kept = Explains start (record board { clients = set board.clients number changed }) (after_beat order number source)
+    Kept = Explains start (record board { clients = set board.clients number changed }) (with_counted order number source)
 
     sources : HaveSources client.flights
     sources = explains.sources number client there
@@ -59,6 +60,8 @@ module _ {start : Bytes} (board : Board) (order : Order) (number source : ℕ) (
               c place order start explains.entries (explains.waiting c place);
           begun = λ c. begun_next begun number source board.memory.faults board.memory.regions from (flight_at board.clients) now are moves
               c order start explains.entries (due_counted board order explains number source of_source) (explains.begun c);
+          spared = spared_changed board.memory.faults board.memory.regions (with_beat begun number source) board.indeterminate start order
+              (moved_keeps begun number source) explains.spared;
         }
       where
         now : Place → Option InFlight

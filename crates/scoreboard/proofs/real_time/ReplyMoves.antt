@@ -16,6 +16,7 @@ use Rattle.scoreboard.proofs.MappedLists.{any_map}
 use Rattle.scoreboard.proofs.real_time.Entries.{AreDistinct, Differ, Each, IsElsewhere, IsLive, Stands, carry, place_of, run}
 use Rattle.scoreboard.proofs.real_time.Lengths.{left_some, live_left, next_live, some_left}
 use Rattle.scoreboard.proofs.real_time.Places.{Place, begun_at, cases_place, due_at}
+use Rattle.scoreboard.proofs.real_time.Spared.{KeepsEnds}
 
 -- whether a client's request waits for the first beat of its reply, by its source
 abbrev pub waits_for : ℕ → ℕ → Entry → Bool
@@ -83,6 +84,10 @@ module _ (begun : Bool) (number source : ℕ) where
   pub run_moved : (faults : Faults) (regions : List Region) (order : Order) (m : Bytes) → run faults regions m (map step order) ≡ run faults regions m order
   run_moved faults regions [] m = refl
   run_moved faults regions (entry ∷ order) m = rw (run, same_request entry) (run_moved faults regions order (carry faults regions entry.request m))
+
+  -- one that hasn't ended hadn't
+  pub moved_keeps : KeepsEnds (with_beat begun number source)
+  moved_keeps = record { number = λ entry. grind arith; request = same_request; ends = λ entry live. grind (arith, nat_tests, live) }
 
   -- one for which the beat counts is the one that has begun
   own_client : (entry : Entry) → counts entry ≡ true → entry.client ≡ number

@@ -1,9 +1,10 @@
 -- Beats that are right in order of acceptance are so in real time, however errors may be told: no reply comes before its request is whole, and each beat
 -- tells of an error what the first one of its reply did.
-use Rattle.std.proofs.Common.{◌≡◌, ℕ, zero, suc, ◌+◌, ◌==◌, Bool, true, false, ◌&&◌, ◌||◌, List, [], ◌∷◌, map, set, drop, Option, Some, None, if◌then◌else◌, Result, Ok, Err, refl, sym, ◌∙◌, ap, subst, arith}
+use Rattle.std.proofs.Common.{◌≡◌, ℕ, zero, suc, ◌+◌, ◌==◌, Bool, true, false, ◌&&◌, ◌||◌, not, List, [], ◌∷◌, map, set, drop, Option, Some, None, if◌then◌else◌, Result, Ok, Err, refl, sym, ◌∙◌, ap, subst, arith}
 use Rattle.std.specs.Prelude.{is_none, is_some, slice_get, unwrap_or}
 use Rattle.std.specs.List.{AllByRecursion, find, range_with_len}
-use Rattle.std.specs.Option.{option_map, option_or}
+use Rattle.std.specs.Option.{option_map, option_or, option_to_list}
+use Rattle.std.proofs.lemmas.Bool.{eq-eqb}
 use Rattle.std.proofs.lemmas.List.{map-set, set-set}
 use Rattle.std.proofs.lemmas.Option.{slice_get-map}
 use Rattle.bus_words.proofs.PlaceChanges.{all-find}
@@ -20,9 +21,9 @@ use Rattle.tl_checker.specs.declared.Progress.TheVariants.{More, Whole}
 use Rattle.tl_checker.specs.declared.TlRule.{TlRule}
 use Rattle.responses.specs.Shown.{Reply, beat_of_word, lacks_a_byte, shown}
 use Rattle.scoreboard.specs.AxiPorts.{port_after}
-use Rattle.scoreboard.specs.Boards.{Board, ClientBoard, IsReached, a_wrong, after_a, after_all, after_d, after_seen, answer_to, answered_on, client_beside, coming_on, d_wrong, due_beat, early_after, early_due, early_flight, failed_beat, flight_for, from_zeros, has_replied, hit_client, hit_on, is_spoiled, joining_on, more_on, opening_board, opening_with, told_to, whole_on, with_accepted, with_client, with_whole, wrong_at, wrong_beat, wrong_reply, wrong_told}
+use Rattle.scoreboard.specs.Boards.{Board, ClientBoard, IsReached, a_wrong, after_a, after_all, after_d, after_seen, answer_to, answered_on, client_after, client_beside, client_cut, coming_on, d_wrong, due_beat, early_after, early_due, early_flight, failed_beat, flight_for, from_zeros, has_replied, hit_client, hit_on, is_spoiled, joining_on, more_on, opening_board, opening_with, told_to, whole_on, with_accepted, with_client, with_whole, wrong_at, wrong_beat, wrong_reply, wrong_told}
 use Rattle.scoreboard.specs.FailedBursts.{Span, failed_span}
-use Rattle.scoreboard.specs.Flights.{Footprint, InFlight, begun_after, flights_after, is_of_source, next_reply, with_left}
+use Rattle.scoreboard.specs.Flights.{Flights, Footprint, InFlight, begun_after, begun_is_other, due_to, is_of_source, next_reply, with_left}
 use Rattle.scoreboard.specs.Races.{unless_failed}
 use Rattle.scoreboard.specs.Wider.{LetsRightPass, board_alone, client_alone, flight_alone, tells_apart}
 use Rattle.scoreboard.specs.declared.Errors.{Errors}
@@ -30,17 +31,20 @@ use Rattle.scoreboard.specs.declared.Errors.TheVariants.{Any, Strict}
 use Rattle.scoreboard.specs.declared.Policy.TheVariants.{AcceptanceOrder, RealTime}
 use Rattle.scoreboard.specs.declared.ObservedBeat.{ObservedBeat}
 use Rattle.scoreboard.specs.declared.ObservedBeat.TheVariants.{A, D, Axi as OnAxi, Drained}
+use Rattle.scoreboard.proofs.acceptance_order.BoardOf.{shown_source}
+use Rattle.scoreboard.proofs.acceptance_order.DueLists.{AreOf}
 use Rattle.scoreboard.proofs.acceptance_order.Fixed.{in_turn_alone}
-use Rattle.scoreboard.proofs.acceptance_order.Owed.{right_next}
+use Rattle.scoreboard.proofs.acceptance_order.Owed.{none_over, right_next}
 use Rattle.scoreboard.proofs.acceptance_order.Reached.{right_exactly, right_front, right_reached}
 use Rattle.scoreboard.proofs.real_time.Becoming.{errors_kept}
 use Rattle.scoreboard.proofs.real_time.EachFlight.{AreOfEach, IsOfEach, seen_each}
 use Rattle.scoreboard.proofs.real_time.Explained.{each_client, opening_at}
 use Rattle.scoreboard.proofs.real_time.FlightLists.{client_was}
-use Rattle.scoreboard.proofs.real_time.FlightsAlone.{next_alone, opens_alone}
+use Rattle.scoreboard.proofs.real_time.FlightsAlone.{next_alone}
+use Rattle.scoreboard.proofs.real_time.InTurnAlone.{IsQuietBoard, quiet_all, quiet_next, quiet_opens}
 use Rattle.scoreboard.proofs.real_time.Fronts.{beside_at, changed_from}
 use Rattle.scoreboard.proofs.real_time.Verdicts.{sure_told}
-use Rattle.scoreboard.proofs.real_time.WiderRuns.{IsOn, IsWaiting, after_on}
+use Rattle.scoreboard.proofs.real_time.WiderRuns.{IsOn, IsWaiting, next_on, said_alone}
 use Rattle.scoreboard.proofs.real_time.WiderVerdicts.{a_told, axi_told, none_told, told_less}
 
 -- ---- how a reply tells an error
@@ -78,13 +82,17 @@ shown_tells q reply = by_data (reply_has_data q.operation) refl
     by_data true is = rw is (words_tell q reply 0 (beats_of q.size true) (opcode_of_data q.operation true is))
     by_data false is = rw is (record { same = refl; corrupt = grind (arith, opcode_of_data q.operation false is) }, tt)
 
--- the beats that are left of a reply tell the same
+-- the beats that are left of a reply tell the same, and are of its source
 abbrev TellAlike : InFlight → Type 0
-TellAlike flight = (denied : Bool) × AllByRecursion (IsTelling denied) flight.beats
+TellAlike flight = (denied : Bool) × AllByRecursion (IsTelling denied) flight.beats × AreOf flight.source flight.beats
 
 left_alike : (denied : Bool) (beats : List DBeat) → AllByRecursion (IsTelling denied) beats → AllByRecursion (IsTelling denied) (drop 1 beats)
 left_alike denied [] all = tt
 left_alike denied (beat ∷ beats) all = all.1
+
+left_own : (source : ℕ) (beats : List DBeat) → AreOf source beats → AreOf source (drop 1 beats)
+left_own source [] all = tt
+left_own source (beat ∷ beats) all = all.1
 
 -- ---- a beat that is due is right, where its request has failed too
 
@@ -253,14 +261,29 @@ reply_right client beat all told none = by_next (next_reply client.flights beat.
         ap (λ (o : Option InFlight). wrong_reply RealTime (told_to client) (option_or o (early_flight client client.early beat.source)) beat) is
         ∙ next_passes flight (told_to client) its.0 beat its.1.0 its.1.1 right
 
+-- no reply is over with it
+reply_uncut : (client : ClientBoard) (beat : DBeat) → IsOfEach TellAlike client → d_wrong AcceptanceOrder (Some (client_alone client)) beat ≡ None
+    → client_cut beat.source client ≡ client
+reply_uncut client beat all none =
+    ap {B = ClientBoard} (λ (flights : Flights). record client { flights = flights }) (none_over client.flights beat.source (by_begun client.flights.begun refl all.1))
+  where
+    by_begun : (begun : Option InFlight) → client.flights.begun ≡ begun → AllByRecursion TellAlike (option_to_list begun) → begun_is_other beat.source begun ≡ false
+    by_begun None is its = refl
+    by_begun (Some flight) is its =
+        let right : wrong_beat flight.beats beat ≡ None =
+        sym (in_turn_alone flight.beats beat) ∙ sym (ap (λ (begun : Option InFlight).
+        wrong_reply AcceptanceOrder (told_to (client_alone client)) (option_or (option_map flight_alone begun) (due_to (client_alone client).flights beat.source)) beat) is) ∙ none in
+        let own = (subst (AreOf flight.source) (right_next flight.beats beat right).1 its.0.2).0 in
+        ap not (eq-eqb flight.source beat.source (sym own))
+
 -- and after it
 reply_plain : (errors : Errors) (client : ClientBoard) (beat : DBeat) → IsOfEach TellAlike client → IsPlain errors client
     → d_wrong AcceptanceOrder (Some (client_alone client)) beat ≡ None
-    → IsPlain errors (record client { flights = flights_after client.flights beat.source; early = early_after client beat.source; told = unwrap_or (told_to client) beat.denied })
+    → IsPlain errors (client_after beat client)
 reply_plain errors client beat all plain none = by_next (next_reply client.flights beat.source) refl
   where
     after : ClientBoard
-    after = record client { flights = flights_after client.flights beat.source; early = early_after client beat.source; told = unwrap_or (told_to client) beat.denied }
+    after = client_after beat client
 
     left : (flight : InFlight) (denied : Bool) (beats : List DBeat) → AllByRecursion (IsTelling denied) beats
         → (own : InFlight) → with_left flight beats ≡ Some own → AllByRecursion (IsTelling denied) own.beats
@@ -314,14 +337,18 @@ plain_request : (board : Board) (seen : ObservedBeat) → IsPlainBoard board →
 plain_request board (A number beat) plain none = request_plain board plain.plain number (slice_get board.clients number) beat refl
 plain_request board (D number beat) plain none = by_client (slice_get board.clients number) refl
   where
+    right : (client : ClientBoard) → slice_get board.clients number ≡ Some client → d_wrong AcceptanceOrder (Some (client_alone client)) beat ≡ None
+    right client there =
+        ap (λ (o : Option ClientBoard). d_wrong AcceptanceOrder o beat) (sym (slice_get-map client_alone board.clients number ∙ ap (option_map client_alone) there)) ∙ none
+
     by_client : (found : Option ClientBoard) → slice_get board.clients number ≡ found → ArePlain board.errors (after_d board number found beat).clients
     by_client None there = plain.plain
     by_client (Some client) there =
         each_client (IsPlain board.errors) board.clients number client
-        (record client { flights = flights_after client.flights beat.source; early = early_after client beat.source; told = unwrap_or (told_to client) beat.denied }) there
+        (client_after beat (client_cut beat.source client)) there
         plain.plain
-        (reply_plain board.errors client beat (plain.alike number client there) (plain.plain number client there)
-        (ap (λ (o : Option ClientBoard). d_wrong AcceptanceOrder o beat) (sym (slice_get-map client_alone board.clients number ∙ ap (option_map client_alone) there)) ∙ none))
+        (subst (λ (changed : ClientBoard). IsPlain board.errors (client_after beat changed)) (sym (reply_uncut client beat (plain.alike number client there) (right client there)))
+        (reply_plain board.errors client beat (plain.alike number client there) (plain.plain number client there) (right client there)))
 plain_request board (OnAxi beat) plain none =
     all_hit board.errors (failed_span board.errors board.axi beat) (record board { axi = port_after RealTime board.axi beat }) plain.plain
 plain_request board Drained plain none = plain.plain
@@ -330,8 +357,8 @@ plain_next : (board : Board) (seen : ObservedBeat) → IsPlainBoard board → wr
     → IsPlainBoard (after_seen RealTime board seen)
 plain_next board seen plain none =
     record {
-      alike = seen_each TellAlike (λ footprint flight tells. tells) (λ flight tells. (tells.0, left_alike tells.0 flight.beats tells.1)) board plain.alike
-          (λ q. (_, shown_tells q _)) (λ number client there q. (_, shown_tells q _)) (λ any span flight tells. tells) seen;
+      alike = seen_each TellAlike (λ footprint flight tells. tells) (λ flight tells. (tells.0, left_alike tells.0 flight.beats tells.1, left_own flight.source flight.beats tells.2)) board plain.alike
+          (λ q. (_, shown_tells q _, shown_source q _)) (λ number client there q. (_, shown_tells q _, shown_source q _)) (λ any span flight tells. tells) seen;
       plain = subst (λ (errors : Errors). ArePlain errors (after_seen RealTime board seen).clients) (sym (errors_kept board seen)) (plain_request board seen plain none);
     }
 
@@ -346,15 +373,14 @@ plain_opens errors setup =
     }
 
 -- both boards go together
-right_on : (compared board : Board) (beats : List ObservedBeat) → IsPlainBoard board → IsOn compared board
+right_on : (compared board : Board) (beats : List ObservedBeat) → IsPlainBoard board → IsQuietBoard compared → IsOn compared board
     → IsReached AcceptanceOrder compared beats (after_all AcceptanceOrder compared beats)
     → IsPlainBoard (after_all RealTime board beats) × IsOn (after_all AcceptanceOrder compared beats) (after_all RealTime board beats)
-right_on compared board [] plain on reached = (plain, on)
-right_on compared board (seen ∷ rest) plain on (none, more) =
-    let right : wrong_at AcceptanceOrder (board_alone board) seen ≡ None = ap (λ (b : Board). wrong_at AcceptanceOrder b seen) on.holds ∙ none in
-    let next = subst (λ (b : Board). IsOn (after_seen AcceptanceOrder b seen) (after_seen RealTime board seen)) on.holds
-    (after_on board seen (λ number client there. (plain.plain number client there).waits) on.early (ap tells_apart right)) in
-    right_on (after_seen AcceptanceOrder compared seen) (after_seen RealTime board seen) rest (plain_next board seen plain right) next more
+right_on compared board [] plain quiet on reached = (plain, on)
+right_on compared board (seen ∷ rest) plain quiet on (none, more) =
+    let right : wrong_at AcceptanceOrder (board_alone board) seen ≡ None = said_alone compared board seen quiet on ∙ none in
+    let next = next_on compared board seen on (λ number client there. (plain.plain number client there).waits) (ap tells_apart right) in
+    right_on (after_seen AcceptanceOrder compared seen) (after_seen RealTime board seen) rest (plain_next board seen plain right) (quiet_next compared seen quiet) next more
 
 -- what is right in order of acceptance is in real time
 passes : (board : Board) (seen : ObservedBeat) → IsPlainBoard board → board.axi.early ≡ [] → wrong_at AcceptanceOrder (board_alone board) seen ≡ None
@@ -376,7 +402,7 @@ passes board (OnAxi beat) plain early none = none_told _ _ (axi_told board.axi b
 passes board Drained plain early none = refl
 
 opens_on : (errors : Errors) (setup : SetupLists) → IsOn (opening_board setup) (opening_with errors setup)
-opens_on errors setup = record { holds = opens_alone setup; early = refl }
+opens_on errors setup = record { holds = refl; early = refl }
 
 -- nothing is wrong in real time with the last of them
 pub lets_right_pass : (board : Board) (seen : ObservedBeat) → LetsRightPass board seen (wrong_at RealTime board seen)
@@ -384,6 +410,6 @@ lets_right_pass board seen errors setup before is right =
     let compared = after_all AcceptanceOrder (opening_board setup) before in
     let reached = right_reached Strict (from_zeros setup) before (right_front (from_zeros setup) before (seen ∷ []) right) in
     let (plain, on) = subst (λ (b : Board). IsPlainBoard b × IsOn compared b) (sym is)
-    (right_on (opening_board setup) (opening_with errors setup) before (plain_opens errors setup) (opens_on errors setup) reached) in
+    (right_on (opening_board setup) (opening_with errors setup) before (plain_opens errors setup) (quiet_opens setup) (opens_on errors setup) reached) in
     passes board seen plain on.early
-    (ap (λ (b : Board). wrong_at AcceptanceOrder b seen) on.holds ∙ (right_exactly Strict (from_zeros setup) before compared seen reached).1 right)
+    (said_alone compared board seen (quiet_all (opening_board setup) before (quiet_opens setup)) on ∙ (right_exactly Strict (from_zeros setup) before compared seen reached).1 right)

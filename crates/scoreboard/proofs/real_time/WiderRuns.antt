@@ -1,7 +1,7 @@
 -- Boards of both policies that get the same beats hold the same, but for what is known of requests that race, until one is of a busy source or a W
 -- beat without a write.
 use Rattle.std.proofs.Common.{◌≡◌, ℕ, Bool, true, false, ◌||◌, List, [], ◌∷◌, map, Option, Some, None, if◌then◌else◌, Result, Ok, Err, refl, sym, ◌∙◌, ap, ap₂, subst, arith}
-use Rattle.std.specs.Prelude.{is_some, slice_get, unwrap_or}
+use Rattle.std.specs.Prelude.{is_some, slice_get}
 use Rattle.std.specs.Option.{option_map}
 use Rattle.std.proofs.lemmas.Option.{slice_get-map}
 use Rattle.setups.specs.Setups.{SetupLists}
@@ -14,17 +14,18 @@ use Rattle.tl_checker.specs.declared.Progress.TheVariants.{More, Whole}
 use Rattle.tl_checker.specs.declared.TlRule.{TlRule}
 use Rattle.axi_checker.specs.declared.AxiBeat.{AxiBeat}
 use Rattle.scoreboard.specs.AxiPorts.{PortBoard, port_after, after_in_order, after_with_early, tells_no_write, wrong_in_order}
-use Rattle.scoreboard.specs.Boards.{Board, ClientBoard, a_wrong, after_a, after_all, after_d, after_seen, answer_to, answered_on, client_beside, coming_on, early_after, early_due, early_left, fails, flight_for, footprints_of, has_replied, hit_on, is_spoiled, joining_on, more_on, opening_board, place_on, told_to, whole_on, with_accepted, with_client, with_taken, with_whole, wrong_at}
+use Rattle.scoreboard.specs.Boards.{Board, ClientBoard, a_wrong, after_a, after_all, after_d, after_seen, answer_to, answered_on, client_after, client_beside, client_cut, coming_on, early_due, early_left, fails, flight_for, footprints_of, has_replied, hit_on, is_spoiled, joining_on, more_on, opening_board, place_on, whole_on, with_accepted, with_client, with_taken, with_whole, wrong_at}
 use Rattle.scoreboard.specs.FailedBursts.{Span, failed_span}
-use Rattle.scoreboard.specs.Flights.{Flights, Footprint, InFlight, flights_after, next_reply, no_footprint}
+use Rattle.scoreboard.specs.Flights.{Footprint, InFlight, cut_short, next_reply, no_footprint}
 use Rattle.scoreboard.specs.Races.{alone, joining, unless_failed}
 use Rattle.scoreboard.specs.declared.Errors.{Errors}
 use Rattle.scoreboard.specs.declared.Errors.TheVariants.{Any, Strict}
 use Rattle.scoreboard.specs.Wider.{AreTogether, IsWiderAlong, TellsNoMore, board_alone, client_alone, tells_apart, tells_busy}
 use Rattle.scoreboard.specs.declared.Policy.TheVariants.{AcceptanceOrder, RealTime}
 use Rattle.serial_memory.specs.SerialMemory.{place_in}
-use Rattle.scoreboard.proofs.acceptance_order.Fixed.{in_turn_known}
+use Rattle.scoreboard.proofs.acceptance_order.Fixed.{in_turn_known, known_alone}
 use Rattle.scoreboard.specs.declared.ObservedBeat.{ObservedBeat}
+use Rattle.scoreboard.specs.declared.Wrong.{Wrong}
 use Rattle.scoreboard.specs.declared.ObservedBeat.TheVariants.{A, D, Axi as OnAxi, Drained}
 use Rattle.scoreboard.proofs.held.EarlyBeats.{after_as}
 use Rattle.scoreboard.proofs.real_time.Becoming.{errors_kept}
@@ -35,12 +36,13 @@ use Rattle.scoreboard.proofs.real_time.Fronts.{beside_at}
 use Rattle.std.proofs.lemmas.Option.{slice_get_within}
 use Rattle.bus_words.proofs.StoredPlaces.{get_set}
 use Rattle.scoreboard.proofs.real_time.Failures.{fails_flag}
-use Rattle.scoreboard.proofs.real_time.FlightsAlone.{begun_alone, client_changed_alone, early_alone, flights_alone, further_alone, given_alone, hit_alone, joined_alone, none_left, opens_alone, told_alone}
+use Rattle.scoreboard.proofs.real_time.FlightsAlone.{begun_alone, further_alone, given_alone, hit_alone, joined_alone, none_left, reply_alone}
+use Rattle.scoreboard.proofs.real_time.InTurnAlone.{IsQuietBoard, alone_twice, goes_alone, on_alone, quiet_all, quiet_next, quiet_opens, says_alone, taken_twice}
 use Rattle.scoreboard.proofs.real_time.WiderVerdicts.{IsUnfailed, nothing_early, same_answer, tells_no_more}
 
 -- a board of real time holds what one of acceptance order does, and nothing is early
 pub record IsOn (compared board : Board) : Type 0 where
-  pub holds : board_alone board ≡ compared
+  pub holds : board_alone board ≡ board_alone compared
   pub early : board.axi.early ≡ []
 
 -- ---- a beat that isn't of a busy source, and no W beat without a write
@@ -53,7 +55,7 @@ request_on : (old : Board) (number : ℕ) (found : Option ClientBoard) (beat : A
     → old.axi.early ≡ []
     → tells_busy (a_wrong AcceptanceOrder (option_map client_alone found) beat) ≡ false
     → IsOn (after_a AcceptanceOrder (board_alone old) number (option_map client_alone found) beat) (after_a RealTime old number found beat)
-request_on old number None beat waits none free = record { holds = refl; early = none }
+request_on old number None beat waits none free = record { holds = sym (alone_twice old); early = none }
 request_on old number (Some client) beat waits none free = rw (same_answer client beat free) (by_answer (answer_to AcceptanceOrder (client_alone client) beat))
   where
     message : HeldMessage
@@ -63,44 +65,39 @@ request_on old number (Some client) beat waits none free = rw (same_answer clien
     changed = record client { front = Some message }
 
     more : (begun : Bool) → IsOn (with_client number (client_alone changed) (board_alone old)) (more_on (with_client number changed old) number changed (request_of message) begun)
-    more true = record { holds = further_alone old number changed (unless_failed (is_spoiled old.errors (request_of message)) changed.coming); early = none }
+    more true = record {
+      holds = on_alone (more_on (with_client number changed old) number changed (request_of message) true) (with_client number (client_alone changed) (board_alone old))
+          (further_alone old number changed (unless_failed (is_spoiled old.errors (request_of message)) changed.coming));
+      early = none;
+    }
     more false = record {
-      holds = begun_alone old number changed (early_due old.errors (request_of message)) (joining_on (with_client number changed old) (request_of message));
+      holds = on_alone (more_on (with_client number changed old) number changed (request_of message) false) (with_client number (client_alone changed) (board_alone old))
+          (begun_alone old number changed (early_due old.errors (request_of message)) (joining_on (with_client number changed old) (request_of message)));
       early = none;
     }
 
+    -- the other takes it in its turn
+    taken : Board
+    taken = with_taken (board_alone old) number (client_alone client) (request_of message) (known_alone (place_in old.memory (request_of message)) (request_of message))
+
+    in_turn : with_taken (board_alone old) number (client_alone client) (request_of message) no_footprint ≡ board_alone taken
+    in_turn = sym (taken_twice old number client (request_of message) (known_alone (place_in old.memory (request_of message)) (request_of message)))
+
     whole : (begun : Bool) → is_some client.front ≡ begun
-        → IsOn (with_taken (board_alone old) number (client_alone client) (request_of message) no_footprint) (whole_on old number client (request_of message) begun)
+        → IsOn taken (whole_on old number client (request_of message) begun)
     whole true is = record {
-      holds = given_alone old number client (request_of message) (coming_on old (request_of message) client.coming) (waits client refl is);
+      holds = given_alone old number client (request_of message) (coming_on old (request_of message) client.coming) (waits client refl is) ∙ in_turn;
       early = none;
     }
-    whole false is = record { holds = joined_alone old number client (request_of message) (joining_on old (request_of message)); early = none }
+    whole false is = record { holds = joined_alone old number client (request_of message) (joining_on old (request_of message)) ∙ in_turn; early = none }
 
     by_answer : (answer : Result Progress TlRule)
         → IsOn (answered_on AcceptanceOrder (board_alone old) number (client_alone client) message answer) (answered_on RealTime old number client message answer)
-    by_answer (Err broken) = record { holds = refl; early = none }
+    by_answer (Err broken) = record { holds = sym (alone_twice old); early = none }
     by_answer (Ok More) = more (is_some client.front)
     by_answer (Ok Whole) =
         subst (λ (b : Board). IsOn b (whole_on old number client (request_of message) (is_some client.front)))
         (sym (in_turn_known (board_alone old) number (client_alone client) (request_of message) (place_in old.memory (request_of message)))) (whole (is_some client.front) refl)
-
-reply_on : (old : Board) (number : ℕ) (found : Option ClientBoard) (beat : DBeat) → old.axi.early ≡ []
-    → IsOn (after_d (board_alone old) number (option_map client_alone found) beat) (after_d old number found beat)
-reply_on old number None beat none = record { holds = refl; early = none }
-reply_on old number (Some client) beat none =
-    record {
-      holds = client_changed_alone old number
-          (record client { flights = flights_after client.flights beat.source; early = early_after client beat.source; told = unwrap_or (told_to client) beat.denied })
-          ∙ ap₂ (λ (flights : Flights) (told : Bool). with_client number (record (client_alone client) { flights = flights; told = told }) (board_alone old))
-          (flights_alone client.flights beat.source) (ap (λ (o : Option Bool). unwrap_or o beat.denied) (told_alone client))
-          ∙ ap (λ (early : Option DBeat). with_client number (record (client_alone client) {
-            flights = flights_after (client_alone client).flights beat.source;
-            early = early;
-            told = unwrap_or (told_to (client_alone client)) beat.denied;
-          }) (board_alone old)) (sym (early_alone client beat.source));
-      early = none;
-    }
 
 port_on : (port : PortBoard) (beat : AxiBeat) → port.early ≡ [] → tells_no_write (wrong_in_order port beat) ≡ false
     → after_with_early port beat ≡ after_in_order port beat
@@ -114,20 +111,32 @@ pub after_on : (old : Board) (seen : ObservedBeat)
 after_on old (A client beat) waits none free =
     let there = slice_get-map client_alone old.clients client in
     rw there (request_on old client (slice_get old.clients client) beat (waits client) none (grind (arith, there, free)))
-after_on old (D client beat) waits none free = rw (slice_get-map client_alone old.clients client) (reply_on old client (slice_get old.clients client) beat none)
+after_on old (D client beat) waits none free =
+    rw (slice_get-map client_alone old.clients client)
+    (record {
+      holds = on_alone (after_d old client (slice_get old.clients client) beat) (after_d (board_alone old) client (option_map client_alone (slice_get old.clients client)) beat)
+          (reply_alone old client (slice_get old.clients client) beat);
+      early = still (slice_get old.clients client);
+    })
+  where
+    still : (found : Option ClientBoard) → (after_d old client found beat).axi.early ≡ []
+    still None = none
+    still (Some one) = none
 after_on old (OnAxi beat) waits none free =
     let same = port_on old.axi beat none (grind (arith, free)) in
     let after : Board = record old { axi = port_after RealTime old.axi beat } in
     let span = failed_span old.errors old.axi beat in
     record {
-      holds = hit_alone span after ∙ ap (λ (port : PortBoard). record (board_alone old) { axi = port }) same;
+      holds = on_alone (hit_on span after) (record (board_alone old) { axi = port_after AcceptanceOrder old.axi beat })
+          (hit_alone span after ∙ ap (λ (port : PortBoard). record (board_alone old) { axi = port }) same);
       early = by_span span after ∙ ap (λ (port : PortBoard). port.early) same ∙ none;
     }
   where
     by_span : (span : Option Span) (board : Board) → (hit_on span board).axi.early ≡ board.axi.early
     by_span None board = refl
     by_span (Some span) board = refl
-after_on old Drained waits none free = record { holds = refl; early = refl }
+after_on old Drained waits none free =
+    record { holds = on_alone (after_seen RealTime old Drained) (after_seen AcceptanceOrder (board_alone old) Drained) refl; early = refl }
 
 -- ---- no request in flight has failed, where errors are told as this project's bridge tells them
 
@@ -207,9 +216,9 @@ late_reply board number beat are = by_client (slice_get board.clients number) re
     by_client None there = are
     by_client (Some client) there =
         each_client IsLate board.clients number client
-        (record client { flights = flights_after client.flights beat.source; early = early_after client beat.source; told = unwrap_or (told_to client) beat.denied }) there are (
-          ap (λ (o : Option DBeat). if is_some (next_reply client.flights beat.source) then o else early_left o beat.source) (are number client there).0
-              ∙ none_left (is_some (next_reply client.flights beat.source)) beat.source,
+        (client_after beat (client_cut beat.source client)) there are (
+          ap (λ (o : Option DBeat). if is_some (next_reply (cut_short client.flights beat.source) beat.source) then o else early_left o beat.source) (are number client there).0
+              ∙ none_left (is_some (next_reply (cut_short client.flights beat.source) beat.source)) beat.source,
           (are number client there).1,
         )
 
@@ -255,21 +264,44 @@ strict_all (seen ∷ beats) board strict = strict_all beats (after_seen RealTime
 
 -- ---- lists of beats
 
-followed_on : (compared board : Board) (beats : List ObservedBeat) → IsStrict board → IsOn compared board → AreTogether compared beats → IsOn (after_all AcceptanceOrder compared beats) (after_all RealTime board beats)
-followed_on compared board [] strict on told = on
-followed_on compared board (seen ∷ rest) strict on told =
-    let (free, more) = subst (λ (start : Board). AreTogether start (seen ∷ rest)) (sym on.holds) told in
-    rw (← on.holds) (followed_on (after_seen AcceptanceOrder (board_alone board) seen) (after_seen RealTime board seen) rest (strict_next board seen strict)
-    (after_on board seen (λ number client is in_front. ap (λ errors. has_replied errors client) strict.errors) on.early free) more)
+-- what is said in order of acceptance without the footprints is said with them
+pub said_alone : (compared board : Board) (seen : ObservedBeat) → IsQuietBoard compared → IsOn compared board
+    → wrong_at AcceptanceOrder (board_alone board) seen ≡ wrong_at AcceptanceOrder compared seen
+said_alone compared board seen quiet on = ap (λ (b : Board). wrong_at AcceptanceOrder b seen) on.holds ∙ sym (says_alone compared seen quiet)
+
+-- both go on together
+pub next_on : (compared board : Board) (seen : ObservedBeat) → IsOn compared board
+    → ((number : ℕ) (client : ClientBoard) → slice_get board.clients number ≡ Some client → IsWaiting board.errors client)
+    → tells_apart (wrong_at AcceptanceOrder (board_alone board) seen) ≡ false
+    → IsOn (after_seen AcceptanceOrder compared seen) (after_seen RealTime board seen)
+next_on compared board seen on waits free =
+    let step = after_on board seen waits on.early free in
+    record {
+      holds = step.holds ∙ ap (λ (b : Board). board_alone (after_seen AcceptanceOrder b seen)) on.holds ∙ sym (goes_alone compared seen);
+      early = step.early;
+    }
+
+followed_on : (compared board : Board) (beats : List ObservedBeat) → IsStrict board → IsQuietBoard compared → IsOn compared board → AreTogether compared beats
+    → IsOn (after_all AcceptanceOrder compared beats) (after_all RealTime board beats)
+followed_on compared board [] strict quiet on told = on
+followed_on compared board (seen ∷ rest) strict quiet on (free, more) =
+    followed_on (after_seen AcceptanceOrder compared seen) (after_seen RealTime board seen) rest (strict_next board seen strict) (quiet_next compared seen quiet)
+    (next_on compared board seen on (λ number client is in_front. ap (λ errors. has_replied errors client) strict.errors)
+    (ap tells_apart (said_alone compared board seen quiet on) ∙ free)) more
+
+opens_together : (setup : SetupLists) → IsOn (opening_board setup) (opening_board setup)
+opens_together setup = record { holds = refl; early = refl }
 
 -- any beats, until one is of a busy source or a W beat without a write: what is held after them, and what is said of the next
 pub is_wider : (board : Board) (seen : ObservedBeat) → IsWiderAlong board seen (wrong_at RealTime board seen)
 is_wider board seen setup before is told =
-    let on = subst (IsOn (after_all AcceptanceOrder (opening_board setup) before)) (sym is)
-    (followed_on (opening_board setup) (opening_board setup) before (strict_opens setup) (record { holds = opens_alone setup; early = refl }) told) in
+    let compared = after_all AcceptanceOrder (opening_board setup) before in
+    let on = subst (IsOn compared) (sym is)
+    (followed_on (opening_board setup) (opening_board setup) before (strict_opens setup) (quiet_opens setup) (opens_together setup) told) in
     let strict = subst IsStrict (sym is) (strict_all before (opening_board setup) (strict_opens setup)) in
     record {
       holds = on.holds;
-      tells = subst (λ (compared : Board). TellsNoMore (wrong_at AcceptanceOrder compared seen) (wrong_at RealTime board seen)) on.holds
+      tells = subst (λ (verdict : Option Wrong). TellsNoMore verdict (wrong_at RealTime board seen))
+          (said_alone compared board seen (quiet_all (opening_board setup) before (quiet_opens setup)) on)
           (tells_no_more board seen (λ number client there. record { unfailed = strict.unfailed number client there; none_early = (strict.late number client there).0 }) on.early);
     }

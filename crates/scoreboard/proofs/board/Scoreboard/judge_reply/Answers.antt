@@ -2,11 +2,11 @@
 use Rattle.std.proofs.Common.{◌≡◌, Some, ap, rules, subst, sym, ◌∙◌}
 use Rattle.std.specs.Prelude.{slice_get}
 use Rattle.serial_memory.specs.SerialMemory.{rooms_of}
-use Rattle.scoreboard.specs.Boards.{ClientBoard, after_d, client_footprints, d_wrong}
+use Rattle.scoreboard.specs.Boards.{ClientBoard, after_d, client_cut, client_footprints, d_wrong}
 use Rattle.scoreboard.specs.InsideBoards.{HaveRoomToWrite, BoardState, board_of, client_of, most_words}
 use Rattle.scoreboard.specs.contracts.board.Scoreboard.{the_view}
 use Rattle.scoreboard.proofs.held.BoardSteps.{client_kept, client_there, replied, there_at}
-use Rattle.scoreboard.proofs.held.ClientFootprints.{room_after}
+use Rattle.scoreboard.proofs.held.ClientFootprints.{room_after, room_cut}
 use Rattle.scoreboard.proofs.board.Scoreboard.judge_reply.Goals as goal
 
 there : (c : goal.After-self-2-1) → slice_get c.self.inside.clients.items c.from.result ≡ Some c.in-Some.found.now
@@ -17,7 +17,7 @@ invariant_of-self-2 c =
     let found = c.in-Some.found.now in
     let rooms = rooms_of c.self.inside.serial in
     let kept = client_kept most_words rooms c.self.inside.clients.items c.from.result found c.judge_reply.new.self (there c) c.judge_reply.ensures.room
-    (λ good. subst (λ (client : ClientBoard). HaveRoomToWrite rooms (client_footprints client)) (sym c.judge_reply.ensures.state) (room_after rooms (client_of found) c.args.beat.now.source good))
+    (λ good. subst (λ (client : ClientBoard). HaveRoomToWrite rooms (client_footprints client)) (sym c.judge_reply.ensures.state) (room_after rooms (client_cut c.args.beat.now.source (client_of found)) c.args.beat.now.source (room_cut rooms (client_of found) c.args.beat.now.source good)))
     (c.self.invariant.0, c.self.invariant.1, c.self.invariant.3) in
     (kept.0, kept.1, c.self.invariant.2, kept.2)
 

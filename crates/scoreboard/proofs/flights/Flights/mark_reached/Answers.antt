@@ -2,38 +2,38 @@
 use Rattle.std.proofs.Common.{◌∙◌, ◌++◌, ◌||◌, ◌&&◌, Some, ap, subst, sym}
 use Rattle.std.specs.Option.{option_to_list}
 use Rattle.serial_memory.specs.SerialMemory.{doubts_of, rooms_of}
-use Rattle.scoreboard.specs.FailedBursts.{after_hit, shares}
+use Rattle.scoreboard.specs.FailedBursts.{after_reached, reaches}
 use Rattle.scoreboard.specs.InsideBoards.{HaveRoomToWrite, FootprintState, HasRoomToWrite, footprint_of}
 use Rattle.scoreboard.specs.Races.{may_write}
 use Rattle.scoreboard.proofs.held.ClientFootprints.{all_parts}
-use Rattle.scoreboard.proofs.held.FailedResponses.{after_hit-last}
+use Rattle.scoreboard.proofs.held.FailedResponses.{after_reached-last}
 use Rattle.scoreboard.proofs.held.Others.{footprints_held, footprints_in}
-use Rattle.scoreboard.proofs.flights.Flights.mark_shared.Goals as goal
+use Rattle.scoreboard.proofs.flights.Flights.mark_reached.Goals as goal
 
-pub mark_shared_each-requires : goal.mark_shared_each-requires
-mark_shared_each-requires c =
+pub mark_reached_each-requires : goal.mark_reached_each-requires
+mark_reached_each-requires c =
     let inside = c.self.inside in
     let rooms = (rooms_of c.args.marks.now) in
     let all = subst (HaveRoomToWrite rooms) (footprints_held c.args.self.now inside.room inside.due.items inside.begun c.self.view_is) c.requires.room in
     record { room = rw c.deref.ensures.value (all_parts (HasRoomToWrite rooms) (footprints_in inside.due.items) (footprints_in (option_to_list inside.begun)) all).0 }
 
-pub mark_shared-requires : goal.mark_shared-requires
-mark_shared-requires c =
+pub mark_reached-requires : goal.mark_reached-requires
+mark_reached-requires c =
     let inside = c.self.inside in
     let rooms = (rooms_of c.args.marks.now) in
     let all = subst (HaveRoomToWrite rooms) (footprints_held c.args.self.now inside.room inside.due.items inside.begun c.self.view_is) c.requires.room in
     let last = subst (λ begun. HaveRoomToWrite rooms (footprints_in (option_to_list begun))) c.in-Some.is
     (all_parts (HasRoomToWrite rooms) (footprints_in inside.due.items) (footprints_in (option_to_list inside.begun)) all).1 in
-    record { room = rw c.footprint.ensures (subst (λ rooms. HasRoomToWrite rooms (footprint_of c.in-Some.flight.footprint)) (sym c.mark_shared_each.ensures.rest.rooms) last.0) }
+    record { room = rw c.footprint.ensures (subst (λ rooms. HasRoomToWrite rooms (footprint_of c.in-Some.flight.footprint)) (sym c.mark_reached_each.ensures.rest.rooms) last.0) }
 
 pub returns-in-Some-clause-bytes : goal.returns-in-Some-clause-bytes
 returns-in-Some-clause-bytes c =
     let inside = c.self.inside in
     let due = inside.due.items in
-    let span = c.args.span in
+    let reach = c.args.reach in
     let m = doubts_of c.args.marks.now in
-    after_hit-last m (doubts_of c.mark_shared_each.new.marks) (doubts_of c.mark_shared.new.marks) span (footprints_in c.deref.result.now) (footprint_of c.in-Some.flight.footprint) c.mark_shared_each.ensures.bytes
-    (λ x. c.mark_shared.ensures.bytes x ∙ ap (λ (r : FootprintState). doubts_of c.mark_shared_each.new.marks x || shares span (footprint_of r) && may_write (footprint_of r) x) c.footprint.ensures)
-    ∙ ap (λ due. after_hit m span (footprints_in due ++ footprints_in (option_to_list (Some c.in-Some.flight)))) c.deref.ensures.value
-    ∙ ap (λ begun. after_hit m span (footprints_in due ++ footprints_in (option_to_list begun))) (sym c.in-Some.is)
-    ∙ ap (after_hit m span) (sym (footprints_held c.args.self.now inside.room due inside.begun c.self.view_is))
+    after_reached-last m (doubts_of c.mark_reached_each.new.marks) (doubts_of c.mark_reached.new.marks) reach (footprints_in c.deref.result.now) (footprint_of c.in-Some.flight.footprint) c.mark_reached_each.ensures.bytes
+    (λ x. c.mark_reached.ensures.bytes x ∙ ap (λ (r : FootprintState). doubts_of c.mark_reached_each.new.marks x || reaches reach (footprint_of r) && may_write (footprint_of r) x) c.footprint.ensures)
+    ∙ ap (λ due. after_reached m reach (footprints_in due ++ footprints_in (option_to_list (Some c.in-Some.flight)))) c.deref.ensures.value
+    ∙ ap (λ begun. after_reached m reach (footprints_in due ++ footprints_in (option_to_list begun))) (sym c.in-Some.is)
+    ∙ ap (after_reached m reach) (sym (footprints_held c.args.self.now inside.room due inside.begun c.self.view_is))

@@ -7,7 +7,7 @@ use Rattle.scoreboard.specs.InsideBoards.{ClientState, client_of, flights_of}
 use Rattle.scoreboard.specs.contracts.clients.Client.{the_view}
 use Rattle.scoreboard.proofs.held.EarlyReplies.{nothing_after}
 use Rattle.scoreboard.proofs.held.FreeFronts.{front_after_reply}
-use Rattle.scoreboard.proofs.clients.Client.judge_reply.Goals as goal
+use Rattle.scoreboard.proofs.clients.Client.take_reply.Goals as goal
 
 pub invariant_of-self-2 : goal.invariant_of-self-2
 invariant_of-self-2 c = (
