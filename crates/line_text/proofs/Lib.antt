@@ -1,6 +1,6 @@
 mod HexLaws
 mod LoadedLanes
-mod NumberLaws
+pub mod NumberLaws
 pub mod Parts
 pub mod TraceTexts
 pub mod WordParts
