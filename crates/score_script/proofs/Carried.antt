@@ -1,20 +1,27 @@
 -- What is written of a command that is carried out: what it finds, and what has no answer.
-use Rattle.std.proofs.Common.{◌≡◌, ◌++◌, ℕ, List, Bool, ◌||◌, Option, refl, subst, ap, ap₂, ◌∙◌}
+use Rattle.std.proofs.Common.{◌≡◌, ◌++◌, ℕ, List, [], Bool, ◌||◌, Option, refl, subst, ap, ap₂, ◌∙◌}
 use Rattle.std.proofs.lemmas.List.{append_assoc}
 use Rattle.score_script.specs.FindingTexts.{optional_text}
-use Rattle.score_script.specs.Scores.{Score, commanded_score, finds, finds_text, unanswered_by}
+use Rattle.score_script.specs.Scores.{Score, commanded_score, finds, finds_text, line_at, observed_as, settling, unanswered_by}
+use Rattle.score_script.specs.declared.findings.Line.{Line}
+use Rattle.scoreboard.specs.declared.ObservedBeat.{ObservedBeat}
 use Rattle.score_script.specs.declared.findings.Finding.{Finding}
 use Rattle.score_script.specs.declared.score.Command.{Command}
 use Rattle.score_script.specs.declared.score.Command.TheVariants as command
 use Rattle.scoreboard.specs.declared.ObservedBeat.TheVariants.{A, D, Axi, Drained}
 use Rattle.score_script.proofs.UnansweredLines.{Wrote, wrote_both}
 
+-- an observed beat leaves none
+none_unanswered : (settled : Option Finding × Score) (line : Line) (beat : ObservedBeat) (unknown : ℕ) → [] ≡ (observed_as settled line beat unknown).unanswered
+none_unanswered settled line (A client beat) unknown = refl
+none_unanswered settled line (D client beat) unknown = refl
+none_unanswered settled line (Axi beat) unknown = refl
+none_unanswered settled line Drained unknown = refl
+
 -- what has no answer is told of the score that is left
 left_text : (score : Score) (number : ℕ) (said : Command) → unanswered_by (commanded_score score number said) number said ≡ (finds score number said).unanswered
-left_text score number (command.Observed (A client beat)) = refl
-left_text score number (command.Observed (D client beat)) = refl
-left_text score number (command.Observed (Axi beat)) = refl
-left_text score number (command.Observed Drained) = refl
+left_text score number (command.Observed seen) = none_unanswered (settling score) (line_at score number) seen.beat seen.unknown
+left_text score number (command.Unknown port client) = refl
 left_text score number (command.Byte address) = refl
 left_text score number command.Withdrawal = refl
 left_text score number command.Answer = refl

@@ -2,3 +2,4 @@ mod FindingLines
 mod FillLaws
 mod UnansweredLines
 mod Carried
+mod UnknownNumbers

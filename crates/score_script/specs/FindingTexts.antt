@@ -8,7 +8,7 @@ use Rattle.score_script.specs.declared.findings.Line.{Line}
 use Rattle.scoreboard.specs.Names.{reply_rule_name, reply_rule_number}
 use Rattle.scoreboard.specs.declared.ReplyRule.{ReplyRule}
 use Rattle.scoreboard.specs.declared.Wrong.{Wrong}
-use Rattle.scoreboard.specs.declared.Wrong.TheVariants.{NoClient, Request, Reply, Axi, Place}
+use Rattle.scoreboard.specs.declared.Wrong.TheVariants.{NoClient, Request, Reply, Axi, Place, UnknownAxi, UnknownRequest}
 use Rattle.line_text.specs.Traces.{mem_text}
 use Rattle.bus_words.specs.Text.{line}
 use Rattle.tl_checker.specs.Names.{name_of, number_of}
@@ -36,6 +36,8 @@ wrong_words number client (Request rule) = rule_words number (codes "request") (
 wrong_words number client (Reply rule None) = rule_words number (codes "reply") (reply_rule_number rule) (reply_rule_name rule)
 wrong_words number client (Reply rule (Some due)) = expected_text number rule ++ d_words client due
 wrong_words number client (Axi rule) = rule_words number (codes "axi") (rule_number rule) (rule_name rule)
+wrong_words number client UnknownRequest = rule_words number (codes "request") 17 (codes "X")
+wrong_words number client UnknownAxi = rule_words number (codes "axi") 13 (codes "X")
 wrong_words number client Place = rule_words number (codes "axi") 15 (codes "PLACE")
 
 -- the line of a wrong beat, by its own line and its client

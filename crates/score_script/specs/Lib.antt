@@ -6,3 +6,4 @@ pub mod Profiles
 pub mod ScoreStates
 pub mod Scores
 pub mod UnansweredTexts
+pub mod UnknownDigits

@@ -1,5 +1,5 @@
 -- The lines of observed beats, and of the answers between them (this project's profile).
-use Rattle.std.specs.Prelude.{ℕ, ◌-◌, ◌^◌, Bool, true, false, ◌&&◌, ◌||◌, List, [], ◌∷◌, Option, Some, None, Result, Ok, Err, find, option_map, if◌then◌else◌, codes}
+use Rattle.std.specs.Prelude.{ℕ, ◌≡◌, ◌-◌, ◌^◌, ⊤, MatchResult, drop, map, Bool, true, false, ◌&&◌, ◌||◌, List, [], ◌∷◌, Option, Some, None, Result, Ok, Err, find, option_map, if◌then◌else◌, codes}
 use Rattle.std.specs.Str.{bytes_eq}
 use Rattle.axi_beats.specs.declared.ArBeat.{ArBeat}
 use Rattle.axi_beats.specs.declared.AwBeat.{AwBeat}
@@ -9,17 +9,20 @@ use Rattle.axi_beats.specs.declared.Resp.{Resp}
 use Rattle.axi_beats.specs.declared.Resp.TheVariants.{Okay, ExOkay, SlvErr, DecErr}
 use Rattle.axi_beats.specs.declared.WBeat.{WBeat}
 use Rattle.axi_checker.specs.declared.AxiBeat.TheVariants.{Ar as OnAr, Aw as OnAw, B as OnB, R as OnR, W as OnW}
-use Rattle.line_text.specs.Fields.{Field, address_field, byte_field, flag_field, is_set, read_as}
+use Rattle.line_text.specs.Fields.{Field, address_field, byte_field, first_wrong, flag_field, is_set, read_as, unless_wrong}
 use Rattle.script_text.specs.Forms.{told_as}
-use Rattle.line_text.specs.OfferLines.{offer_line}
+use Rattle.line_text.specs.OfferLines.{beat_in}
 use Rattle.line_text.specs.Words.{dec_at, hex_at, is_dec_to, is_hex_to, word_at}
 use Rattle.score_script.specs.FillLines.{fill_line}
+use Rattle.score_script.specs.UnknownDigits.{or_unknown, payload_at, payload_field, unknown_lanes}
 use Rattle.score_script.specs.declared.lines.Channel.{Channel}
 use Rattle.score_script.specs.declared.lines.Channel.TheVariants as channel
+use Rattle.score_script.specs.declared.lines.SeenBeat.{SeenBeat}
 use Rattle.score_script.specs.declared.score.Command.{Command}
 use Rattle.score_script.specs.declared.score.Command.TheVariants as command
 use Rattle.scoreboard.specs.declared.ObservedBeat.{ObservedBeat}
 use Rattle.scoreboard.specs.declared.ObservedBeat.TheVariants as seen
+use Rattle.tl_messages.specs.declared.ABeat.{ABeat}
 use Rattle.tl_messages.specs.declared.DBeat.{DBeat}
 
 -- the first word of each channel's lines
@@ -33,10 +36,6 @@ abbrev pub channel_of : List ℕ → Option Channel
 channel_of word = option_map (λ row. row.1) (find (λ row. bytes_eq word row.0) channels)
 
 -- ---- fields
-
--- 64 bits, hexadecimal
-abbrev pub payload_field : Field
-payload_field = is_hex_to 18446744073709551615
 
 -- a mask: a hexadecimal number to ff
 abbrev pub mask_field : Field
@@ -54,6 +53,27 @@ resp_in word =
     then Okay
     else (if bytes_eq word (codes "EXOKAY") then ExOkay else (if bytes_eq word (codes "SLVERR") then SlvErr else DecErr))
 
+-- ---- beats
+
+-- of which all is known
+abbrev pub known : ObservedBeat → SeenBeat
+known beat = record { beat = beat; unknown = 0 }
+
+-- ---- A CLIENT OPCODE PARAM SIZE SOURCE ADDRESS MASK PAYLOAD CORRUPT
+
+-- the fields of an A line are those of an `a` line
+abbrev pub a_fields : List Field
+a_fields =
+    byte_field ∷ byte_field ∷ byte_field ∷ byte_field ∷ byte_field ∷ address_field ∷ mask_field ∷ payload_field ∷ flag_field ∷ []
+
+-- its beat
+abbrev pub a_in : List (List ℕ) → ABeat
+a_in words = record (beat_in words) { payload = payload_at words 9 }
+
+-- the client and its beat, or the first wrong word
+abbrev pub a_line : List (List ℕ) → Result SeenBeat ℕ
+a_line words = read_as a_fields words (record { beat = seen.A (dec_at words 2) (a_in words); unknown = unknown_lanes (word_at words 9) })
+
 -- ---- D CLIENT OPCODE PARAM SIZE SOURCE DENIED PAYLOAD CORRUPT
 
 -- the fields of a D line
@@ -69,13 +89,13 @@ d_in words =
       size = dec_at words 5;
       source = dec_at words 6;
       denied = is_set (word_at words 7);
-      payload = hex_at words 8;
+      payload = payload_at words 8;
       corrupt = is_set (word_at words 9);
     }
 
 -- the client and its beat, or the first wrong word
-abbrev pub d_line : List (List ℕ) → Result ObservedBeat ℕ
-d_line words = read_as d_fields words (seen.D (dec_at words 2) (d_in words))
+abbrev pub d_line : List (List ℕ) → Result SeenBeat ℕ
+d_line words = read_as d_fields words (record { beat = seen.D (dec_at words 2) (d_in words); unknown = unknown_lanes (word_at words 8) })
 
 -- ---- AW ID ADDRESS LEN SIZE BURST, and AR
 
@@ -94,22 +114,26 @@ ar_in words =
     record { id = dec_at words 2; address = hex_at words 3; len = dec_at words 4; size = dec_at words 5; burst = dec_at words 6 }
 
 -- a write address, or the first wrong word
-abbrev pub aw_line : List (List ℕ) → Result ObservedBeat ℕ
-aw_line words = read_as burst_fields words (seen.Axi (OnAw (aw_in words)))
+abbrev pub aw_line : List (List ℕ) → Result SeenBeat ℕ
+aw_line words = read_as burst_fields words (known (seen.Axi (OnAw (aw_in words))))
 
 -- a read address, or the first wrong word
-abbrev pub ar_line : List (List ℕ) → Result ObservedBeat ℕ
-ar_line words = read_as burst_fields words (seen.Axi (OnAr (ar_in words)))
+abbrev pub ar_line : List (List ℕ) → Result SeenBeat ℕ
+ar_line words = read_as burst_fields words (known (seen.Axi (OnAr (ar_in words))))
 
 -- ---- W PAYLOAD STROBES LAST
 
 -- the beat of a W line
 abbrev pub w_in : List (List ℕ) → WBeat
-w_in words = record { payload = hex_at words 2; strobes = hex_at words 3; last = is_set (word_at words 4) }
+w_in words = record { payload = payload_at words 2; strobes = hex_at words 3; last = is_set (word_at words 4) }
+
+-- its fields
+abbrev pub w_fields : List Field
+w_fields = payload_field ∷ mask_field ∷ flag_field ∷ []
 
 -- write data, or the first wrong word
-abbrev pub w_line : List (List ℕ) → Result ObservedBeat ℕ
-w_line words = read_as (payload_field ∷ mask_field ∷ flag_field ∷ []) words (seen.Axi (OnW (w_in words)))
+abbrev pub w_line : List (List ℕ) → Result SeenBeat ℕ
+w_line words = read_as w_fields words (record { beat = seen.Axi (OnW (w_in words)); unknown = unknown_lanes (word_at words 2) })
 
 -- ---- B ID RESP
 
@@ -117,32 +141,93 @@ w_line words = read_as (payload_field ∷ mask_field ∷ flag_field ∷ []) word
 abbrev pub b_in : List (List ℕ) → BBeat
 b_in words = record { id = dec_at words 2; resp = resp_in (word_at words 3) }
 
+-- its fields
+abbrev pub b_fields : List Field
+b_fields = byte_field ∷ resp_field ∷ []
+
 -- a write response, or the first wrong word
-abbrev pub b_line : List (List ℕ) → Result ObservedBeat ℕ
-b_line words = read_as (byte_field ∷ resp_field ∷ []) words (seen.Axi (OnB (b_in words)))
+abbrev pub b_line : List (List ℕ) → Result SeenBeat ℕ
+b_line words = read_as b_fields words (known (seen.Axi (OnB (b_in words))))
 
 -- ---- R ID PAYLOAD RESP LAST
 
 -- the beat of an R line
 abbrev pub r_in : List (List ℕ) → RBeat
 r_in words =
-    record { id = dec_at words 2; payload = hex_at words 3; resp = resp_in (word_at words 4); last = is_set (word_at words 5) }
+    record { id = dec_at words 2; payload = payload_at words 3; resp = resp_in (word_at words 4); last = is_set (word_at words 5) }
+
+-- its fields
+abbrev pub r_fields : List Field
+r_fields = byte_field ∷ payload_field ∷ resp_field ∷ flag_field ∷ []
 
 -- read data, or the first wrong word
-abbrev pub r_line : List (List ℕ) → Result ObservedBeat ℕ
-r_line words = read_as (byte_field ∷ payload_field ∷ resp_field ∷ flag_field ∷ []) words (seen.Axi (OnR (r_in words)))
+abbrev pub r_line : List (List ℕ) → Result SeenBeat ℕ
+r_line words = read_as r_fields words (record { beat = seen.Axi (OnR (r_in words)); unknown = unknown_lanes (word_at words 3) })
 
 -- ---- all
 
--- the beat that a channel's line says, or its first wrong word; the fields of an A line are those of an `a` line
-abbrev pub seen_line : Channel → List (List ℕ) → Result ObservedBeat ℕ
-seen_line channel.A words = told_as (λ offer. seen.A offer.0 offer.1) (offer_line words)
+-- the beat that a channel's line says, or its first wrong word
+abbrev pub seen_line : Channel → List (List ℕ) → Result SeenBeat ℕ
+seen_line channel.A words = a_line words
 seen_line channel.D words = d_line words
 seen_line channel.Aw words = aw_line words
 seen_line channel.W words = w_line words
 seen_line channel.B words = b_line words
 seen_line channel.Ar words = ar_line words
 seen_line channel.R words = r_line words
+
+-- ---- beats of which nobody knows a field but the payload
+
+-- fields that nobody need know
+abbrev pub loose : List Field → List Field
+loose fields = map or_unknown fields
+
+-- a line stands, or has a first wrong word
+abbrev pub Stands : Option ℕ → Result ⊤ ℕ → Type 0
+Stands word result = MatchResult result (λ done. word ≡ None) (λ wrong. word ≡ Some wrong)
+
+-- of a client's beat all but the client
+abbrev pub unknown_a : List (List ℕ) → Result ℕ ℕ
+unknown_a words = read_as (byte_field ∷ loose (drop 1 a_fields)) words (dec_at words 2)
+
+-- the same of channel D
+abbrev pub unknown_d : List (List ℕ) → Result ℕ ℕ
+unknown_d words = read_as (byte_field ∷ loose (drop 1 d_fields)) words (dec_at words 2)
+
+-- the first wrong word of a line of the AXI4 port
+abbrev pub unknown_address : List (List ℕ) → Option ℕ
+unknown_address words = first_wrong (loose burst_fields) words 2
+
+-- of write data
+abbrev pub unknown_w : List (List ℕ) → Option ℕ
+unknown_w words = first_wrong (loose w_fields) words 2
+
+-- of a write response
+abbrev pub unknown_b : List (List ℕ) → Option ℕ
+unknown_b words = first_wrong (loose b_fields) words 2
+
+-- of read data
+abbrev pub unknown_r : List (List ℕ) → Option ℕ
+unknown_r words = first_wrong (loose r_fields) words 2
+
+-- the client of such a beat, 0 on the AXI4 port; or its first wrong word
+abbrev pub unknown_line : Channel → List (List ℕ) → Result ℕ ℕ
+unknown_line channel.A words = unknown_a words
+unknown_line channel.D words = unknown_d words
+unknown_line channel.Aw words = unless_wrong 0 (unknown_address words)
+unknown_line channel.W words = unless_wrong 0 (unknown_w words)
+unknown_line channel.B words = unless_wrong 0 (unknown_b words)
+unknown_line channel.Ar words = unless_wrong 0 (unknown_address words)
+unknown_line channel.R words = unless_wrong 0 (unknown_r words)
+
+-- what a channel's line says: a beat, or else one of which nobody knows a field
+abbrev pub command_told : Channel → List (List ℕ) → Result SeenBeat ℕ → Result Command ℕ
+command_told channel words (Ok seen) = Ok (command.Observed seen)
+command_told channel words (Err word) = told_as (λ client. command.Unknown channel client) (unknown_line channel words)
+
+-- what a channel's line says
+abbrev pub channel_command : Channel → List (List ℕ) → Result Command ℕ
+channel_command channel words = command_told channel words (seen_line channel words)
 
 -- mem ADDRESS
 abbrev pub address_line : List (List ℕ) → Result ℕ ℕ
@@ -170,7 +255,7 @@ answer_command word =
     then command.Withdrawal
     else
     (if bytes_eq word (codes "drained")
-    then command.Observed seen.Drained
+    then command.Observed (known seen.Drained)
     else (if bytes_eq word (codes "reset") then command.Reset else (if bytes_eq word (codes "end") then command.End else command.Answer)))
 
 -- whether a line is an answer
@@ -188,7 +273,7 @@ only_settles words = is_answer words && is_settling (answer_command (word_at wor
 
 -- what a line of a channel, or else a question, a filling or a time, says, or the first wrong word
 abbrev pub asked_command : List (List ℕ) → Option Channel → Result Command ℕ
-asked_command words (Some channel) = told_as (λ beat. command.Observed beat) (seen_line channel words)
+asked_command words (Some channel) = channel_command channel words
 asked_command words None =
     if bytes_eq (word_at words 1) (codes "mem")
     then told_as (λ address. command.Byte address) (address_line words)

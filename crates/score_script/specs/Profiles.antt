@@ -6,7 +6,7 @@ use Rattle.line_text.specs.Words.{word_at}
 use Rattle.axi_checker.specs.OpenBursts.{open_count}
 use Rattle.score_script.specs.declared.profiles.Asked.{Asked}
 use Rattle.scoreboard.specs.Boards as boards
-use Rattle.scoreboard.specs.Boards.{Board, wrong_at}
+use Rattle.scoreboard.specs.Boards.{Board}
 use Rattle.serial_memory.specs.SerialMemory.{byte_at, can_fill}
 use Rattle.scoreboard.specs.declared.Errors.{Errors}
 use Rattle.scoreboard.specs.declared.Errors.TheVariants.{Any, Strict}
@@ -15,6 +15,8 @@ use Rattle.scoreboard.specs.declared.Policy.TheVariants.{AcceptanceOrder, RealTi
 use Rattle.scoreboard.specs.Filling.{filled_on}
 use Rattle.scoreboard.specs.Resets.{reset_on}
 use Rattle.scoreboard.specs.Telling.{telling_of}
+use Rattle.scoreboard.specs.Unknown.{UnknownBoard, after_seen_unknown, all_over, nothing_unknown, unknown_wrong}
+use Rattle.score_script.specs.declared.lines.SeenBeat.{SeenBeat}
 use Rattle.scoreboard.specs.declared.ObservedBeat.{ObservedBeat}
 use Rattle.scoreboard.specs.declared.tellings.Telling.{Telling}
 use Rattle.scoreboard.specs.declared.Wrong.{Wrong}
@@ -65,11 +67,21 @@ errors_in word = if bytes_eq word (codes "any") then Any else Strict
 abbrev pub errors_line : Option Policy → List (List ℕ) → Result Errors ℕ
 errors_line policy words = read_as (errors_field policy ∷ []) words (errors_in (word_at words 2))
 
+-- ---- x data
+
+-- that data may be unknown
+abbrev pub data_field : Field
+data_field word = bytes_eq word (codes "data")
+
+-- that nobody need know the bytes that requests give, and that the AXI4 port has; or the first wrong word
+abbrev pub x_line : List (List ℕ) → Result Bool ℕ
+x_line words = read_as (data_field ∷ []) words true
+
 -- ---- all of them
 
 -- no line has asked for anything
 abbrev pub nothing_asked : Asked
-nothing_asked = record { policy = None; strict = false; errors = None }
+nothing_asked = record { policy = None; strict = false; errors = None; x_data = false }
 
 -- what a `profile` line says beside those before it: a set-up has at most one
 abbrev pub with_profile : Asked → List (List ℕ) → Result Asked ℕ
@@ -85,6 +97,10 @@ abbrev pub with_errors : Asked → List (List ℕ) → Result Asked ℕ
 with_errors asked words =
     if is_some asked.errors then Err 1 else told_as (λ errors. record asked { errors = Some errors }) (errors_line asked.policy words)
 
+-- the same of an `x` line
+abbrev pub with_x : Asked → List (List ℕ) → Result Asked ℕ
+with_x asked words = if asked.x_data then Err 1 else told_as (λ x_data. record asked { x_data = x_data }) (x_line words)
+
 -- what the lines so far ask for, if the words are of such a line
 abbrev pub own_line : Asked → List (List ℕ) → Option (Result Asked ℕ)
 own_line asked words =
@@ -93,7 +109,10 @@ own_line asked words =
     else
     (if bytes_eq (word_at words 1) (codes "axi")
     then Some (with_axi asked words)
-    else (if bytes_eq (word_at words 1) (codes "errors") then Some (with_errors asked words) else None))
+    else
+    (if bytes_eq (word_at words 1) (codes "errors")
+    then Some (with_errors asked words)
+    else (if bytes_eq (word_at words 1) (codes "x") then Some (with_x asked words) else None)))
 
 -- the policy of a set-up, by the one that a line of it asks for, if any does
 abbrev pub policy_of : Option Policy → Policy
@@ -105,18 +124,20 @@ errors_of named = unwrap_or named Strict
 
 -- ---- boards
 
--- the board that judges beats, by its policy
+-- the board that judges beats, by its policy; and what nobody knows of the message that each client has begun
 pub record PolicyBoard : Type 0 where
   pub policy : Policy
   pub board : Board
+  pub unknown : List (List ℕ)
 
 -- nothing was observed, and errors are told so
 abbrev pub opening_board : Policy → Errors → RangeLists → PolicyBoard
-opening_board policy errors setup = record { policy = policy; board = boards.opening_from errors (boards.beginning_of setup) }
+opening_board policy errors setup =
+    record { policy = policy; board = boards.opening_from errors (boards.beginning_of setup); unknown = nothing_unknown setup.config.clients }
 
 -- what is wrong with a beat, if anything is
-abbrev pub wrong_in : PolicyBoard → ObservedBeat → Option Wrong
-wrong_in judge seen = wrong_at judge.policy judge.board seen
+abbrev pub wrong_in : PolicyBoard → SeenBeat → Option Wrong
+wrong_in judge seen = unknown_wrong judge.policy judge.board seen.beat seen.unknown
 
 -- the board whose memory began with these bytes from an address on
 abbrev pub filled_in : PolicyBoard → ℕ → List ℕ → PolicyBoard
@@ -124,7 +145,7 @@ filled_in judge address bytes = record judge { board = filled_on judge.board add
 
 -- the board where the bridge is reset
 abbrev pub reset_in : PolicyBoard → PolicyBoard
-reset_in judge = record judge { board = reset_on judge.board }
+reset_in judge = record judge { board = reset_on judge.board; unknown = all_over judge.unknown }
 
 -- whether it may have: whether they are all on good pages
 abbrev pub can_fill_in : PolicyBoard → ℕ → List ℕ → Bool
@@ -135,8 +156,13 @@ abbrev pub telling_in : PolicyBoard → ObservedBeat → Telling
 telling_in judge seen = telling_of judge.policy judge.board seen
 
 -- the board after a beat
-abbrev pub after_seen : PolicyBoard → ObservedBeat → PolicyBoard
-after_seen judge seen = record judge { board = boards.after_seen judge.policy judge.board seen }
+abbrev pub with_unknown : PolicyBoard → UnknownBoard → PolicyBoard
+with_unknown judge after = record judge { board = after.board; unknown = after.lanes }
+
+-- the board after a beat, as far as it is known
+abbrev pub after_seen : PolicyBoard → SeenBeat → PolicyBoard
+after_seen judge seen =
+    with_unknown judge (after_seen_unknown judge.policy (record { board = judge.board; lanes = judge.unknown }) seen.beat seen.unknown)
 
 -- the byte at an address of a good page, as the requests accepted so far leave it in order of acceptance; none outside these pages
 abbrev pub byte_in : PolicyBoard → ℕ → Option ℕ

@@ -7,7 +7,7 @@ use Rattle.scoreboard.specs.InsideBoards.{BoardState}
 
 -- a board, said by its bytes
 abbrev pub board_of : BoardState → PolicyBoard
-board_of board = record { policy = board.policy; board = held.board_of board }
+board_of board = record { policy = board.policy; board = held.board_of board; unknown = board.unknown }
 
 -- a score, with its board said so
 abbrev pub score_of : HeldScore → Score
@@ -15,6 +15,7 @@ score_of score =
     record {
       board = board_of score.board;
       places = score.places;
+      x_data = score.x_data;
       begins = score.begins;
       time = score.time;
       ended = score.ended;

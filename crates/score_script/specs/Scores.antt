@@ -1,5 +1,5 @@
 -- What each line of an observation does (this project's profile).
-use Rattle.std.specs.Prelude.{ℕ, ◌≡◌, ◌+◌, ◌^◌, ◌-◌, Bool, true, false, not, List, [], ◌++◌, min, Option, Some, None, Result, if◌then◌else◌, is_some, nat_lt}
+use Rattle.std.specs.Prelude.{ℕ, ◌≡◌, ◌+◌, ◌^◌, ◌-◌, length, Bool, true, false, not, List, [], ◌++◌, min, Option, Some, None, Result, if◌then◌else◌, is_some, nat_lt}
 use Rattle.std.specs.Option.{option_or}
 use Rattle.score_script.specs.FindingTexts.{last_text, optional_text}
 use Rattle.score_script.specs.UnansweredTexts.{unanswered_text}
@@ -8,6 +8,9 @@ use Rattle.score_script.specs.Profiles.{PolicyBoard, after_seen, bursts_open, by
 use Rattle.score_script.specs.declared.findings.Finding.{Finding}
 use Rattle.score_script.specs.declared.findings.Finding.TheVariants as finding
 use Rattle.score_script.specs.declared.findings.Line.{Line}
+use Rattle.score_script.specs.declared.lines.Channel.{Channel}
+use Rattle.score_script.specs.declared.lines.Channel.TheVariants as channel
+use Rattle.score_script.specs.declared.lines.SeenBeat.{SeenBeat}
 use Rattle.score_script.specs.declared.score.Command.{Command}
 use Rattle.score_script.specs.declared.score.Command.TheVariants as command
 use Rattle.score_script.specs.declared.profiles.Asked.{Asked}
@@ -16,7 +19,9 @@ use Rattle.burst_plan.specs.declared.Region.{Region}
 use Rattle.scoreboard.specs.Places.{wrong_place}
 use Rattle.scoreboard.specs.declared.ObservedBeat.{ObservedBeat}
 use Rattle.scoreboard.specs.declared.ObservedBeat.TheVariants.{A, D, Axi, Drained}
+use Rattle.scoreboard.specs.declared.ReplyRule.TheVariants.{Unknown}
 use Rattle.scoreboard.specs.declared.Wrong.{Wrong}
+use Rattle.scoreboard.specs.declared.Wrong.TheVariants.{NoClient, Reply, UnknownAxi, UnknownRequest}
 use Rattle.line_text.specs.Fields.{unless_wrong}
 use Rattle.script_text.specs.Scripts.{Reading}
 use Rattle.script_text.specs.declared.faults.ScriptFault.{ScriptFault}
@@ -25,13 +30,15 @@ use Rattle.script_text.specs.Stages.{Kind, Opening, Stage, reading_of, unless_re
 use Rattle.score_setup.specs.ScoreSetups.{RangeLists, one_by_one, score_setup_fault}
 use Rattle.script_text.specs.SetupRules.{score_rules}
 
--- the board; the regions to which bursts have to go, where that is asked for; whether nothing was observed or asked yet; the beat that is
+-- the board; the regions to which bursts have to go, where that is asked for; whether nobody need know the bytes that requests give, and that
+-- the AXI4 port has; whether nothing was observed or asked yet; the beat that is
 -- held, which is that of the last line, where that is an A line; the time of what is observed, if one was given; whether the observation
 -- was said to be over; how many beats were judged, and how much was found wrong; and how many bytes replies told, and how many of them were
 -- compared
 pub record Score : Type 0 where
   pub board : PolicyBoard
   pub places : Option (List Region)
+  pub x_data : Bool
   pub begins : Bool
   pub time : Option ℕ
   pub ended : Bool
@@ -47,6 +54,7 @@ opening_score asked setup =
     record {
       board = opening_board (policy_of asked.policy) (errors_of asked.errors) setup;
       places = if asked.strict then Some setup.regions else None;
+      x_data = asked.x_data;
       begins = true;
       time = None;
       ended = false;
@@ -91,14 +99,14 @@ found line seen None = None
 found line seen (Some wrong) = Some (finding.Beat line (client_of seen) wrong)
 
 -- the score after what was observed, which was judged so
-abbrev pub score_after : Score → ObservedBeat → Option Wrong → Score
+abbrev pub score_after : Score → SeenBeat → Option Wrong → Score
 score_after score seen verdict =
     record score {
       board = after_seen score.board seen;
-      judged = beats_judged score.judged seen;
+      judged = beats_judged score.judged seen.beat;
       wrong = if is_some verdict then counted score.wrong else score.wrong;
-      told = with_more score.told (telling_in score.board seen).told;
-      compared = with_more score.compared (telling_in score.board seen).compared;
+      told = with_more score.told (telling_in score.board seen.beat).told;
+      compared = with_more score.compared (telling_in score.board seen.beat).compared;
     }
 
 -- what is wrong with the place of a beat, where places are judged
@@ -106,18 +114,24 @@ abbrev pub misplaced_in : Option (List Region) → ObservedBeat → Option Wrong
 misplaced_in None seen = None
 misplaced_in (Some regions) seen = wrong_place regions seen
 
+-- what the board finds, where nobody need know the bytes that requests give, and that the AXI4 port has
+abbrev pub without_data : Bool → Option Wrong → Option Wrong
+without_data true (Some UnknownRequest) = None
+without_data true (Some UnknownAxi) = None
+without_data x_data verdict = verdict
+
 -- what is wrong with a beat, if anything is: by the board, and else by its place
-abbrev pub verdict_on : Score → ObservedBeat → Option Wrong
-verdict_on score seen = option_or (wrong_in score.board seen) (misplaced_in score.places seen)
+abbrev pub verdict_on : Score → SeenBeat → Option Wrong
+verdict_on score seen = option_or (without_data score.x_data (wrong_in score.board seen)) (misplaced_in score.places seen.beat)
 
 -- what was observed is judged: what is found, and the score after it
-abbrev pub judging : Score → Line → ObservedBeat → Option Finding × Score
-judging score line seen = (found line seen (verdict_on score seen), score_after score seen (verdict_on score seen))
+abbrev pub judging : Score → Line → SeenBeat → Option Finding × Score
+judging score line seen = (found line seen.beat (verdict_on score seen), score_after score seen (verdict_on score seen))
 
 -- the held beat is judged, if there is one
 abbrev pub settling_held : Score → Option HeldBeat → Option Finding × Score
 settling_held score None = (None, score)
-settling_held score (Some held) = judging (record score { held = None }) held.line (A held.client held.beat)
+settling_held score (Some held) = judging (record score { held = None }) held.line (record { beat = A held.client held.beat; unknown = held.unknown })
 
 -- what is found of the held beat, and the score after it
 abbrev pub settling : Score → Option Finding × Score
@@ -141,10 +155,32 @@ abbrev pub finds_nothing : Score → Finds
 finds_nothing after = record { held = None; own = None; unanswered = []; after = after }
 
 -- a beat on channel A is held, all else is judged
-abbrev pub observing : Option Finding × Score → Line → ObservedBeat → Finds
-observing settled line (A client beat) =
-    record (settled_alone settled) { after = record settled.1 { held = Some (record { line = line; client = client; beat = beat }) } }
-observing settled line seen = record (settled_alone settled) { own = (judging settled.1 line seen).0; after = (judging settled.1 line seen).1 }
+abbrev pub observed_as : Option Finding × Score → Line → ObservedBeat → ℕ → Finds
+observed_as settled line (A client beat) unknown =
+    record (settled_alone settled) { after = record settled.1 { held = Some (record { line = line; client = client; beat = beat; unknown = unknown }) } }
+observed_as settled line beat unknown =
+    let judged = judging settled.1 line (record { beat = beat; unknown = unknown }) in
+    record (settled_alone settled) { own = judged.0; after = judged.1 }
+
+-- what a line of an observed beat finds
+abbrev pub observing : Option Finding × Score → Line → SeenBeat → Finds
+observing settled line seen = observed_as settled line seen.beat seen.unknown
+
+-- ---- beats of which nobody knows a field but the payload
+
+-- what is wrong with one, by its channel, where there are so many clients
+abbrev pub unknown_on : ℕ → Channel → ℕ → Wrong
+unknown_on clients channel.A client = if nat_lt client clients then UnknownRequest else NoClient
+unknown_on clients channel.D client = if nat_lt client clients then Reply Unknown None else NoClient
+unknown_on clients _ client = UnknownAxi
+
+-- it is judged, and nothing changes but the counts
+abbrev pub unclear : Option Finding × Score → Line → Channel → ℕ → Finds
+unclear settled line port client =
+    record (settled_alone settled) {
+      own = Some (finding.Beat line client (unknown_on (length settled.1.board.board.clients) port client));
+      after = record settled.1 { judged = counted settled.1.judged; wrong = counted settled.1.wrong };
+    }
 
 -- how much was found wrong where the observation is over: each reply that is due, and each open burst, too
 abbrev pub wrong_at_end : Score → ℕ
@@ -175,6 +211,7 @@ over settled number =
 -- what a line of this number finds. The held beat is judged first, but where the line withdraws it; another answer finds nothing of its own
 abbrev pub finds : Score → ℕ → Command → Finds
 finds score number (command.Observed seen) = observing (settling score) (line_at score number) seen
+finds score number (command.Unknown port client) = unclear (settling score) (line_at score number) port client
 finds score number (command.Byte address) =
     record (settled_alone (settling score)) { own = Some (finding.Byte (byte_in (settling score).1.board address)) }
 finds score number command.Withdrawal = finds_nothing (record score { held = None })
@@ -203,6 +240,7 @@ wrong_behind score = if score.ended then Some 1 else None
 abbrev pub wrong_command : Score → Command → Option ℕ
 wrong_command score (command.Fill address bytes) = wrong_fill score address bytes
 wrong_command score (command.Observed seen) = wrong_behind score
+wrong_command score (command.Unknown port client) = wrong_behind score
 wrong_command score command.Reset = wrong_behind score
 wrong_command score command.End = wrong_behind score
 wrong_command score _ = None

@@ -99,6 +99,16 @@ fn wrong_words<W: Write>(
             let name = rule.name();
             Ok(write!(writer, "= wrong {line} axi {number} {name}")?)
         }
+        Wrong::UnknownRequest => {
+            let number = 17u8;
+            let name = "X";
+            Ok(write!(writer, "= wrong {line} request {number} {name}")?)
+        }
+        Wrong::UnknownAxi => {
+            let number = 13u8;
+            let name = "X";
+            Ok(write!(writer, "= wrong {line} axi {number} {name}")?)
+        }
         Wrong::Place => {
             let number = 15u8;
             let name = "PLACE";

@@ -8,5 +8,6 @@ mod profiles;
 mod score;
 mod script;
 mod unanswered;
+mod unknown;
 
 pub use script::score_text;

@@ -2,7 +2,7 @@
 ghost use Rattle.std.specs.Prelude.{◌≡◌, ◌<◌, true};
 ghost use Rattle.line_text.specs.Fields.{Reads};
 ghost use Rattle.line_text.specs.Words.{word_at};
-ghost use Rattle.score_script.specs.Profiles.{axi_line, errors_field, errors_in, errors_line, nothing_asked, own_line, policy_in, profile_field, profile_line, strict_field, takes_any, with_axi, with_errors, with_profile};
+ghost use Rattle.score_script.specs.Profiles.{axi_line, data_field, errors_field, errors_in, errors_line, nothing_asked, own_line, policy_in, profile_field, profile_line, strict_field, takes_any, with_axi, with_errors, with_profile, with_x, x_line};
 
 use line_text::Words;
 use scoreboard::{Errors, Policy};
@@ -16,6 +16,8 @@ pub(crate) struct Asked {
     pub(crate) strict: bool,
     /// How errors are told, if that is said.
     pub(crate) errors: Option<Errors>,
+    /// Whether nobody need know the bytes that requests give, and that the AXI4 port has.
+    pub(crate) x_data: bool,
 }
 
 /// The policy of the profile that a word names.
@@ -87,6 +89,26 @@ fn errors_line(policy: Option<Policy>, words: &Words<'_>) -> Result<Errors, u32>
     Ok(errors)
 }
 
+/// That data may be unknown, by a word.
+fn data_at(words: &Words<'_>, n: u32) -> Result<bool, u32>
+    requires { 0 < n }
+    ensures { Reads (data_field (word_at words.now n)) true n result }
+{
+    if words.at(n) != b"data".as_slice() {
+        return Err(n);
+    }
+    Ok(true)
+}
+
+/// `x data`.
+fn x_line(words: &Words<'_>) -> Result<bool, u32>
+    ensures { result ≡ x_line words.now }
+{
+    let data = data_at(words, 2)?;
+    words.end(2)?;
+    Ok(data)
+}
+
 impl Asked {
     /// No line has asked for anything.
     pub(crate) fn nothing() -> Asked
@@ -96,6 +118,7 @@ impl Asked {
             policy: None,
             strict: false,
             errors: None,
+            x_data: false,
         }
     }
 
@@ -132,6 +155,17 @@ impl Asked {
         Ok(Asked { errors, ..self })
     }
 
+    /// The same of an `x` line.
+    fn with_x(self, words: &Words<'_>) -> Result<Asked, u32>
+        ensures { result ≡ with_x self words.now }
+    {
+        if self.x_data {
+            return Err(1);
+        }
+        let x_data = x_line(words)?;
+        Ok(Asked { x_data, ..self })
+    }
+
     /// What the lines of a set-up ask for with one line more, if that is such a line.
     pub(crate) fn own_line(self, words: &Words<'_>) -> Option<Result<Asked, u32>>
         ensures { result ≡ own_line self words.now }
@@ -144,6 +178,9 @@ impl Asked {
         }
         if words.at(1) == b"errors".as_slice() {
             return Some(self.with_errors(words));
+        }
+        if words.at(1) == b"x".as_slice() {
+            return Some(self.with_x(words));
         }
         None
     }

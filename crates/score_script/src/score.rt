@@ -6,7 +6,7 @@ ghost use Rattle.score_setup.specs.ScoreSetups.{lists_of, ranges_of, score_setup
 ghost use Rattle.setups.specs.declared.SetupFault.TheVariants.{NoMemory};
 ghost use Rattle.score_script.specs.Profiles.{filled_in};
 ghost use Rattle.score_script.specs.declared.profiles.Asked.{Asked};
-ghost use Rattle.score_script.specs.Scores.{FailsBy, begins_after, commanded, commanded_score, unanswered_by, wrong_command, wrong_fill, beats_judged, client_of, closing, counted, ended_score, finds, judging, line_at, misplaced_in, observing, opening_score, reset_score, settling, with_more, wrong_behind};
+ghost use Rattle.score_script.specs.Scores.{FailsBy, begins_after, commanded, commanded_score, unanswered_by, wrong_command, wrong_fill, beats_judged, client_of, closing, counted, ended_score, finds, judging, line_at, misplaced_in, observing, opening_score, reset_score, settling, unclear, unknown_on, with_more, without_data, wrong_behind};
 ghost use Rattle.score_script.specs.ScoreStates.{score_of};
 ghost use Rattle.score_script.specs.FindingTexts.{WritesText};
 
@@ -14,12 +14,15 @@ use crate::fills::FillBytes;
 use crate::findings::{
     Finding, Findings, Line, findings_lines, last_compared, last_counts, optional_line,
 };
+use crate::lines::{Channel, SeenBeat};
 use crate::profiles::Asked;
 use crate::unanswered::unanswered_lines;
 use burst_plan::Region;
 use line_text::WriteFault;
 use score_setup::ScoreSetup;
-use scoreboard::{AxiPlaces, Errors, FillFault, ObservedBeat, Policy, Scoreboard, Wrong, can_fill};
+use scoreboard::{
+    AxiPlaces, Errors, FillFault, ObservedBeat, Policy, ReplyRule, Scoreboard, Wrong, can_fill,
+};
 use script_text::ScriptFault;
 use setups::SetupFault;
 use std::alloc::{AllocError, Global};
@@ -30,7 +33,9 @@ use tl_messages::ABeat;
 #[derive(Drop)]
 pub(crate) enum Command {
     /// Something was observed.
-    Observed(ObservedBeat),
+    Observed(SeenBeat),
+    /// A beat of this channel, and of this client, was observed, and nobody knows a field of it but the payload.
+    Unknown(Channel, u8),
     /// The byte at an address is asked for.
     Byte(u32),
     /// The beat before it, if it stands straight behind one, wasn't taken.
@@ -56,14 +61,17 @@ pub(crate) struct HeldBeat {
     pub(crate) client: u8,
     /// The beat.
     pub(crate) beat: ABeat,
+    /// The lanes of its payload that nobody knows.
+    pub(crate) unknown: u8,
 }
 
-/// The board, the places of bursts where they are judged, whether nothing but fillings was said yet, the time of what is observed,
+/// The board, the places of bursts where they are judged, whether nobody need know data but those of replies, whether nothing but fillings was said yet, the time of what is observed,
 /// whether the observation is over, the beat that is held, how many beats were judged, how much was found wrong, and how many bytes
 /// replies told, and were compared.
 pub(crate) struct Score {
     board: Scoreboard,
     places: Option<AxiPlaces>,
+    x_data: bool,
     begins: bool,
     time: Option<u64>,
     ended: bool,
@@ -80,6 +88,7 @@ impl Drop for Score {
         let Score {
             board: _,
             places: _,
+            x_data: _,
             begins: _,
             time: _,
             ended: _,
@@ -99,6 +108,18 @@ fn client_of(seen: &ObservedBeat) -> u8
     match seen {
         ObservedBeat::A(client, _) | ObservedBeat::D(client, _) => *client,
         _ => 0,
+    }
+}
+
+/// What is wrong with a beat of which nobody knows a field but the payload, where there are so many clients.
+fn unknown_on(clients: u8, channel: Channel, client: u8) -> Wrong
+    ensures { result ≡ unknown_on clients channel client }
+{
+    match channel {
+        Channel::A | Channel::D if client >= clients => Wrong::NoClient,
+        Channel::A => Wrong::UnknownRequest,
+        Channel::D => Wrong::Reply(ReplyRule::Unknown, None),
+        _ => Wrong::UnknownAxi,
     }
 }
 
@@ -180,6 +201,7 @@ impl Score {
             Ok(places) => Ok(Score {
                 board,
                 places,
+                x_data: asked.x_data,
                 begins: true,
                 time: None,
                 ended: false,
@@ -203,6 +225,16 @@ impl Score {
         }
     }
 
+    /// What the board finds, where nobody need know the bytes that requests give, and that the AXI4 port has.
+    fn without_data(&self, verdict: Option<Wrong>) -> Option<Wrong>
+        ensures { result ≡ without_data self.now.x_data verdict }
+    {
+        match verdict {
+            Some(Wrong::UnknownRequest | Wrong::UnknownAxi) if self.x_data => None,
+            verdict => verdict,
+        }
+    }
+
     /// The line of a number, with the time of what is observed.
     fn line_at(&self, number: u32) -> Line
         ensures { result ≡ line_at (score_of self.now) number }
@@ -217,22 +249,23 @@ impl Score {
     fn judge(
         &mut self,
         line: Line,
-        seen: &ObservedBeat,
+        seen: &SeenBeat,
         finding: &mut Option<Finding>,
     ) -> Result<(), AllocError>
         ensures found { OnOk result (finding.new ≡ (judging (score_of self.old) line seen.now).0) }
         ensures state { OnOk result (score_of self.new ≡ (judging (score_of self.old) line seen.now).1) }
     {
-        let telling = self.board.telling(seen);
-        let judged = self.board.judge(seen)?;
-        let verdict = self.with_place(seen, judged);
-        self.judged = beats_judged(self.judged, seen);
+        let SeenBeat { beat, unknown } = seen;
+        let telling = self.board.telling(beat);
+        let found = self.board.judge_unknown(beat, *unknown)?;
+        let verdict = self.with_place(beat, self.without_data(found));
+        self.judged = beats_judged(self.judged, beat);
         self.told = with_more(self.told, u64::from(telling.told));
         self.compared = with_more(self.compared, u64::from(telling.compared));
         *finding = None;
         if let Some(wrong) = verdict {
             self.wrong = counted(self.wrong);
-            *finding = Some(Finding::Beat(line, client_of(seen), wrong));
+            *finding = Some(Finding::Beat(line, client_of(beat), wrong));
         }
         Ok(())
     }
@@ -248,7 +281,10 @@ impl Score {
             return Ok(());
         };
         self.held = None;
-        let seen = ObservedBeat::A(held.client, held.beat);
+        let seen = SeenBeat {
+            beat: ObservedBeat::A(held.client, held.beat),
+            unknown: held.unknown,
+        };
         self.judge(held.line, &seen, finding)
     }
 
@@ -257,7 +293,7 @@ impl Score {
     fn observe(
         &mut self,
         line: Line,
-        seen: &ObservedBeat,
+        seen: &SeenBeat,
         findings: &mut Findings,
     ) -> Result<(), AllocError>
         ensures held { OnOk result (findings.new.held ≡ (observing (settling (score_of self.old)) line seen.now).held) }
@@ -265,12 +301,39 @@ impl Score {
         ensures state { OnOk result (score_of self.new ≡ (observing (settling (score_of self.old)) line seen.now).after) }
     {
         self.settle(&mut findings.held)?;
-        if let ObservedBeat::A(client, beat) = *seen {
-            self.held = Some(HeldBeat { line, client, beat });
+        if let ObservedBeat::A(client, beat) = seen.beat {
+            let unknown = seen.unknown;
+            self.held = Some(HeldBeat {
+                line,
+                client,
+                beat,
+                unknown,
+            });
             findings.own = None;
             return Ok(());
         }
         self.judge(line, seen, &mut findings.own)
+    }
+
+    /// The held beat is judged, and then one of which nobody knows a field but the payload: nothing changes but the counts. The one
+    /// error is that memory was refused.
+    fn tell_unknown(
+        &mut self,
+        line: Line,
+        channel: Channel,
+        client: u8,
+        findings: &mut Findings,
+    ) -> Result<(), AllocError>
+        ensures held { OnOk result (findings.new.held ≡ (unclear (settling (score_of self.old)) line channel client).held) }
+        ensures own { OnOk result (findings.new.own ≡ (unclear (settling (score_of self.old)) line channel client).own) }
+        ensures state { OnOk result (score_of self.new ≡ (unclear (settling (score_of self.old)) line channel client).after) }
+    {
+        self.settle(&mut findings.held)?;
+        let wrong = unknown_on(self.board.clients(), channel, client);
+        findings.own = Some(Finding::Beat(line, client, wrong));
+        self.judged = counted(self.judged);
+        self.wrong = counted(self.wrong);
+        Ok(())
     }
 
     /// The held beat is judged, and then the board is reset. The one error is that memory was refused.
@@ -359,6 +422,10 @@ impl Score {
             Command::Observed(seen) => {
                 self.check_open(number)?;
                 self.observe(self.line_at(number), seen, findings)?;
+            }
+            Command::Unknown(channel, client) => {
+                self.check_open(number)?;
+                self.tell_unknown(self.line_at(number), *channel, *client, findings)?;
             }
             Command::Byte(address) => {
                 self.settle(&mut findings.held)?;

@@ -1,3 +1,4 @@
+pub mod AllKnown
 pub mod BackInStep
 pub mod BoardSteps
 pub mod Changed
@@ -12,5 +13,8 @@ pub mod Marks
 pub mod MoreRoom
 pub mod Others
 pub mod RequestAnswered
+pub mod RequestKept
 pub mod Sources
+pub mod Taken
 pub mod ToldLanes
+pub mod UnknownBytes

@@ -18,13 +18,16 @@ use Rattle.axi_checker.specs.Rules.{AxiPortLimits}
 use Rattle.axi_checker.specs.declared.AxiBeat.{AxiBeat}
 use Rattle.axi_checker.specs.declared.AxiBeat.TheVariants.{Ar as OnAr, Aw as OnAw}
 use Rattle.scoreboard.specs.AxiPorts.{PortBoard}
-use Rattle.scoreboard.specs.Boards.{Board, ClientBoard, acting, tells_error}
+use Rattle.scoreboard.specs.Boards.{Board, ClientBoard, acting, answer_to, tells_error}
 use Rattle.scoreboard.specs.FailedBursts.{Span, answered_span}
 use Rattle.scoreboard.specs.Flights.{Flights, Footprint, InFlight, each_flight, is_of_source}
-use Rattle.serial_memory.specs.SerialMemory.{HasRoomToGive, IsMemoryRange, MemoryState, doubts_of, memory_of, rooms_of}
+use Rattle.scoreboard.specs.Unknown.{UnknownBoard}
+use Rattle.serial_memory.specs.SerialMemory.{HasRoomToGive, IsCheckedRequest, IsMemoryRange, MemoryState, doubts_of, memory_of, rooms_of}
 use Rattle.scoreboard.specs.declared.Errors.{Errors}
 use Rattle.scoreboard.specs.declared.Errors.TheVariants.{Any, Strict}
 use Rattle.scoreboard.specs.declared.Policy.{Policy}
+use Rattle.scoreboard.specs.declared.Wrong.{Wrong}
+use Rattle.scoreboard.specs.declared.Wrong.TheVariants.{NoClient, Request}
 use Rattle.scoreboard.specs.declared.Policy.TheVariants.{AcceptanceOrder, RealTime}
 
 -- a footprint, whose determined bytes are bits of a mask for each of its words
@@ -66,6 +69,7 @@ pub record BoardState : Type 0 where
   pub axi : PortBoard
   pub request : HeldMessage
   pub joining : FlightState
+  pub unknown : List (List ℕ)
 
 -- ---- what they stand for
 
@@ -94,7 +98,35 @@ abbrev pub board_of : BoardState → Board
 board_of state =
     record { clients = map client_of state.clients; memory = memory_of state.memory; indeterminate = doubts_of state.memory; axi = state.axi; errors = state.errors }
 
+-- with what nobody knows of the messages that have begun
+abbrev pub unknown_board : BoardState → UnknownBoard
+unknown_board state = record { board = board_of state; lanes = state.unknown }
+
+-- what a request that is accepted leaves as it is
+pub record IsAcceptedBeside (old new : BoardState) : Type 0 where
+  pub errors : new.errors ≡ old.errors
+  pub request : new.request ≡ old.request
+  pub unknown : new.unknown ≡ old.unknown
+  pub faults : (memory_of new.memory).faults ≡ (memory_of old.memory).faults
+  pub regions : (memory_of new.memory).regions ≡ (memory_of old.memory).regions
+  pub rooms : rooms_of new.memory ≡ rooms_of old.memory
+
+-- a request that came whole is a checked one, and the page of what it gives has room
+pub record IsTaken (board : BoardState) : Type 0 where
+  pub checked : IsCheckedRequest board.request
+  pub room : HasRoomToGive board.memory (acting board.errors (request_of board.request))
+
 -- ---- channel A
+
+-- how far a message is with a beat, or what is wrong with it
+abbrev pub taken_by : Result Progress TlRule → Result Progress Wrong
+taken_by (Ok progress) = Ok progress
+taken_by (Err rule) = Err (Request rule)
+
+-- what a client's port answers to a beat on channel A: how far the message is, or what is wrong
+abbrev pub request_taken : Policy → Option ClientBoard → ABeat → Result Progress Wrong
+request_taken policy None beat = Err NoClient
+request_taken policy (Some client) beat = taken_by (answer_to policy client beat)
 
 -- the message that has begun after an answer, by the message with this beat
 abbrev pub front_after : Option HeldMessage → HeldMessage → Result Progress TlRule → Option HeldMessage
@@ -194,8 +226,6 @@ HasRoomToWrite rooms footprint = footprint.writes ≡ true → rooms (footprint.
 
 abbrev pub HaveRoomToWrite : (ℕ → Bool) → List Footprint → Type 0
 HaveRoomToWrite rooms footprints = AllByRecursion (HasRoomToWrite rooms) footprints
-
--- ---- at the start
 
 -- ---- the AXI4 port
 

@@ -15,4 +15,5 @@ pub mod Resets
 pub mod Right
 pub mod Telling
 pub mod Unanswered
+pub mod Unknown
 pub mod Wider

@@ -1,7 +1,7 @@
 -- The numbers and names of the rules on replies, as they are told to a user.
 use Rattle.std.specs.Prelude.{ℕ, List, codes}
 use Rattle.scoreboard.specs.declared.ReplyRule.{ReplyRule}
-use Rattle.scoreboard.specs.declared.ReplyRule.TheVariants.{Unasked, Interleaved, Opcode, Size, Denied, Corrupt, Payload}
+use Rattle.scoreboard.specs.declared.ReplyRule.TheVariants.{Unasked, Interleaved, Opcode, Size, Denied, Corrupt, Payload, Unknown}
 
 -- the number of a rule
 abbrev pub reply_rule_number : ReplyRule → ℕ
@@ -12,6 +12,7 @@ reply_rule_number Size = 4
 reply_rule_number Denied = 5
 reply_rule_number Corrupt = 6
 reply_rule_number Payload = 7
+reply_rule_number Unknown = 8
 
 -- the name of a rule
 abbrev pub reply_rule_name : ReplyRule → List ℕ
@@ -22,3 +23,4 @@ reply_rule_name Size = codes "SIZE"
 reply_rule_name Denied = codes "DENIED"
 reply_rule_name Corrupt = codes "CORRUPT"
 reply_rule_name Payload = codes "PAYLOAD"
+reply_rule_name Unknown = codes "X"

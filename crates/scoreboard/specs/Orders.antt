@@ -15,7 +15,7 @@ use Rattle.scoreboard.specs.declared.Errors.TheVariants.{Any, Strict}
 use Rattle.scoreboard.specs.declared.Policy.TheVariants.{RealTime}
 use Rattle.scoreboard.specs.declared.ObservedBeat.{ObservedBeat}
 use Rattle.scoreboard.specs.declared.Wrong.{Wrong}
-use Rattle.scoreboard.specs.declared.Wrong.TheVariants.{NoClient, Request, Reply, Axi, Place}
+use Rattle.scoreboard.specs.declared.Wrong.TheVariants.{NoClient, Request, Reply, Axi, Place, UnknownAxi, UnknownRequest}
 
 -- ---- requests that have begun
 
@@ -164,6 +164,8 @@ IsWrongAs setup start order asked (Reply broken due) =
     (other : Option DBeat) × (wrong_beat (due_beats setup start order asked) asked.beat ≡ Some (Reply broken other))
 IsWrongAs setup start order asked (Axi broken) = ⊥
 IsWrongAs setup start order asked Place = ⊥
+IsWrongAs setup start order asked UnknownRequest = ⊥
+IsWrongAs setup start order asked UnknownAxi = ⊥
 
 -- the byte at an address, where all requests of an order took effect
 abbrev pub byte_left : SetupLists → Bytes → Order → ℕ → ℕ

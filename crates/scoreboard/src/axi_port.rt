@@ -1,5 +1,7 @@
 //! The AXI4 port by its monitor.
-ghost use Rattle.std.specs.Prelude.{◌≡◌, true, IfOk, map, option_map, slice_get};
+ghost use Rattle.std.specs.Prelude.{◌≡◌, ◌<◌, ℕ, true, IfOk, map, option_map, slice_get};
+ghost use Rattle.bus_words.specs.Lanes.{has_lane};
+ghost use Rattle.axi_checker.specs.ReadLanes.{covers_next};
 ghost use Rattle.axi_checker.specs.OpenBursts.{nothing_open, oldest_read, oldest_write, open_count};
 ghost use Rattle.axi_checker.specs.Rules.{address_of_read, address_of_write, axi_fault};
 ghost use Rattle.config.specs.Configs.{axi_port_of};
@@ -117,6 +119,13 @@ impl AxiPort {
             AxiBeat::R(r) if r.resp != Resp::Okay => self.oldest_read(r.id),
             _ => None,
         }
+    }
+
+    /// The lanes of the transfer that the next R beat of an ID is, bit k for lane k; none where no read of it is outstanding.
+    pub(crate) fn read_lanes(&self, id: u8) -> u8
+        ensures { (lane : ℕ) → lane < 8 → has_lane result lane ≡ covers_next self.now.port.bus_bytes (oldest_read id self.now.open_bursts) lane }
+    {
+        self.monitor.read_lanes(id).unwrap_or(0)
     }
 
     /// Whether as many bursts of its ID are outstanding as may be, if a beat is an address.

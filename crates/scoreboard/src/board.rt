@@ -8,24 +8,24 @@ ghost use Rattle.score_setup.specs.ScoreSetups.{is_valid_to_score, limits_of, li
 ghost use Rattle.setups.specs.Setups.{faults_of};
 ghost use Rattle.setups.specs.declared.SetupFault.TheVariants.{NoMemory};
 ghost use Rattle.subordinate.specs.Faults.{is_good, standing_at};
-ghost use Rattle.scoreboard.specs.Boards.{acting, beginning_of, client_beside, early_due, fails, footprints_of, hit_client, opening_client, opening_from, replies_open};
+ghost use Rattle.scoreboard.specs.Boards.{acting, beginning_of, client_beside, early_due, fails, footprints_of, hit_client, opening_client, opening_from};
 ghost use Rattle.scoreboard.specs.FailedBursts.{after_hit};
 ghost use Rattle.scoreboard.specs.Resets.{ResetsRightly, reset_on};
-ghost use Rattle.serial_memory.specs.SerialMemory.{HasRoomToGive, IsCheckedRequest, byte_at, carried_out, doubts_of, memory_of, place_in, rooms_of};
+ghost use Rattle.serial_memory.specs.SerialMemory.{HasRoomToGive, IsCheckedRequest, carried_out, doubts_of, memory_of, place_in, rooms_of};
 ghost use Rattle.scoreboard.specs.InsideBoards.{ClientsHaveRoom, HasRoomForBeat, HasRoomToWrite, HaveRoomToWrite, IsAskedBy, IsMarkedAlone, client_of, footprint_of, most_words};
 ghost use Rattle.scoreboard.specs.InTurn.{after_turn, unless_fixed};
+ghost use Rattle.scoreboard.specs.Unknown.{all_over, nothing_unknown};
 ghost use Rattle.scoreboard.specs.Races.{after_given, after_joining, alone, beside_all, beside_dependent};
 
-use crate::all_clients::{
-    give_way, hit, limit, mark_beside, mark_reached, opening_clients, outstanding_of, reset,
-};
+use crate::all_clients::{give_way, hit, limit, mark_beside, mark_reached, opening_clients, reset};
 use crate::clients::Client;
 use crate::early_port::EarlyPort;
 use crate::failed_bursts::{Reach, Span};
 use crate::footprint::Footprint;
 use crate::in_flight::InFlight;
 use crate::marks::mark_given;
-use crate::{Errors, FillFault, ObservedBeat, Policy, Telling, Wrong};
+use crate::unknown::{UnknownLanes, forget_unknown, unknown_of};
+use crate::{Errors, FillFault, ObservedBeat, Policy, Wrong};
 use axi_checker::AxiBeat;
 use burst_plan::PageMap;
 use score_setup::{ScoreConfig, ScoreSetup, score_setup_fault};
@@ -52,13 +52,14 @@ const MOST_WORDS: usize = 512;
 /// nothing is compared, nor of those that an atomic made of them. All room is taken by `new`, but for pages: each takes its own
 /// when it is first given a byte, by `fill` or, in `judge`, by a request.
 pub struct Scoreboard {
-    policy: Policy,
-    errors: Errors,
-    clients: Vec<Client>,
-    serial: SerialMemory,
-    axi: EarlyPort,
-    request: Request,
-    joining: InFlight,
+    pub(crate) policy: Policy,
+    pub(crate) errors: Errors,
+    pub(crate) clients: Vec<Client>,
+    pub(crate) serial: SerialMemory,
+    pub(crate) axi: EarlyPort,
+    pub(crate) request: Request,
+    pub(crate) joining: InFlight,
+    pub(crate) unknown: Vec<UnknownLanes>,
 }
 
 impl Model for Scoreboard {
@@ -69,7 +70,7 @@ impl Model for Scoreboard {
 
     ghost Value = { BoardState };
 
-    ghost view = { λ b. record { policy = b.policy; errors = b.errors; clients = b.clients.items; memory = b.serial; axi = b.axi; request = b.request; joining = b.joining } };
+    ghost view = { λ b. record { policy = b.policy; errors = b.errors; clients = b.clients.items; memory = b.serial; axi = b.axi; request = b.request; joining = b.joining; unknown = b.unknown.items } };
 
     ghost invariant = { λ b. (length b.clients.items ≤ 8) × ClientsHaveRoom most_words b.clients.items
         × (length b.joining.footprint.determined ≡ most_words)
@@ -87,13 +88,14 @@ impl Drop for Scoreboard {
             axi: _,
             request: _,
             joining: _,
+            unknown: _,
         } = self;
     }
 }
 
 /// The address of a good page at which a request may act, if it has one: one that is corrupt may act all the same where errors are
 /// told in any way.
-fn place_of(serial: &SerialMemory, errors: Errors, request: &Request) -> Option<u32>
+pub(crate) fn place_of(serial: &SerialMemory, errors: Errors, request: &Request) -> Option<u32>
     ensures place { result ≡ place_in (memory_of serial.now) (acting errors (request_of request.now)) }
     ensures same_byte { IfSome result (λ address. address % 4096 ≡ request.now.address % 4096) }
     ensures good { IfSome result (λ address. is_good (standing_at (memory_of serial.now).faults address) ≡ true) }
@@ -176,22 +178,19 @@ impl Scoreboard {
     ghost use Rattle.scoreboard.specs.Boards.{Beginning, ClientBoard, IsReached, a_wrong, accepted_on, after_a, after_axi, after_d, after_seen, answer_to, beginning_of, begun_on, coming_on, continued_on, d_wrong, flight_for, given_on, has_replied, hit_on, in_turn_on, is_spoiled, joined_on, joining_on, opening_from, with_client, with_taken, with_whole, wrong_at};
     ghost use Rattle.scoreboard.specs.Flights.{no_footprint};
     ghost use Rattle.scoreboard.specs.Races.{unless_failed};
-    ghost use Rattle.scoreboard.specs.InsideBoards.{IsFirstBeat, IsFreeOf, board_of, flight_of, front_after, span_told};
+    ghost use Rattle.scoreboard.specs.InsideBoards.{IsFirstBeat, IsAcceptedBeside, IsFreeOf, IsTaken, board_of, flight_of, front_after, request_taken, span_told};
     ghost use Rattle.scoreboard.specs.AxiPorts.{port_wrong};
     ghost use Rattle.tl_messages.specs.Requests.{HeldMessage};
     ghost use Rattle.tl_checker.specs.Ports.{joined};
     ghost use Rattle.tl_checker.specs.declared.Progress.TheVariants.{More, Whole};
-    ghost use Rattle.axi_checker.specs.OpenBursts.{open_count};
     ghost use Rattle.scoreboard.specs.Observed.{is_request, observed_in, requests_in};
     ghost use Rattle.scoreboard.specs.RealTime.{JudgesRightly};
-    ghost use Rattle.scoreboard.specs.Unanswered.{reads_open, sources_due, writes_open};
     ghost use Rattle.scoreboard.specs.Boards.{Beginning};
     ghost use Rattle.scoreboard.specs.Filling.{filled_beginning, filled_on};
     ghost use Rattle.scoreboard.specs.declared.Errors.{Errors};
     ghost use Rattle.serial_memory.specs.SerialMemory.{can_fill};
     ghost use Rattle.serial_memory.specs.declared.FillFault.TheVariants.{NoMemory as NoRoom, Place};
     ghost use Rattle.scoreboard.specs.Right.{IsRight};
-    ghost use Rattle.scoreboard.specs.Telling.{telling_of};
     ghost use Rattle.scoreboard.specs.Wider.{IsWiderAlong, LetsRightPass};
     ghost use Rattle.scoreboard.specs.declared.Policy.TheVariants.{AcceptanceOrder, RealTime};
 
@@ -208,6 +207,7 @@ impl Scoreboard {
         ensures refused { IfSome (score_setup_fault (lists_of setup.now)) (λ fault. result ≡ Err fault) }
         ensures want { IfErr result (λ fault. (score_setup_fault (lists_of setup.now) ≡ Some fault) ⊎ (fault ≡ NoMemory)) }
         ensures opens { IfOk result (λ board. (board_of board ≡ opening_from errors (beginning_of (ranges_of setup.now))) × (board.policy ≡ policy)) }
+        ensures unknown { IfOk result (λ board. board.unknown ≡ nothing_unknown (ranges_of setup.now).config.clients) }
     {
         if let Some(fault) = score_setup_fault(setup) {
             return Err(fault);
@@ -225,7 +225,8 @@ impl Scoreboard {
         setup: &ScoreSetup,
     ) -> Result<Self, AllocError>
         requires { score_setup_fault (lists_of setup.now) ≡ None }
-        ensures { IfOk result (λ board. (board_of board ≡ opening_from errors (beginning_of (ranges_of setup.now))) × (board.policy ≡ policy)) }
+        ensures opens { IfOk result (λ board. (board_of board ≡ opening_from errors (beginning_of (ranges_of setup.now))) × (board.policy ≡ policy)) }
+        ensures unknown { IfOk result (λ board. board.unknown ≡ nothing_unknown (ranges_of setup.now).config.clients) }
     {
         let Ok(map) = PageMap::of_observed(alloc, setup.regions.as_slice()) else {
             return Err(AllocError);
@@ -240,6 +241,7 @@ impl Scoreboard {
         let axi = EarlyPort::new(alloc, &setup.config)?;
         let request = Request::new(alloc)?;
         let joining = InFlight::new(alloc, MOST_WORDS)?;
+        let unknown = unknown_of(alloc, setup.config.clients)?;
         Ok(Scoreboard {
             policy,
             errors,
@@ -248,6 +250,7 @@ impl Scoreboard {
             axi,
             request,
             joining,
+            unknown,
         })
     }
 
@@ -280,12 +283,16 @@ impl Scoreboard {
     }
 
     /// What is wrong with a beat, by what the board holds.
-    fn judge_by_board(&mut self, seen: &ObservedBeat) -> Result<Option<Wrong>, AllocError>
+    pub(crate) fn judge_by_board(
+        &mut self,
+        seen: &ObservedBeat,
+    ) -> Result<Option<Wrong>, AllocError>
         ensures answer { IfOk result (λ wrong. wrong ≡ wrong_at self.old.policy (board_of self.old) seen.now) }
         ensures state { OnOk result (board_of self.new ≡ after_seen self.old.policy (board_of self.old) seen.now) }
         ensures refused { OnErr result (board_of self.new ≡ board_of self.old) }
         ensures grows { OnErr result (is_request seen.now ≡ true) }
         ensures policy { self.new.policy ≡ self.old.policy }
+        ensures unknown { self.new.unknown ≡ self.old.unknown }
     {
         match seen {
             ObservedBeat::A(client, beat) => self.judge_request(*client, beat),
@@ -304,15 +311,37 @@ impl Scoreboard {
         ensures state { OnOk result (board_of self.new ≡ after_a self.old.policy (board_of self.old) client (slice_get (board_of self.old).clients client) beat.now) }
         ensures refused { OnErr result (board_of self.new ≡ board_of self.old) }
         ensures policy { self.new.policy ≡ self.old.policy }
+        ensures unknown { self.new.unknown ≡ self.old.unknown }
+    {
+        match self.take_request(client, beat)? {
+            Ok(_) => Ok(None),
+            Err(wrong) => Ok(Some(wrong)),
+        }
+    }
+
+    /// Judges a beat on a client's channel A, and says how far its message is with it, if nothing is wrong.
+    pub(crate) fn take_request(
+        &mut self,
+        client: u8,
+        beat: &ABeat,
+    ) -> Result<Result<Progress, Wrong>, AllocError>
+        ensures answer { IfOk result (λ taken. taken ≡ request_taken self.old.policy (slice_get (board_of self.old).clients client) beat.now) }
+        ensures state { OnOk result (board_of self.new ≡ after_a self.old.policy (board_of self.old) client (slice_get (board_of self.old).clients client) beat.now) }
+        ensures refused { OnErr result (board_of self.new ≡ board_of self.old) }
+        ensures policy { self.new.policy ≡ self.old.policy }
+        ensures unknown { self.new.unknown ≡ self.old.unknown }
+        ensures request { IfOk result (λ taken. taken ≡ Ok Whole → (found : ClientBoard) → slice_get (board_of self.old).clients client ≡ Some found
+            → self.new.request ≡ joined found.limits found.front beat.now) }
+        ensures whole { IfOk result (λ taken. taken ≡ Ok Whole → IsTaken self.new) }
     {
         let number = usize::from(client);
         let Some(found) = self.clients.get(number) else {
-            return Ok(Some(Wrong::NoClient));
+            return Ok(Err(Wrong::NoClient));
         };
         let begun = found.has_begun();
         let progress = match found.judge(self.policy, beat) {
             Ok(progress) => progress,
-            Err(rule) => return Ok(Some(Wrong::Request(rule))),
+            Err(rule) => return Ok(Err(Wrong::Request(rule))),
         };
         self.make_room(beat, progress)?;
         self.take_beat(number, beat, progress);
@@ -320,7 +349,7 @@ impl Scoreboard {
             Progress::More => self.go_on(client, beat, begun),
             Progress::Whole => self.accept(number, begun),
         }
-        Ok(None)
+        Ok(Ok(progress))
     }
 
     /// Makes room for the page of what a beat gives, where it may act there: in order of acceptance once its message is whole. The
@@ -357,6 +386,8 @@ impl Scoreboard {
         ensures clients { length self.new.clients ≡ length self.old.clients }
         ensures memory { self.new.memory ≡ self.old.memory }
         ensures policy { self.new.policy ≡ self.old.policy }
+        ensures errors { self.new.errors ≡ self.old.errors }
+        ensures unknown { self.new.unknown ≡ self.old.unknown }
     {
         let Scoreboard {
             policy,
@@ -377,6 +408,7 @@ impl Scoreboard {
             → (begun ≡ false → message ≡ joined found.limits None beat.now) → found.front ≡ Some message
             → board_of self.new ≡ continued_on self.old.policy (board_of self.old) client found message begun }
         ensures policy { self.new.policy ≡ self.old.policy }
+        ensures unknown { self.new.unknown ≡ self.old.unknown }
     {
         match self.policy {
             Policy::AcceptanceOrder => {}
@@ -391,6 +423,7 @@ impl Scoreboard {
         ensures state { (found : ClientBoard) (message : HeldMessage) → slice_get (board_of self.old).clients client ≡ Some found → found.front ≡ Some message
             → board_of self.new ≡ with_client client (record found { coming = unless_failed (is_spoiled self.old.errors (request_of message)) found.coming }) (board_of self.old) }
         ensures policy { self.new.policy ≡ self.old.policy }
+        ensures unknown { self.new.unknown ≡ self.old.unknown }
     {
         let Scoreboard {
             errors,
@@ -411,6 +444,7 @@ impl Scoreboard {
             ≡ begun_on (board_of self.old) client (record found { early = early_due self.old.errors (request_of (joined found.limits None beat.now)) })
             (joining_on (board_of self.old) (request_of (joined found.limits None beat.now))) }
         ensures policy { self.new.policy ≡ self.old.policy }
+        ensures unknown { self.new.unknown ≡ self.old.unknown }
     {
         let Scoreboard {
             errors,
@@ -441,6 +475,7 @@ impl Scoreboard {
         ensures state { (found : ClientBoard) → slice_get (board_of self.old).clients client ≡ Some found
             → board_of self.new ≡ accepted_on self.old.policy (board_of self.old) client found self.old.request begun }
         ensures policy { self.new.policy ≡ self.old.policy }
+        ensures rest { IsAcceptedBeside self.old self.new }
     {
         match self.policy {
             Policy::AcceptanceOrder => self.accept_in_order(client),
@@ -460,6 +495,7 @@ impl Scoreboard {
             ≡ in_turn_on (board_of self.old) client found (request_of self.old.request)
             (alone (board_of self.old).indeterminate (place_in (board_of self.old).memory (request_of self.old.request)) (request_of self.old.request)) }
         ensures policy { self.new.policy ≡ self.old.policy }
+        ensures rest { IsAcceptedBeside self.old self.new }
     {
         self.take_turn();
         self.put_in(client, false);
@@ -476,6 +512,7 @@ impl Scoreboard {
             → board_of self.new
             ≡ given_on (board_of self.old) client found (request_of self.old.request) (coming_on (board_of self.old) (request_of self.old.request) found.coming) }
         ensures policy { self.new.policy ≡ self.old.policy }
+        ensures rest { IsAcceptedBeside self.old self.new }
     {
         let replied = self.has_replied(client);
         self.give(client);
@@ -493,6 +530,7 @@ impl Scoreboard {
             → board_of self.new
             ≡ joined_on (board_of self.old) client found (request_of self.old.request) (joining_on (board_of self.old) (request_of self.old.request)) }
         ensures policy { self.new.policy ≡ self.old.policy }
+        ensures rest { IsAcceptedBeside self.old self.new }
     {
         self.join();
         self.put_in(client, false);
@@ -546,6 +584,7 @@ impl Scoreboard {
         ensures state { (found : ClientBoard) → slice_get (board_of self.old).clients client ≡ Some found
             → board_of self.new ≡ with_client client (with_whole replied (flight_of self.old.joining) found) (board_of self.old) }
         ensures policy { self.new.policy ≡ self.old.policy }
+        ensures rest { self.new ≡ record self.old { clients = self.new.clients; joining = self.new.joining } }
     {
         let Scoreboard {
             clients,
@@ -623,10 +662,11 @@ impl Scoreboard {
     }
 
     /// Judges a beat on a client's channel D.
-    fn judge_reply(&mut self, client: u8, beat: &DBeat) -> Option<Wrong>
+    pub(crate) fn judge_reply(&mut self, client: u8, beat: &DBeat) -> Option<Wrong>
         ensures answer { result ≡ d_wrong self.old.policy (slice_get (board_of self.old).clients client) beat.now }
         ensures state { board_of self.new ≡ after_d (board_of self.old) client (slice_get (board_of self.old).clients client) beat.now }
         ensures policy { self.new.policy ≡ self.old.policy }
+        ensures unknown { self.new.unknown ≡ self.old.unknown }
     {
         let Some(found) = self.clients.get_mut(usize::from(client)) else {
             return Some(Wrong::NoClient);
@@ -647,10 +687,11 @@ impl Scoreboard {
 
     /// Judges a beat on a channel of the AXI4 port. With an error response that breaks no rule each request may have failed that
     /// shares a byte with its burst, where errors may be told in any way.
-    fn judge_axi(&mut self, beat: &AxiBeat) -> Option<Wrong>
+    pub(crate) fn judge_axi(&mut self, beat: &AxiBeat) -> Option<Wrong>
         ensures answer { result ≡ port_wrong self.old.policy self.old.axi beat.now }
         ensures state { board_of self.new ≡ after_axi self.old.policy (board_of self.old) beat.now }
         ensures policy { self.new.policy ≡ self.old.policy }
+        ensures unknown { self.new.unknown ≡ self.old.unknown }
     {
         let told = self.span_told(beat);
         let wrong = self.axi.judge(self.policy, beat);
@@ -669,6 +710,7 @@ impl Scoreboard {
     fn hit(&mut self, span: Span)
         ensures state { board_of self.new ≡ hit_on (Some span) (board_of self.old) }
         ensures policy { self.new.policy ≡ self.old.policy }
+        ensures unknown { self.new.unknown ≡ self.old.unknown }
     {
         let Scoreboard {
             clients,
@@ -686,80 +728,19 @@ impl Scoreboard {
         ensures state { board_of self.new ≡ reset_on (board_of self.old) }
         ensures rightly { ResetsRightly (board_of self.old) }
         ensures policy { self.new.policy ≡ self.old.policy }
+        ensures unknown { self.new.unknown ≡ all_over self.old.unknown }
     {
         let Scoreboard {
             clients,
             serial,
             axi,
+            unknown,
             ..
         } = self;
         mark_reached(serial, clients, Reach::of_reset());
         reset(clients);
         axi.clear();
-    }
-
-    /// How many accepted requests have a reply that isn't over.
-    pub fn outstanding(&self) -> u16
-        ensures { result ≡ replies_open (board_of self.now).clients }
-    {
-        outstanding_of(&self.clients)
-    }
-
-    /// How many bursts are outstanding on the AXI4 port.
-    pub fn open_bursts(&self) -> usize
-        ensures { result ≡ open_count self.now.axi.open_bursts }
-    {
-        self.axi.open_bursts()
-    }
-
-    /// How many clients there are.
-    pub fn clients(&self) -> u8
-        ensures { result ≡ length (board_of self.now).clients }
-    {
-        self.clients.len() as u8
-    }
-
-    /// The source of a client's accepted request whose reply isn't over, by its place; none behind the last.
-    pub fn source_due(&self, client: u8, place: usize) -> Option<u8>
-        ensures { result ≡ slice_get (sources_due (slice_get (board_of self.now).clients client)) place }
-    {
-        let found = self.clients.get(usize::from(client))?;
-        found.source_at(place)
-    }
-
-    /// The ID of a write that is open on the AXI4 port, by its place, the oldest first; none behind the last.
-    pub fn open_write(&self, place: usize) -> Option<u8>
-        ensures { result ≡ slice_get (writes_open self.now.axi) place }
-    {
-        self.axi.open_write(place)
-    }
-
-    /// The ID of a read that is open on the AXI4 port, by its place, the oldest first; none behind the last.
-    pub fn open_read(&self, place: usize) -> Option<u8>
-        ensures { result ≡ slice_get (reads_open self.now.axi) place }
-    {
-        self.axi.open_read(place)
-    }
-
-    /// The byte at an address of a good page, as the requests accepted so far leave it in order of acceptance; none outside
-    /// these pages.
-    pub fn byte(&self, address: u32) -> Option<u8>
-        ensures { result ≡ byte_at (board_of self.now).memory address }
-    {
-        self.serial.byte(address)
-    }
-
-    /// How much a beat tells that may come next, and how much of that is compared. What was observed stays.
-    pub fn telling(&self, seen: &ObservedBeat) -> Telling
-        ensures { result ≡ telling_of self.now.policy (board_of self.now) seen.now }
-    {
-        let ObservedBeat::D(client, beat) = seen else {
-            return Telling::nothing();
-        };
-        match self.clients.get(usize::from(*client)) {
-            None => Telling::nothing(),
-            Some(found) => found.telling(self.policy, beat.source),
-        }
+        forget_unknown(unknown);
     }
 
     /// The bytes from an address on become these, and are known: a tester says what the memory began with. So a board of which
@@ -775,6 +756,7 @@ impl Scoreboard {
             ⊎ ((can_fill (board_of self.old).memory.faults address (length bytes.now) ≡ true) × (fault ≡ NoRoom))) }
         ensures good { OnOk result (can_fill (board_of self.old).memory.faults address (length bytes.now) ≡ true) }
         ensures policy { self.new.policy ≡ self.old.policy }
+        ensures unknown { self.new.unknown ≡ self.old.unknown }
     {
         self.serial.fill(address, bytes)
     }

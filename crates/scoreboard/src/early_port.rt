@@ -1,7 +1,9 @@
 //! The AXI4 port as a scoreboard sees it: the data of a write may come before its address.
-ghost use Rattle.std.specs.Prelude.{◌≡◌, ◌&&◌, true, IfOk, length, nat_lt, slice_get};
+ghost use Rattle.std.specs.Prelude.{◌≡◌, ◌<◌, ℕ, ◌&&◌, true, IfOk, length, nat_lt, slice_get};
 ghost use Rattle.std.specs.VecDeque.{deque_capacity};
-ghost use Rattle.axi_checker.specs.OpenBursts.{nothing_open, open_count};
+ghost use Rattle.bus_words.specs.Lanes.{has_lane};
+ghost use Rattle.axi_checker.specs.ReadLanes.{covers_next};
+ghost use Rattle.axi_checker.specs.OpenBursts.{nothing_open, oldest_read, open_count};
 ghost use Rattle.config.specs.Configs.{axi_port_of};
 ghost use Rattle.score_setup.specs.ScoreSetups.{is_valid_to_score, limits_of};
 ghost use Rattle.scoreboard.specs.AxiPorts.{after_with_early, drained, none_early, port_after, port_wrong, taking, tells_no_write, wrong_with_early};
@@ -119,6 +121,13 @@ impl EarlyPort {
         ensures { result ≡ answered_span self.now.open_bursts beat.now }
     {
         self.axi.answered_span(beat)
+    }
+
+    /// The lanes of the transfer that the next R beat of an ID is, bit k for lane k; none where no read of it is outstanding.
+    pub(crate) fn read_lanes(&self, id: u8) -> u8
+        ensures { (lane : ℕ) → lane < 8 → has_lane result lane ≡ covers_next self.now.limits.bus_bytes (oldest_read id self.now.open_bursts) lane }
+    {
+        self.axi.read_lanes(id)
     }
 
     /// Judges a beat. Where requests take effect in real time a write's data may be early, and its address takes them.

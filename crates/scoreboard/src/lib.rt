@@ -2,6 +2,7 @@
 #![tactic(auto)]
 
 mod all_clients;
+mod answers;
 mod axi_port;
 mod board;
 mod clients;
@@ -16,6 +17,8 @@ mod marks;
 mod names;
 mod places;
 mod tellings;
+mod unknown;
+mod unknown_beats;
 
 use axi_checker::{AxiBeat, AxiRule};
 pub use board::Scoreboard;
@@ -81,6 +84,8 @@ pub enum ReplyRule {
     Corrupt,
     /// Its payload isn't the reply's.
     Payload,
+    /// Nobody knows a byte that it tells, and that is compared: it was x or z.
+    Unknown,
 }
 
 /// What is wrong with a beat.
@@ -96,4 +101,8 @@ pub enum Wrong {
     Axi(AxiRule),
     /// A burst goes to an AXI page to which no region leads (this project's profile).
     Place,
+    /// Nobody knows a byte that a beat on channel A gives: it was x or z (this project's profile).
+    UnknownRequest,
+    /// Nobody knows a strobed byte of a W beat, or one in the lanes of an R beat's transfer (this project's profile).
+    UnknownAxi,
 }

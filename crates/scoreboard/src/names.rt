@@ -5,7 +5,7 @@ ghost use Rattle.scoreboard.specs.Names.{reply_rule_name, reply_rule_number};
 use crate::ReplyRule;
 
 impl ReplyRule {
-    /// The rule's number, from 1 to 7 (this project's profile).
+    /// The rule's number, from 1 to 8 (this project's profile).
     pub fn number(self) -> u8
         ensures { result ≡ reply_rule_number self }
     {
@@ -24,6 +24,7 @@ impl ReplyRule {
             ReplyRule::Denied => "DENIED",
             ReplyRule::Corrupt => "CORRUPT",
             ReplyRule::Payload => "PAYLOAD",
+            ReplyRule::Unknown => "X",
         }
     }
 }

@@ -1,10 +1,10 @@
 //! How much replies tell, and how much of that is looked at.
-ghost use Rattle.std.specs.Prelude.{◌≡◌, ◌≤◌, ◌-◌, true};
-ghost use Rattle.bus_words.specs.Lanes.{has_lane};
+ghost use Rattle.std.specs.Prelude.{◌≡◌, ◌<◌, ◌≤◌, ◌-◌, ℕ, true};
+ghost use Rattle.bus_words.specs.Lanes.{has_lane, mask_of};
 ghost use Rattle.tl_messages.specs.Operations.{beats_of};
 ghost use Rattle.scoreboard.specs.InTurn.{is_unknown_in};
 ghost use Rattle.scoreboard.specs.InsideBoards.{footprint_of};
-ghost use Rattle.scoreboard.specs.Telling.{bytes_compared, bytes_told, due_telling, is_sure, lanes_with, nothing_told, one_if};
+ghost use Rattle.scoreboard.specs.Telling.{bytes_compared, bytes_told, due_telling, is_compared, is_sure, is_told, lanes_with, nothing_told, one_if};
 
 use crate::Policy;
 use crate::footprint::Footprint;
@@ -19,6 +19,10 @@ pub struct Telling {
     pub told: u8,
     /// Those of them that are compared.
     pub compared: u8,
+    /// The lanes that they are in, bit k for lane k.
+    pub lanes: u8,
+    /// The payload of the beat that is due.
+    pub due: u64,
 }
 
 fn one_if(holds: bool) -> u8
@@ -81,6 +85,42 @@ fn bytes_compared(policy: Policy, footprint: &Footprint, k: u16, due: &DBeat) ->
     }
 }
 
+/// The lanes of beat `k` of a reply that tell a byte of its request.
+fn told_lanes(footprint: &Footprint, k: u16) -> u8
+    ensures { (lane : ℕ) → lane < 8 → has_lane result lane ≡ is_told (footprint_of footprint.now) k lane }
+{
+    let number = u32::from(k);
+    if number >= footprint.words() {
+        return 0;
+    }
+    footprint.lanes_in(footprint.word_at(number))
+}
+
+/// The lanes of beat `k` of a reply that tell a determined byte.
+fn determined_lanes(footprint: &Footprint, k: u16) -> u8
+    ensures { (lane : ℕ) → lane < 8 → has_lane result lane ≡ is_sure (footprint_of footprint.now) k lane }
+{
+    let number = u32::from(k);
+    if !footprint.reads() || number >= footprint.words() {
+        return 0;
+    }
+    footprint.determined_in(footprint.word_at(number))
+}
+
+/// The lanes of beat `k` of a reply that are compared.
+fn lanes_compared(policy: Policy, footprint: &Footprint, k: u16, due: &DBeat) -> u8
+    ensures { result ≡ mask_of (is_compared policy (footprint_of footprint.now) k due.now) }
+{
+    if due.corrupt {
+        return 0;
+    }
+    match policy {
+        Policy::AcceptanceOrder => told_lanes(footprint, k) & !unknown_lanes(footprint, k, due),
+        Policy::RealTime if footprint.failed() => 0,
+        Policy::RealTime => determined_lanes(footprint, k),
+    }
+}
+
 impl Telling {
     /// That of a beat that tells nothing.
     pub(crate) fn nothing() -> Telling
@@ -89,6 +129,8 @@ impl Telling {
         Telling {
             told: 0,
             compared: 0,
+            lanes: 0,
+            due: 0,
         }
     }
 
@@ -103,6 +145,8 @@ impl Telling {
         Telling {
             told: bytes_told(due.size),
             compared: bytes_compared(policy, footprint, k, due),
+            lanes: lanes_compared(policy, footprint, k, due),
+            due: due.payload,
         }
     }
 }

@@ -1,6 +1,6 @@
 //! A board of each policy: what a text doesn't ask of it.
 use super::{ACK, DATA, GET, PUT, REGION, SEEN, board_set_up, same};
-use axi_beats::{ArBeat, AwBeat};
+use axi_beats::{ArBeat, AwBeat, WBeat};
 use axi_checker::{AxiBeat, AxiRule};
 use burst_plan::{MapFault, Region};
 use scoreboard::{
@@ -125,6 +125,55 @@ fn bytes_that_nobody_knows(rt: HostRuntime) -> Result<(), Fail> {
     let mut board = Scoreboard::new(rt.alloc(), Policy::RealTime, Errors::Strict, &setup)?;
     for (place, (seen, wrong)) in TOLD.iter().enumerate() {
         same(&rt, place, board.judge(seen)?, *wrong);
+    }
+    Ok(())
+}
+
+/// Beats, the lanes that nobody knows, and what is wrong: an acknowledgement and a Get have no byte that is looked at; the byte that the
+/// Put gives so isn't compared; and of W the strobed lanes alone are looked at.
+const UNKNOWN: [(ObservedBeat, u8, Option<Wrong>); 10] = [
+    (ObservedBeat::A(0, PUT), 0x10, Some(Wrong::UnknownRequest)),
+    (ObservedBeat::D(0, ACK), 0xff, None),
+    (ObservedBeat::A(1, GET), 0xff, None),
+    (ObservedBeat::D(1, DOUBTED), 0x0f, None),
+    (ObservedBeat::A(1, GET), 0, None),
+    (
+        ObservedBeat::D(1, DATA),
+        0x20,
+        Some(Wrong::Reply(ReplyRule::Unknown, Some(DATA))),
+    ),
+    (ObservedBeat::Axi(AxiBeat::Aw(WRITE)), 0, None),
+    (ObservedBeat::Axi(AxiBeat::W(HALF)), 0xf0, None),
+    (ObservedBeat::Axi(AxiBeat::Aw(WRITE)), 0, None),
+    (
+        ObservedBeat::Axi(AxiBeat::W(HALF)),
+        0x08,
+        Some(Wrong::UnknownAxi),
+    ),
+];
+
+/// What the Put gives, but for the byte that nobody knows.
+const DOUBTED: DBeat = DBeat {
+    payload: 0x1122_33ff_0000_0000,
+    ..DATA
+};
+
+/// Write data with the lower half strobed.
+const HALF: WBeat = WBeat {
+    payload: 0,
+    strobes: 0x0f,
+    last: true,
+};
+
+#[test]
+fn lanes_that_nobody_knows(rt: HostRuntime) -> Result<(), Fail> {
+    let setup = board_set_up(REGION).expect(&rt, "room");
+    for policy in POLICIES {
+        let mut board = Scoreboard::new(rt.alloc(), policy, Errors::Strict, &setup)?;
+        for (place, (seen, lanes, wrong)) in UNKNOWN.iter().enumerate() {
+            let got = board.judge_unknown(seen, *lanes)?;
+            same(&rt, (policy, place), got, *wrong);
+        }
     }
     Ok(())
 }

@@ -96,6 +96,13 @@ given_inside held address x is = elim (cases_lt x address) [
     none : given_at (bytes_given held) address x ≡ None → ⊥
     none out = true≢false (sym is ∙ ap is_some out)
 
+-- it has as many beats as words
+pub beats_words : (held : HeldMessage) → IsCheckedRequest held → has_data held.operation ≡ true → length held.beats ≡ words_of held.size
+beats_words held checked carries = let count : length held.beats ≡ beats_of held.size true = checked.2.beats ∙ ap (beats_of held.size) carries in omega (arith, count)
+
+pub enough_beats : (held : HeldMessage) (k : ℕ) → IsCheckedRequest held → has_data held.operation ≡ true → k < words_of held.size → k < length held.beats
+enough_beats held k checked carries below = omega (arith, beats_words held checked carries, below)
+
 given_if : (b : Bool) (n : ℕ) → b ≡ is_some (if b then Some n else None)
 given_if true n = refl
 given_if false n = refl

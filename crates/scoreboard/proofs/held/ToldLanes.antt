@@ -27,7 +27,7 @@ pub none_sure : (r : FootprintState) (k : ℕ) → r.reads ≡ false → 0 ≡ l
 none_sure r k reads = no_lanes (is_sure (footprint_of r) k) (λ lane below. rw reads refl)
 
 -- and none does past its last word
-and_false : (a : Bool) → (a && false) ≡ false
+pub and_false : (a : Bool) → (a && false) ≡ false
 and_false a = search arith
 
 pub none_sure_past : (r : FootprintState) (k : ℕ) → IsMemoryRange r.address r.size → words_of r.size ≤ k → 0 ≡ lanes_with (is_sure (footprint_of r) k)

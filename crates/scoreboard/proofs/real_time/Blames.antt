@@ -31,7 +31,7 @@ use Rattle.scoreboard.specs.declared.ReplyRule.TheVariants.{Unasked}
 use Rattle.scoreboard.specs.declared.ObservedBeat.{ObservedBeat}
 use Rattle.scoreboard.specs.declared.ObservedBeat.TheVariants.{A, D, Axi as OnAxi, Drained}
 use Rattle.scoreboard.specs.declared.Wrong.{Wrong}
-use Rattle.scoreboard.specs.declared.Wrong.TheVariants.{Axi, NoClient, Place as WrongPlace, Reply, Request}
+use Rattle.scoreboard.specs.declared.Wrong.TheVariants.{Axi, NoClient, Place as WrongPlace, Reply, Request, UnknownAxi, UnknownRequest}
 use Rattle.scoreboard.proofs.real_time.Ahead.{HasBeside, NoneFated, Shadow, comes, front_in, none_given, shadow_of}
 use Rattle.scoreboard.proofs.real_time.AlikeBeats.{left_alike}
 use Rattle.scoreboard.proofs.real_time.Entries.{Each, IsLive, Stands, carry, run}
@@ -618,6 +618,8 @@ wrong_as_in setup start order asked (Request broken) is none = absurd is
 wrong_as_in setup start order asked (Reply broken due) is none = absurd (cc (sym is.1 ∙ none))
 wrong_as_in setup start order asked (Axi broken) is none = absurd is
 wrong_as_in setup start order asked WrongPlace is none = absurd is
+wrong_as_in setup start order asked UnknownRequest is none = absurd is
+wrong_as_in setup start order asked UnknownAxi is none = absurd is
 
 pub run_all : (setup : SetupLists) (order : Order) (m : Bytes)
     → bytes_after_all (faults_of setup) setup.regions (map (λ entry. entry.request) order) m ≡ run (faults_of setup) setup.regions m order

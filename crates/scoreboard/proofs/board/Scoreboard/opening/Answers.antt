@@ -31,20 +31,24 @@ invariant_of-result c =
     )
 
 pub returns : goal.returns
-returns c = (
-  ap {B = Board} (λ (b : Board). record b { errors = c.args.errors })
-      (board_opens (ranges_of c.args.setup.now)
-      (record {
-        policy = c.args.policy;
-        errors = Strict;
-        clients = c.in_ok-clients.clients.items;
-        memory = c.in_ok-serial.serial;
-        axi = c.in_ok-axi.axi;
-        request = c.in_ok-request.request;
-        joining = c.in_ok-joining.joining;
-      })
-      c.in_ok-clients.ensures.0
-      (c.in_ok-serial.ensures.memory ∙ rw (c.in-Ok.ensures.ok, c.as_slice.ensures.value, c.as_slice-2.ensures.value, c.as_slice-3.ensures.value) refl)
-      (c.in_ok-serial.ensures.doubts ∙ rw c.as_slice-2.ensures.value refl) (cc c.in_ok-axi.ensures)),
-  refl,
-)
+returns c = record {
+  opens = (
+    ap {B = Board} (λ (b : Board). record b { errors = c.args.errors })
+        (board_opens (ranges_of c.args.setup.now)
+        (record {
+          policy = c.args.policy;
+          errors = Strict;
+          clients = c.in_ok-clients.clients.items;
+          memory = c.in_ok-serial.serial;
+          axi = c.in_ok-axi.axi;
+          request = c.in_ok-request.request;
+          joining = c.in_ok-joining.joining;
+          unknown = c.in_ok-unknown.unknown.items;
+        })
+        c.in_ok-clients.ensures.0
+        (c.in_ok-serial.ensures.memory ∙ rw (c.in-Ok.ensures.ok, c.as_slice.ensures.value, c.as_slice-2.ensures.value, c.as_slice-3.ensures.value) refl)
+        (c.in_ok-serial.ensures.doubts ∙ rw c.as_slice-2.ensures.value refl) (cc c.in_ok-axi.ensures)),
+    refl,
+  );
+  unknown = c.in_ok-unknown.ensures;
+}

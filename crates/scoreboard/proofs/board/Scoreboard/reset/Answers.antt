@@ -13,10 +13,10 @@ use Rattle.scoreboard.proofs.held.BoardSteps.{reset_kept}
 use Rattle.scoreboard.proofs.real_time.ResetsRightly.{resets_rightly}
 use Rattle.scoreboard.proofs.board.Scoreboard.reset.Goals as goal
 
-held : (c : goal.After-clear) → (with_items c.self.inside.clients c.reset.new.clients).items ≡ c.reset.new.clients
+held : (c : goal.After-self-2-1) → (with_items c.self.inside.clients c.reset.new.clients).items ≡ c.reset.new.clients
 held c = with_items_is c.self.inside.clients c.reset.new.clients (search (rules, places))
 
-begun_anew : (c : goal.After-clear) → map client_of c.reset.new.clients ≡ map reset_client (map client_of c.self.inside.clients.items)
+begun_anew : (c : goal.After-self-2-1) → map client_of c.reset.new.clients ≡ map reset_client (map client_of c.self.inside.clients.items)
 begun_anew c = c.reset.ensures.clients ∙ ap (λ (cs : List ClientState). map reset_client (map client_of cs)) c.deref_mut.ensures.value
 
 pub invariant_of-self : goal.invariant_of-self

@@ -9,15 +9,16 @@ use Rattle.tl_checker.specs.declared.Progress.{Progress}
 use Rattle.tl_checker.specs.declared.Progress.TheVariants.{More, Whole}
 use Rattle.tl_checker.specs.declared.TlRule.{TlRule}
 use Rattle.serial_memory.specs.SerialMemory.{MemoryState}
-use Rattle.scoreboard.specs.Boards.{Board, ClientBoard, a_wrong, accepted_on, answer_to, continued_on, with_client}
-use Rattle.scoreboard.specs.InsideBoards.{BoardState, ClientState, HasRoomForBeat, board_of, client_of, front_after}
+use Rattle.scoreboard.specs.Boards.{Board, ClientBoard, accepted_on, answer_to, continued_on, with_client}
+use Rattle.scoreboard.specs.InsideBoards.{BoardState, ClientState, HasRoomForBeat, board_of, client_of, front_after, request_taken, taken_by}
 use Rattle.scoreboard.specs.declared.Errors.{Errors}
 use Rattle.scoreboard.specs.declared.Policy.{Policy}
 use Rattle.scoreboard.specs.declared.Policy.TheVariants.{RealTime}
 use Rattle.scoreboard.proofs.held.BoardSteps.{client_there, there_at}
-use Rattle.scoreboard.proofs.held.RequestAnswered.{state_as, with_front, wrong_as}
-use Rattle.scoreboard.proofs.board.Scoreboard.judge_request.Goals.{After-take_beat}
-use Rattle.scoreboard.proofs.board.Scoreboard.judge_request.Goals as goal
+use Rattle.scoreboard.proofs.held.RequestAnswered.{state_as, with_front}
+use Rattle.scoreboard.proofs.held.Taken.{taken_beside}
+use Rattle.scoreboard.proofs.board.Scoreboard.take_request.Goals.{After-take_beat}
+use Rattle.scoreboard.proofs.board.Scoreboard.take_request.Goals as goal
 
 none_begun : (front : Option HeldMessage) → is_some front ≡ false → front ≡ None
 none_begun None is = refl
@@ -41,8 +42,8 @@ module _ (c : After-take_beat) where
   told : answer_to c.args.self.now.policy found c.args.beat.now ≡ Ok c.in-Ok.progress
   told = sym (c.judge.ensures ∙ ap (λ (b : BoardState). answer_to b.policy found c.args.beat.now) c.self.view_is) ∙ c.in-Ok.is
 
-  not_wrong : None ≡ a_wrong c.args.self.now.policy (slice_get old.clients c.from-number.result) c.args.beat.now
-  not_wrong = wrong_as c.args.self.now.policy old c.from-number.result found c.args.beat.now there (Ok c.in-Ok.progress) (sym told)
+  taken : request_taken c.args.self.now.policy (slice_get old.clients c.from-number.result) c.args.beat.now ≡ Ok c.in-Ok.progress
+  taken = ap (λ (client : Option ClientBoard). request_taken c.args.self.now.policy client c.args.beat.now) there ∙ ap taken_by told
 
   -- it is there where room was made
   there_still : slice_get (board_of c.make_room.new.self).clients c.from-number.result ≡ Some found
@@ -87,7 +88,7 @@ go_on-requires-clause-room c real_time =
     room at (inr (sym (same_policy at) ∙ real_time))
 
 pub returns-in-More-clause-answer : goal.returns-in-More-clause-answer
-returns-in-More-clause-answer c = rw (← c.from-number.ensures) (not_wrong (goal.at.returns-in-More-clause-answer c).After-take_beat)
+returns-in-More-clause-answer c = rw (← c.from-number.ensures) (sym (taken (goal.at.returns-in-More-clause-answer c).After-take_beat))
 
 pub returns-in-More-clause-state : goal.returns-in-More-clause-state
 returns-in-More-clause-state c =
@@ -113,7 +114,16 @@ pub accept-requires-clause-room : goal.accept-requires-clause-room
 accept-requires-clause-room c = room (goal.at.accept-requires-clause-room c).After-take_beat (inl c.in-Whole.is) c.take_beat.new.self.request (c.take_beat.ensures.asked c.in-Whole.is)
 
 pub returns-in-Whole-clause-answer : goal.returns-in-Whole-clause-answer
-returns-in-Whole-clause-answer c = rw (← c.from-number.ensures) (not_wrong (goal.at.returns-in-Whole-clause-answer c).After-take_beat)
+returns-in-Whole-clause-answer c = rw (← c.from-number.ensures) (sym (taken (goal.at.returns-in-Whole-clause-answer c).After-take_beat))
+
+pub returns-in-Whole-clause-whole : goal.returns-in-Whole-clause-whole
+returns-in-Whole-clause-whole c is =
+    let at = (goal.at.returns-in-Whole-clause-whole c).After-take_beat in
+    taken_beside c.take_beat.new.self c.accept.new.self c.accept.ensures.rest
+    (record {
+      checked = c.take_beat.ensures.checked c.in-Whole.is;
+      room = room at (inl c.in-Whole.is) c.take_beat.new.self.request (c.take_beat.ensures.asked c.in-Whole.is);
+    })
 
 pub returns-in-Whole-clause-state : goal.returns-in-Whole-clause-state
 returns-in-Whole-clause-state c =

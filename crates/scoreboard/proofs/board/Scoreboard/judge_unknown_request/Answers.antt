@@ -1,0 +1,38 @@
+-- Its port answers, and what it gives is kept.
+use Rattle.std.proofs.Common.{ℕ, Ok, ap, ap₂, sym, ◌∙◌}
+use Rattle.std.specs.Prelude.{slice_get}
+use Rattle.tl_messages.specs.Requests.{request_of}
+use Rattle.tl_checker.specs.declared.Progress.{Progress}
+use Rattle.scoreboard.specs.InsideBoards.{board_of, unknown_board}
+use Rattle.scoreboard.specs.Unknown.{doubted_on, with_given}
+use Rattle.scoreboard.proofs.held.RequestKept.{IsTakenBy, kept_after}
+use Rattle.scoreboard.proofs.board.Scoreboard.judge_unknown_request.Goals.{After-keep}
+use Rattle.scoreboard.proofs.board.Scoreboard.judge_unknown_request.Goals as goal
+
+module _ (c : After-keep) where
+  taken : IsTakenBy c.args.self.now.policy (unknown_board c.args.self.now) c.take_request.new.self c.keep.new.self c.args.client c.args.beat.now c.args.lanes c.in-Ok.progress
+      (slice_get (board_of c.args.self.now).clients c.args.client)
+  taken =
+      let mid = c.take_request.new.self in
+      record {
+        answer = sym c.in-Ok.is ∙ c.in_ok-progress.ensures.answer;
+        board = c.in_ok-progress.ensures.state;
+        unknown = c.take_request.ensures.unknown;
+        request = λ client there whole. c.in_ok-progress.ensures.request (c.in-Ok.is ∙ ap (λ (progress : Progress). Ok progress) whole) client there;
+        more = λ is.
+            c.keep.ensures.more is
+            ∙ ap₂ (λ (n g : ℕ). record (unknown_board mid) { lanes = with_given mid.unknown n g }) c.from.ensures c.unknown_given-given.ensures;
+        whole = λ is.
+            c.keep.ensures.whole is
+            ∙ ap₂ (λ (n g : ℕ). doubted_on (record (unknown_board mid) { lanes = with_given mid.unknown n g }) n (request_of mid.request)) c.from.ensures c.unknown_given-given.ensures;
+      }
+
+pub returns-then-not-gives_unknown-clause-state : goal.returns-then-not-gives_unknown-clause-state
+returns-then-not-gives_unknown-clause-state c =
+    kept_after c.args.self.now.policy (unknown_board c.args.self.now) c.take_request.new.self c.keep.new.self c.args.client c.args.beat.now c.args.lanes c.in-Ok.progress
+    (slice_get (board_of c.args.self.now).clients c.args.client) (taken (goal.at.returns-then-not-gives_unknown-clause-state c).After-keep)
+
+pub returns-clause-state : goal.returns-clause-state
+returns-clause-state c =
+    kept_after c.args.self.now.policy (unknown_board c.args.self.now) c.take_request.new.self c.keep.new.self c.args.client c.args.beat.now c.args.lanes c.in-Ok.progress
+    (slice_get (board_of c.args.self.now).clients c.args.client) (taken (goal.at.returns-clause-state c).After-keep)
