@@ -1,5 +1,5 @@
-"""Simulates the bridge of this folder in front of each memory, as it is, and with each of twelve faults planted, and has tlscore judge
-what the monitor saw.
+"""Simulates the bridge of this folder in front of each memory, as it is, and with each of thirteen faults planted, and has tlscore
+judge what the monitor saw.
 
     python3 examples/testbench/rtl/run.py [--runs N] [--first SEED] [--jobs N] [--simulator NAME] [--score PROGRAM]
                                           [--profile NAME] [--errors HOW] [--pages KIND] [--bridge NAME] [--habit NAME] [--calm]
@@ -12,7 +12,8 @@ exactly where the right bridge is never blamed and each fault is told in some ru
 know, with 3 where a simulator or tlscore can't do its work, and with 4 where there is no simulator. --bridge streaming_bridge has
 another one judged, which tells errors in its own way: it asks for --profile tilelink --errors any, or with --calm for the first alone.
 By --errors any, without --calm, the memory whose good pages fail by lot is among them. By --pages any each memory begins with bytes
-by lot, which nobody tells tlscore. By --resets N all of a testbench is reset N times in each run, but for the memory's bytes.
+by lot, which nobody tells tlscore, and by --pages unknown with x. By --resets N all of a testbench is reset N times in each run, but
+for the memory's bytes. What x alone shows is left out where the simulator is Verilator, which has two states, and that is said.
 
 --right has both bridges judged as they are, each by what it promises, N runs in all, and prints a table of them.
 """
@@ -36,16 +37,18 @@ HERE = Path(__file__).resolve().parent
 SETUP = (HERE / "setup.lines").read_text()
 FILES = ("testbench.sv", "client.sv", "bridge.sv", "streaming_bridge.sv", "fifo.sv", "memory.sv", "monitor.sv")
 SIMULATORS = ("iverilog", "verilator")
+HAVE_X = ("iverilog",)  # simulators of four states
 BRIDGES = ("bridge", "streaming_bridge")
 PROFILES = ("bridge", "tilelink")
 ERRORS = ("strict", "any")
-PAGES = {"good": "ZEROS", "any": "NOISE"}  # by the kind of the pages what the memory begins with
+PAGES = {"good": "ZEROS", "any": "NOISE", "unknown": "UNKNOWN"}  # by the kind of the pages what the memory begins with
 HABITS = ("EARLY", "QUIET")  # of the streaming bridge
 MEMORIES = ("ANY_ORDER", "IN_ORDER", "AS_BEATS_COME", "SLOW")
 FAILING = "FAILING"  # bursts to good pages fail by lot, which no set-up can say: for errors any alone
 RIGHT = "NONE"
 BUGS = ("LANE_SWAPPED", "STROBE_LOST", "OTHER_SOURCE", "REPLY_TWICE", "WLAST_EARLY", "PAGE_CROSSED", "REGION_UNASKED")
-BUGS += ("FIRST_MASK", "ANSWERED_EARLY", "CUT_SHORT", "REPLY_LOST", "BEAT_DROPPED")
+BUGS += ("FIRST_MASK", "ANSWERED_EARLY", "CUT_SHORT", "REPLY_LOST", "BEAT_DROPPED", "UNKNOWN_READ")
+SHOWN_BY_X = ("UNKNOWN_READ",)  # faults that nothing but an x shows for certain
 WRONG = re.compile(r"^= wrong (\d+) (.*?)(?: expected .*?)?(?: at (\d+))?$", re.MULTILINE)
 ENDED = re.compile(r"^= judged (\d+) wrong (\d+) outstanding (\d+) open (\d+) compared \d+ of \d+$", re.MULTILINE)
 
@@ -63,7 +66,8 @@ class Asked(NamedTuple):
 
     @property
     def setup(self):
-        return f"{SETUP.replace('good', self.pages)}profile {self.profile}\nerrors {self.errors}\n"
+        kind, x_data = ("any", "x data\n") if self.pages == "unknown" else (self.pages, "")
+        return f"{SETUP.replace('good', kind)}profile {self.profile}\nerrors {self.errors}\n{x_data}"
 
     @property
     def memories(self):
@@ -85,6 +89,10 @@ class Bench(NamedTuple):
     @property
     def name(self):
         return self.memory if self.bug == RIGHT else self.bug
+
+    @property
+    def needs_x(self):
+        return self.bug in SHOWN_BY_X or "UNKNOWN" in (self.began, PAGES[self.asked.pages])
 
     @property
     def device(self):
@@ -250,6 +258,13 @@ def plan_of(given):
     return with_resets([(bench, seeds) for bench in benches(given.bridge, asked, given.calm, given.habit)], given.resets)
 
 
+def shown_in(plan, simulator):
+    """The testbenches that a simulator can show, and the names of the others: those that need an x, where it has two states."""
+    lacks_x = simulator not in HAVE_X
+    names = [bench.name for bench, _ in plan if lacks_x and bench.needs_x]
+    return [(bench, seeds) for bench, seeds in plan if not (lacks_x and bench.needs_x)], names
+
+
 def with_resets(plan, resets):
     """The same testbenches, reset so often."""
     return [(bench._replace(resets=resets), seeds) for bench, seeds in plan]
@@ -308,7 +323,7 @@ def words():
     asked.add_argument("--first", type=int, default=1, help="the seed of the first run, from 1; the others follow (1)")
     asked.add_argument("--profile", choices=PROFILES, help="what is asked of the bridge (bridge)")
     asked.add_argument("--errors", choices=ERRORS, help="how it may tell errors; any only by profile tilelink (strict)")
-    asked.add_argument("--pages", choices=PAGES, default="good", help="any: the memory begins with bytes that nobody knows (good)")
+    asked.add_argument("--pages", choices=PAGES, default="good", help="what the memory begins with: zeros, bytes by lot, or x (good)")
     asked.add_argument("--bridge", choices=BRIDGES, help="which bridge (the one that the faults are of)")
     asked.add_argument("--habit", choices=HABITS, help="how the streaming bridge tells errors (EARLY)")
     asked.add_argument("--calm", action="store_true", help="no access fails, and no beat is corrupt")
@@ -334,13 +349,18 @@ def main():
     wanted, given.simulator = given.simulator, installed(given.simulator)
     if not given.simulator:
         return without_simulator(wanted)
+    plan, left_out = shown_in(plan_of(given), given.simulator)
+    if not plan:
+        return without_simulator(" or ".join(HAVE_X))
     print(f"{given.simulator}, seeds {given.first} to {given.first + given.runs - 1}", flush=True)
+    if left_out:
+        print(f"left out, as {given.simulator} has no x: {', '.join(dict.fromkeys(left_out))}", flush=True)
     if given.right:
         print(HEAD, flush=True)
     variants = []
     try:
         with tempfile.TemporaryDirectory() as folder:
-            for variant in tried(plan_of(given), given, Path(folder)):
+            for variant in tried(plan, given, Path(folder)):
                 variants.append(variant)
                 print(row(variant) if given.right else variant, flush=True)
     except Cannot as why:

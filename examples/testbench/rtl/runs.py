@@ -3,8 +3,9 @@ reads, the set-up, what the monitor printed, and `= end`; NAME.told is its verdi
 
     python3 examples/testbench/rtl/runs.py [--write] [--simulator NAME] [--score PROGRAM]
 
-Each run is simulated anew and compared with its lines, and its verdict with what is stored; --write stores both in their place. It
-ends with status 1 where something differs, and else as run.py does.
+Each run is simulated anew and compared with its lines, and its verdict with what is stored; --write stores both in their place. A
+run that x alone shows is simulated only where the simulator has x, and that is said. It ends with status 1 where something differs,
+and else as run.py does.
 """
 
 import argparse
@@ -37,6 +38,14 @@ class Stored(NamedTuple):
     def name(self) -> str:
         return self.bug.lower().replace("_", "-")
 
+    @property
+    def bench(self) -> run.Bench:
+        return run.Bench(run.BRIDGES[0], run.Asked(), bug=self.bug)
+
+    def is_shown_in(self, simulator: Optional[str]) -> bool:
+        """Whether a simulator makes it: one is there, and has x where the fault is shown by that."""
+        return bool(simulator) and (simulator in run.HAVE_X or not self.bench.needs_x)
+
 
 STORED = (
     Stored("LANE_SWAPPED", 3, 4),
@@ -51,13 +60,14 @@ STORED = (
     Stored("CUT_SHORT", 8, 4),
     Stored("REPLY_LOST", 2, 4),
     Stored("BEAT_DROPPED", 1, 4),
+    Stored("UNKNOWN_READ", 3, 4),
 )
 
 
 def simulated(stored: Stored, simulator: str, folder: Path) -> str:
     """What tlscore is to read of a run that is made anew."""
-    bench = run.Bench(run.BRIDGES[0], run.Asked(), bug=stored.bug)
-    its_folder, seen = Path(tempfile.mkdtemp(dir=folder)), folder / f"{stored.name}.seen"
+    bench, its_folder = stored.bench, Path(tempfile.mkdtemp(dir=folder))
+    seen = folder / f"{stored.name}.seen"
     words = run.compiled(simulator, bench, its_folder)
     run.simulated([*words, f"+seed={stored.seed}", f"+requests={stored.requests}", f"+observed={seen}"])
     return f"{bench.asked.setup}{seen.read_text()}= end\n"
@@ -71,12 +81,17 @@ def differs(path: Path, text: str, writes: bool) -> Optional[str]:
 
 
 def compared(simulator: Optional[str], score: Path, writes: bool = False):
-    """Each run's name, and what differs of it: its verdict, and where there is a simulator its lines."""
+    """Each run's name, and what differs of it: its verdict, and where the simulator makes it its lines."""
     with tempfile.TemporaryDirectory() as folder:
         for stored in STORED:
-            if simulator:
+            if stored.is_shown_in(simulator):
                 yield f"{stored.name}, simulated anew", differs(stored.lines, simulated(stored, simulator, Path(folder)), writes)
             yield f"{stored.name}, judged", differs(stored.told, run.judged(score, "", stored.lines.read_text()), writes)
+
+
+def without_x(simulator: str):
+    """The runs that a simulator doesn't make, since it has no x."""
+    return [stored for stored in STORED if not stored.is_shown_in(simulator)]
 
 
 def main() -> int:
@@ -94,6 +109,8 @@ def main() -> int:
         return 3
     for name, why in found:
         print(f"{name}: {why or 'as stored'}")
+    for stored in without_x(simulator):
+        print(f"{stored.name} wasn't simulated anew: {simulator} has no x")
     return int(any(why for _, why in found))
 
 
