@@ -6,9 +6,12 @@ from dataclasses import dataclass, field
 
 from model import GET, INTENT, LETTERS, PUT_FULL, PUT_PARTIAL, Memory, Setup
 
+from unknown import doubted, is_unclear, known, lanes_in
+
 from client import ABeat, beats_of  # model.py says where it stands
 
 WRONG = re.compile(r"(?m)^= wrong (\d+) (\w+) (\d+)")
+UNKNOWN = (None, "request 17", "axi 13")  # what a beat is called that counts all the same, where nobody knows lanes of it alone
 WITHDRAWN = ("noclient", "refused", "notready", "exhausted")
 
 
@@ -44,6 +47,7 @@ class Flight:
 @dataclass
 class Client:
     front: list = field(default_factory=list)  # what came of the message that has begun
+    unknown: list = field(default_factory=list)  # of each of these beats the lanes that nobody knows
     due: list = field(default_factory=list)
     begun: Flight = None
     coming: Footprint = field(default_factory=Footprint)
@@ -90,6 +94,7 @@ class Counts:
     def __init__(self, lines, text):
         self.wrong = {int(line): f"{kind} {rule}" for line, kind, rule in WRONG.findall(text)}
         self.told = self.compared = 0
+        self.looked, self.due = {}, {}  # of a beat of a reply, by its line: the lanes that are compared, and the beat that is due
         self.read_set_up(lines)
         self.bursts = {"W": [], "R": []}
         self.written = {}  # whether a byte is indeterminate that isn't as it was at the start
@@ -98,13 +103,14 @@ class Counts:
             words = line.split()
             if not words or words[0].startswith("#"):
                 continue
+            channel = None if is_unclear(words) else words[0]
             if held and not (words[0] == "=" and words[1] in WITHDRAWN):
                 self.take_a(*held)
             held = None
-            if words[0] == "A":
+            if channel == "A":
                 held = number, words
-            elif words[0] in ("D", "AW", "AR", "B", "R"):
-                {"D": self.take_d, "AW": self.open, "AR": self.open, "B": self.answered, "R": self.answered}[words[0]](number, words)
+            elif channel in ("D", "AW", "AR", "B", "R"):
+                {"D": self.take_d, "AW": self.open, "AR": self.open, "B": self.answered, "R": self.answered}[channel](number, words)
             elif words[:2] == ["=", "drained"]:
                 self.bursts = {"W": [], "R": []}
             elif words[:2] == ["=", "reset"]:
@@ -179,17 +185,25 @@ class Counts:
     # ---- channel A
 
     def take_a(self, number, words):
-        if number in self.wrong:
+        if self.wrong.get(number) not in UNKNOWN:
             return
         client = self.clients[int(words[1])]
-        client.front.append(ABeat(*(int(it, 16 if at in (6, 7, 8) else 10) for at, it in enumerate(words[2:], 2))))
+        client.unknown.append(lanes_in(words))
+        client.front.append(ABeat(*(int(it, 16 if at in (6, 7, 8) else 10) for at, it in enumerate(known(words)[2:], 2))))
         beats, first = client.front, client.front[0]
         if len(beats) < beats_of(first.size, first.opcode < GET):
             if self.real_time:
                 self.go_on(client, beats)
             return
-        client.front = []
+        unknown, client.front, client.unknown = client.unknown, [], []
         self.accept(int(words[1]), client, beats)
+        self.doubt(beats, unknown)
+
+    def doubt(self, beats, unknown):
+        """A request was carried out: what it gives that nobody knows is indeterminate."""
+        at = self.place(beats)
+        for k, lanes in enumerate(doubted(beats, unknown) if at is not None else ()):
+            self.written.update(dict.fromkeys(((at & ~7) + 8 * k + lane for lane in lanes), True))
 
     def go_on(self, client, beats):
         if len(beats) > 1:
@@ -261,7 +275,7 @@ class Counts:
             if client.early == source:
                 client.early = None
             return
-        self.count(flight)
+        self.count(number, flight)
         if client.begun and due and client.begun.source != source:  # it ended early, and is over with the first beat of another
             client.begun, flight = None, due
         if client.begun is None:
@@ -272,18 +286,19 @@ class Counts:
         if not flight.reply:
             client.begun = None
 
-    def count(self, flight):
+    def count(self, number, flight):
         """How much the next beat of a reply tells, and how much of that is compared."""
         due, footprint = flight.reply[0], flight.footprint
+        self.looked[number], self.due[number] = set(), due
         if due.opcode != 1:
             return
         k = beats_of(footprint.size, True) - len(flight.reply)
         told = [it for it in footprint.span if (it >> 3) - (footprint.at >> 3) == k]
         self.told += len(told)
-        if not self.real_time:
-            self.compared += len([it for it in told if due.corrupt or not (footprint.reads and it not in footprint.sure)])
-        elif not due.corrupt and not footprint.failed:
-            self.compared += len([it for it in told if it in footprint.sure])
+        known_ones = [it for it in told if it in footprint.sure or not (footprint.reads or self.real_time)]
+        if not due.corrupt and not (self.real_time and footprint.failed):
+            self.looked[number] = {it % 8 for it in known_ones}
+        self.compared += len(told) if due.corrupt and not self.real_time else len(self.looked[number])
 
     # ---- the AXI4 port
 
@@ -299,7 +314,7 @@ class Counts:
         return 2**size <= self.width and id < self.setup.ids and [it[0] for it in bursts].count(id) < 2 * self.setup.depth
 
     def answered(self, number, words):
-        if number in self.wrong:
+        if self.wrong.get(number) not in UNKNOWN:
             return
         bursts, resp = self.bursts["W" if words[0] == "B" else "R"], words[2 if words[0] == "B" else 3]
         burst = next(it for it in bursts if it[0] == int(words[1]))

@@ -1,10 +1,13 @@
 """Whether what was observed at the ports of a bridge can be right, said of whole lists and found by search: what docs/RULES.md
-says of each port, and that replies are those of the accepted requests, carried out whole, one at a time, in order of acceptance.
+says of each port, and that replies are those of the accepted requests, carried out whole, one at a time, in order of acceptance;
+and that nobody knows some lanes of a beat where they tell something.
 It keeps every reading of what each client was told that is still possible; where none is left, the beat can't be right."""
 
 from dataclasses import dataclass, field, replace
 
 from model import GET, INTENT, LOGICAL, PUT_FULL, PUT_PARTIAL, Memory
+
+from unknown import doubted, given_lanes, lanes_of_mask
 
 from client import beats_of  # model.py says where it stands
 from random_bench import full_mask
@@ -40,20 +43,23 @@ class Told:
         others = Told(self.due - {self.begun})
         return [others.step(it, replies) for it in others.due if replies[it][0].source == source]
 
-    def after(self, beat, replies, hidden):
-        """The readings that a beat on channel D leaves, where these bits of each reply aren't known."""
-        return (self.step(it, replies) for it in self.open() if is_shown(replies[it][self.came], beat, hidden[it][self.came]))
+    def shown(self, beat, replies, hidden, lanes):
+        """The requests of whose reply a beat on channel D may be the next, where nobody knows what is hidden of each reply, nor these lanes of
+        the beat."""
+        return [it for it in self.open() if is_shown(replies[it][self.came], beat, hidden[it][self.came] | lanes)]
 
 
 def is_shown(due, beat, hidden):
-    """Whether a beat is the one that is due, but for these bits of its payload."""
-    return replace(due, payload=due.payload & ~hidden) == replace(beat, payload=beat.payload & ~hidden)
+    """Whether a beat is the one that is due, but for these lanes of its payload."""
+    bits = sum(0xFF << 8 * lane for lane in hidden)
+    return replace(due, payload=due.payload & ~bits) == replace(beat, payload=beat.payload & ~bits)
 
 
 @dataclass
 class Client:
     level: str
     message: tuple = ()  # what came of the message that has begun
+    unknown: tuple = ()  # of each of these beats the lanes that nobody knows
     readings: frozenset = frozenset({Told(frozenset())})
 
     def sources(self, reading, replies):
@@ -98,11 +104,13 @@ class Observation:
         self.setup, self.memory = setup, Memory(setup)
         self.clients = [Client(it) for it in levels]
         self.replies = []  # of each accepted request
-        self.hidden = []  # the bits of their beats that aren't known
+        self.hidden = []  # the lanes of their beats that tell what isn't known
+        self.looked = []  # the lanes of their beats that are compared
         self.writes_at = []  # the bytes that each may write
         self.doubts = set()  # the bytes that aren't known
         self.writes, self.reads = Side(), Side()
         self.taken = 0
+        self.is_unknown = False  # whether the last beat would be right, if nobody knew everything of it
 
     def drained(self):
         """AXI4 beats went unseen, the last of every burst among them: both sides are as at the start."""
@@ -112,17 +120,28 @@ class Observation:
         """What had begun is gone, and nobody knows what a request in flight may have written."""
         for it in self.clients:
             self.doubts.update(*(self.writes_at[number] for told in it.readings for number in told.due))
-            it.message, it.readings = (), frozenset({Told(frozenset())})
+            it.message, it.unknown, it.readings = (), (), frozenset({Told(frozenset())})
         self.drained()
 
-    def is_right(self, channel, beat, client=None):
-        """Takes a beat, and answers whether it can be right."""
+    def is_right(self, channel, beat, client=None, lanes=frozenset()):
+        """Takes a beat of which nobody knows these lanes of the payload, and answers whether it can be right."""
         self.taken += 1
+        self.is_unknown = False
+        if channel in "AD" and client >= len(self.clients):
+            return False
         if channel in "AD":
-            if client >= len(self.clients):
-                return False
-            return (self.asks if channel == "A" else self.tells)(self.clients[client], client, beat)
-        return {"AW": self.aw, "AR": self.ar, "W": self.w, "B": self.b, "R": self.r}[channel](*beat)
+            is_right, looked = (self.asks if channel == "A" else self.tells)(self.clients[client], client, beat, lanes)
+        elif channel in "WR":
+            is_right, looked = (self.w if channel == "W" else self.r)(*beat)
+        else:
+            is_right, looked = {"AW": self.aw, "AR": self.ar, "B": self.b}[channel](*beat), set()
+        self.is_unknown = is_right and bool(looked & lanes)
+        return is_right and not self.is_unknown
+
+    def is_unclear(self):
+        """Takes a beat of which nobody knows a field but the payload: nothing comes of it."""
+        self.taken += 1
+        self.is_unknown = True
 
     def outstanding(self):
         return sum(len(next(iter(it.readings)).due) for it in self.clients)
@@ -132,44 +151,50 @@ class Observation:
 
     # ---- channels A and D
 
-    def asks(self, it, client, beat):
+    # Each of them answers whether a beat is right as far as it is known, and the lanes that are looked at then.
+
+    def asks(self, it, client, beat, lanes):
         message = (*it.message, beat)
         if not is_spelled(message, it.level, self.setup.largest):
-            return False
+            return False, set()
         if not it.message:
             free = frozenset(told for told in it.readings if beat.source not in it.sources(told, self.replies))
             if not free:
-                return False
+                return False, set()
             it.readings = free
-        it.message = message
+        it.message, it.unknown = message, (*it.unknown, lanes)
         if len(message) == beats_of(beat.size, beat.opcode < GET):
-            it.message = ()
             number = len(self.replies)
-            self.accept(client, message)
+            self.accept(client, message, it.unknown)
+            it.message, it.unknown = (), ()
             it.readings = frozenset(replace(told, due=told.due | {number}) for told in it.readings)
-        return True
+        return True, given_lanes(beat.opcode, beat.mask)
 
-    def accept(self, client, message):
-        """Carries out a request. What an atomic makes of bytes that aren't known isn't known, and what a Put gives is."""
+    def accept(self, client, message, lanes):
+        """Carries out a request. What an atomic makes of bytes that aren't known isn't known, and what a Put gives is, but in these lanes of
+        its beats."""
         first, at = message[0], self.setup.place(message)
         is_put, reads_alone = first.opcode in (PUT_FULL, PUT_PARTIAL), first.opcode in (GET, INTENT)
         span = range(at, at + 2**first.size) if at is not None and self.setup.pages.get(at >> 12) == "good" else range(0)
         unknown = set() if is_put else self.doubts & set(span)
         reply = self.memory.carry_out(client, message)
         self.replies.append(reply)
-        self.hidden.append([hidden_of(due, k, unknown, span) for k, due in enumerate(reply)])
+        self.hidden.append([lanes_at(due, k, unknown, span) for k, due in enumerate(reply)])
+        self.looked.append([lanes_at(due, k, set(span) - unknown, span) for k, due in enumerate(reply)])
         self.writes_at.append(set() if reads_alone else set(span))
         given = set() if reads_alone else {x for x in span if not is_put or message[x // 8 - span[0] // 8].mask >> x % 8 & 1}
         self.doubts = self.doubts | given if unknown else self.doubts - given
+        if span:
+            self.doubts |= {(at & ~7) + 8 * k + lane for k, unsure in enumerate(doubted(message, lanes)) for lane in unsure}
 
-    def tells(self, it, client, beat):
-        readings = frozenset(after for told in it.readings for after in told.after(beat, self.replies, self.hidden))
-        if readings:
-            it.readings = readings
-            return True
+    def tells(self, it, client, beat, lanes):
+        shown = [(told, number) for told in it.readings for number in told.shown(beat, self.replies, self.hidden, lanes)]
+        if shown:
+            it.readings = frozenset(told.step(number, self.replies) for told, number in shown)
+            return True, set.union(*(self.looked[number][told.came] for told, number in shown))
         counted = (after for told in it.readings for after in told.with_wrong(beat.source, self.replies))
         it.readings = frozenset(counted) or it.readings
-        return False
+        return False, set()
 
     # ---- the AXI4 port
 
@@ -190,11 +215,11 @@ class Observation:
     def w(self, strobes, last):
         burst = next((it for it in self.writes.bursts if it.came <= it.len), None)
         if burst is None:
-            return False
+            return False, set()
         _, _, lanes = burst.transfer(self.setup.width)
         is_right = not strobes & ~lanes and bool(last) == burst.is_last()
         burst.came += 1
-        return is_right
+        return is_right, lanes_of_mask(strobes)
 
     def b(self, id, resp):
         mine = self.writes.of_id(id)
@@ -206,18 +231,19 @@ class Observation:
     def r(self, id, resp, last):
         mine = self.reads.of_id(id)
         if id >= self.setup.ids or not mine or bool(last) != mine[0].is_last() or resp not in RESPONSES:
-            return False
+            return False, set()
+        _, _, lanes = mine[0].transfer(self.setup.width)
         mine[0].came += 1
         if mine[0].came > mine[0].len:
             self.reads.bursts.remove(mine[0])
-        return True
+        return True, lanes_of_mask(lanes)
 
 
-def hidden_of(due, k, unknown, span):
-    """The bits of beat k of a reply that tell of bytes that aren't known."""
+def lanes_at(due, k, told, span):
+    """The lanes of beat k of a reply that tell these bytes."""
     if due.opcode != 1 or due.corrupt:
-        return 0
-    return sum(0xFF << 8 * (x % 8) for x in unknown if x // 8 - span[0] // 8 == k)
+        return set()
+    return {x % 8 for x in told if x // 8 - span[0] // 8 == k}
 
 
 def is_spelled(message, level, largest):

@@ -17,6 +17,7 @@ from pathlib import Path
 from compared import Counts
 from model import GET, LOGICAL, PUT_PARTIAL, Setup
 from observed import WITHDRAWN, Observation
+from unknown import DIGITS, PAYLOADS, is_unclear, known, lanes_in, with_unknown
 
 from client import ABeat, DBeat, beats_of  # model.py says where it stands
 from random_bench import full_mask
@@ -52,8 +53,16 @@ def setup_of(lines):
     return setup, limits[6], count
 
 
+def taken(board, words):
+    """Has an observation take the beat of a line, and answers whether it can be right."""
+    if is_unclear(words):
+        board.is_unclear()
+        return False
+    return board.is_right(*beat_of(known(words)), lanes_in(words))
+
+
 def beat_of(words):
-    """Channel, client and beat of a line."""
+    """Channel, beat and client of a line."""
     channel, rest = words[0], words[1:]
     values = [int(it, 16) if at + 1 in HEX[channel] else it if it in RESPONSES else int(it) for at, it in enumerate(rest)]
     if channel == "A":
@@ -67,15 +76,27 @@ def beat_of(words):
     return channel, values, None
 
 
+def kind_of(board, words):
+    """The kind of a beat that was found wrong, and whether all that is wrong is that nobody knows some of it."""
+    if board.is_unknown:
+        return KINDS[words[0]], True
+    return "client" if words[0] in "AD" and int(words[1]) >= board.setup.clients else KINDS[words[0]], False
+
+
+def counts_in(lines, wrong):
+    """How many bytes are compared, and how many told, where these lines are wrong."""
+    names = ((number, kind, {"request": 17, "axi": 13}.get(kind, 8) if lacks else 0) for number, kind, lacks in wrong)
+    return Counts(lines, "\n".join(f"= wrong {number} {kind} {rule}" for number, kind, rule in names))
+
+
 def judged(lines):
     """Which lines are wrong and of which kind, and the counts of the last line."""
     setup, levels, first = setup_of(lines)
     board, wrong, held = Observation(setup, levels), [], None
 
     def take(number, words):
-        channel, beat, client = beat_of(words)
-        if not board.is_right(channel, beat, client):
-            wrong.append((number, "client" if client is not None and client >= setup.clients else KINDS[channel]))
+        if not taken(board, words):
+            wrong.append((number, *kind_of(board, words)))
 
     for number, line in enumerate(lines[first:], first + 1):
         words = line.split()
@@ -90,17 +111,17 @@ def judged(lines):
             board.drained()
         elif answer == "reset":
             board.reset()
-        elif words[0] == "A":
+        elif words[0] == "A" and not is_unclear(words):
             held = number, words
         elif words[0] in KINDS:
             take(number, words)
     if held:
         take(*held)
-    counts = Counts(lines, "\n".join(f"= wrong {number} {kind} 0" for number, kind in wrong))
+    counts = counts_in(lines, wrong)
     return wrong, (board.taken, len(wrong), board.outstanding(), board.open(), counts.compared, counts.told)
 
 
-WRONG = re.compile(r"= wrong (\d+) (request|reply|axi|client) ")
+WRONG = re.compile(r"= wrong (\d+) (request|reply|axi|client) \d+ (X\b)?")
 ENDED = re.compile(r"= judged (\d+) wrong (\d+) outstanding (\d+) open (\d+) compared (\d+) of (\d+)")
 
 
@@ -108,7 +129,7 @@ def answered(program, lines):
     """The same, as the program says it."""
     ran = subprocess.run([program], input="\n".join(lines).encode(), capture_output=True, timeout=600, check=False)
     text = ran.stdout.decode()
-    wrong = [(int(it[1]), it[2]) for it in WRONG.finditer(text)]
+    wrong = [(int(it[1]), it[2], bool(it[3])) for it in WRONG.finditer(text)]
     ended = ENDED.search(text)
     return wrong, tuple(map(int, ended.groups())) if ended else ran.stderr.decode()
 
@@ -118,12 +139,15 @@ def answered(program, lines):
 
 def changed(rng, lines, first):
     """Lines with one of their beats changed, left out, written twice or moved, or said to come after a drain or a reset, or with an
-    answer between two of them."""
+    answer between two of them, or with some that nobody knows whole."""
     lines = list(lines)
     places = [at for at in range(first, len(lines)) if lines[at].split()[:1] and lines[at].split()[0] in KINDS]
     at = rng.choice(places)
-    kind = rng.randrange(8)
-    if kind == 6:
+    kind = rng.randrange(10)
+    if kind >= 8:
+        for at in rng.sample(places, min(len(places), rng.randrange(1, 8))):
+            lines[at] = " ".join(lacking(rng, lines[at].split()))
+    elif kind == 6:
         lines.insert(rng.randrange(first, len(lines) + 1), f"= {rng.choice((*WITHDRAWN, 'more', 'accepted 0'))}")
     elif kind == 0:
         del lines[at]
@@ -140,6 +164,17 @@ def changed(rng, lines, first):
         words[place] = altered(rng, words[0], place, words[place])
         lines[at] = " ".join(words)
     return lines
+
+
+def lacking(rng, words):
+    """The words of a beat of which nobody knows some lanes, or seldom another field."""
+    places = [at for at in range(1, len(words)) if at != PAYLOADS.get(words[0]) and (at > 1 or words[0] not in "AD")]
+    if words[0] in PAYLOADS and rng.random() < 0.9:
+        return with_unknown(rng, " ".join(words), rng.sample(range(8), rng.choice((1, 1, 2, 8)))).split()
+    at = rng.choice(places)
+    digits = list(words[at] if words[at] not in RESPONSES else "0")
+    digits[rng.randrange(len(digits))] = rng.choice(DIGITS)
+    return [*words[:at], "".join(digits), *words[at + 1 :]]
 
 
 def altered(rng, channel, place, word):
@@ -182,8 +217,9 @@ class Lot:
             place = rng.randrange(1, len(words))
             words[place] = altered(rng, words[0], place, words[place])
             line = " ".join(words)
-        channel, beat, client = beat_of(line.split())
-        self.board.is_right(channel, beat, client)
+        if rng.random() < 0.03:
+            line = " ".join(lacking(rng, line.split()))
+        taken(self.board, line.split())
         return line
 
     def a(self):
