@@ -44,8 +44,8 @@ class Told:
         return [others.step(it, replies) for it in others.due if replies[it][0].source == source]
 
     def shown(self, beat, replies, hidden, lanes):
-        """The requests of whose reply a beat on channel D may be the next, where nobody knows what is hidden of each reply, nor these lanes of
-        the beat."""
+        """The requests of whose reply a beat on channel D may be the next, where nobody knows what is hidden of each reply, nor these
+        lanes of the beat."""
         return [it for it in self.open() if is_shown(replies[it][self.came], beat, hidden[it][self.came] | lanes)]
 
 
@@ -171,8 +171,8 @@ class Observation:
         return True, given_lanes(beat.opcode, beat.mask)
 
     def accept(self, client, message, lanes):
-        """Carries out a request. What an atomic makes of bytes that aren't known isn't known, and what a Put gives is, but in these lanes of
-        its beats."""
+        """Carries out a request. What an atomic makes of bytes that aren't known isn't known, and what a Put gives is, but in these lanes
+        of its beats."""
         first, at = message[0], self.setup.place(message)
         is_put, reads_alone = first.opcode in (PUT_FULL, PUT_PARTIAL), first.opcode in (GET, INTENT)
         span = range(at, at + 2**first.size) if at is not None and self.setup.pages.get(at >> 12) == "good" else range(0)

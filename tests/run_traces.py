@@ -1,6 +1,7 @@
 """Random scripts of `run`, with what is refused or of nobody between the beats of their messages, and what the scoreboard says
 of each trace by both profiles: nothing is wrong, and as many beats are judged as the trace says that were taken. Each trace is
-cut behind any of its lines but an A line, whose answer would be missing.
+cut behind any of its lines but an A line, whose answer would be missing. Then it is judged with x and z in lanes of some payloads:
+told are just the lines where such a lane is looked at.
 
     python3 tests/run_traces.py TLSCORE TLBRIDGE [SCRIPTS] [--seed WORD]
 """
@@ -14,9 +15,11 @@ import sys
 from collections import Counter
 from dataclasses import dataclass, field, replace
 
-from compared import compared
+from compared import Counts, compared
 from ends import told
 from model import GET
+from observed import Burst
+from unknown import PAYLOADS, given_lanes, lanes_in, lanes_of_mask, with_unknown
 
 from client import Interactive  # model.py says where it stands
 from random_bench import random_request
@@ -174,11 +177,16 @@ def taken_in(trace):
     )
 
 
+def judged(program, lines):
+    """What the scoreboard gives of lines, and its text."""
+    ran = subprocess.run([program], input="\n".join(lines).encode(), capture_output=True, timeout=SECONDS, check=False)
+    return ran, ran.stdout.decode()
+
+
 def wrong(program, lines, beats):
     """Tells in one line how the scoreboard finds something wrong, judges another number of beats, or compares another number of bytes,
     or nothing."""
-    ran = subprocess.run([program], input="\n".join(lines).encode(), capture_output=True, timeout=SECONDS, check=False)
-    text = ran.stdout.decode()
+    ran, text = judged(program, lines)
     ended = ENDED.fullmatch(text)
     if ran.returncode or ran.stderr or not ended:
         return f"status {ran.returncode}, {ran.stderr.decode()!r}, {text[:200]!r}"
@@ -186,6 +194,75 @@ def wrong(program, lines, beats):
         return f"{ended[1]} beats are judged, and {beats} were taken"
     wanted = compared(lines, text)
     return None if ended[2] == wanted else f"{ended[2]}, not {wanted}"
+
+
+# ---- lanes that nobody knows
+
+
+def with_some_unknown(rng, lines):
+    """Lines with x and z in lanes of the payload of some beats, of each channel as often."""
+    channels = [[at for at, line in enumerate(lines) if line.split()[0] == channel] for channel in PAYLOADS]
+    channels, lines = [it for it in channels if it], list(lines)
+    for at in {rng.choice(rng.choice(channels)) for _ in range(rng.choice((1, 4, 30)) if channels else 0)}:
+        lines[at] = with_unknown(rng, lines[at], rng.sample(range(8), rng.choice((1, 2, 8))))
+    return lines
+
+
+class Reads:
+    """The bursts of a right observation that were not read whole."""
+
+    def __init__(self, width):
+        self.width, self.bursts = width, []
+
+    def take(self, words):
+        """Takes a line; of an R line it gives the lanes of its transfer."""
+        if words[:2] == ["=", "drained"]:
+            self.bursts = []
+        elif words[0] == "AR":
+            self.bursts.append(Burst(int(words[1]), int(words[2], 16), int(words[3]), int(words[4])))
+        if words[0] != "R":
+            return set()
+        burst = next(it for it in self.bursts if it.id == int(words[1]))
+        lanes = lanes_of_mask(burst.transfer(self.width)[2])
+        burst.came += 1
+        if burst.came > burst.len:
+            self.bursts.remove(burst)
+        return lanes
+
+
+def expected(words, due):
+    """The beat of a D line as it could have been shown: with the lanes of the one that is due where nobody knows its own."""
+    bits = sum(0xFF << 8 * lane for lane in lanes_in(words))
+    digits = re.sub("[xXzZ]", "0", words[7])
+    return " ".join([*words[:7], f"{int(digits, 16) & ~bits | due.payload & bits:016x}", words[8]])
+
+
+def told_of(lines, counts, width):
+    """The lines that are told of a right observation of which nobody knows some lanes, where this was followed of it."""
+    reads = Reads(width)
+    for number, (line, after) in enumerate(zip(lines, [*lines[1:], "="]), 1):
+        words = line.split()
+        transfer, lanes = reads.take(words), lanes_in(words)
+        if words[0] == "A" and after.split()[1] in TAKEN and lanes & given_lanes(int(words[2]), int(words[7], 16)):
+            yield f"= wrong {number} request 17 X"
+        elif words[0] == "W" and lanes & lanes_of_mask(int(words[2], 16)) or words[0] == "R" and lanes & transfer:
+            yield f"= wrong {number} axi 13 X"
+        elif words[0] == "D" and lanes & counts.looked[number]:
+            yield f"= wrong {number} reply 8 X expected {expected(words, counts.due[number])}"
+
+
+def wrong_of_unknown(program, lines, changed):
+    """Tells in one line how the scoreboard says something else of a right trace, changed so that nobody knows some lanes, than what they
+    tell; or nothing."""
+    counts = Counts(changed, "")
+    wanted = [*told_of(changed, counts, counts.width)]
+    ending = rf" wrong {len(wanted)} \1 compared {counts.compared} of {counts.told}"
+    found = re.sub(r" wrong 0 (.*) compared .*", ending, judged(program, lines)[1])
+    ran, text = judged(program, changed)
+    if text == "".join(f"{line}\n" for line in wanted) + found and ran.returncode == bool(wanted):
+        return None
+    differing = next((pair for pair in zip([*wanted, *found.splitlines()], text.splitlines()) if pair[0] != pair[1]), None)
+    return f"status {ran.returncode}, {ran.stderr.decode()!r}; wanted and said: {differing}"
 
 
 def cases(given):
@@ -196,7 +273,10 @@ def cases(given):
         counts.update(behind(trace))
         for profile in PROFILES:
             lines = [*setup, f"profile {profile}", *trace]
-            yield f"seed {given.seed}, script {number}, profile {profile}", wrong(given.tlscore, lines, taken_in(trace))
+            name = f"seed {given.seed}, script {number}, profile {profile}"
+            yield name, wrong(given.tlscore, lines, taken_in(trace))
+            changed = [*lines[: -len(trace)], *with_some_unknown(rng, trace)]
+            yield f"{name}, of which nobody knows some lanes", wrong_of_unknown(given.tlscore, lines, changed)
     for what, least in WANTED.items():
         count, least = counts[what], least * given.scripts // 300
         yield f"seed {given.seed}: {what}", None if count >= least else f"{count} times, not {least}"
