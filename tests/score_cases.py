@@ -13,6 +13,7 @@ import beginnings
 import compared
 import error_histories
 import script_cases
+import unknown_histories
 from ends import started, told
 
 TOP = Path(__file__).resolve().parent.parent
@@ -198,6 +199,15 @@ STORED = (
     "source-busy",
     "beats-swapped",
     "bad-word",
+    "x-in-a-given-byte",
+    "x-in-a-later-beat",
+    "x-in-idle-lanes",
+    "x-in-write-data",
+    "x-in-read-data",
+    "x-in-a-reply",
+    "x-in-a-control-field",
+    "x-and-z-as-simulators-print-them",
+    "x-in-an-atomic",
 )
 
 BY_BRIDGE = {
@@ -837,12 +847,13 @@ def stored_by_tilelink(row: str) -> tuple[bytes, int, bytes, bytes]:
 
 def all_cases():
     """The name of each case, what is given, and what is wanted."""
-    for profile, histories in (("bridge", BY_EACH | BY_BRIDGE), ("tilelink", BY_EACH | BY_TILELINK)):
+    each = BY_EACH | unknown_histories.BY_EACH
+    for profile, histories in (("bridge", each | BY_BRIDGE), ("tilelink", each | BY_TILELINK | unknown_histories.BY_TILELINK)):
         for name, history in histories.items():
             yield f"{name}, by profile {profile}", *case_of(f"{SETUP}\nbad 10018\nprofile {profile}\n{history.strip()}")
     for row in STORED:
         yield f"{row}, by profile tilelink", *stored_by_tilelink(row)
-    for name, history in (INPUTS | beginnings.HISTORIES | error_histories.histories()).items():
+    for name, history in (INPUTS | beginnings.HISTORIES | error_histories.histories() | unknown_histories.HISTORIES).items():
         yield name, *case_of(history)
 
 
