@@ -3,8 +3,10 @@ it is told, by both profiles; the other one, whose Puts are seen as their beats 
 where no access fails. Then 20 runs of both as they are, as run.py --right makes them, in front of the memory too whose good pages
 fail by lot, and 20 more in which all is reset twice: none is found wrong, and those of the second one do what they are to show.
 By errors strict what fails so is found wrong. All of it once where the memory begins with zeros, and once where it begins with
-bytes that nobody told tlscore; these are found wrong where the set-up has zeros. Before them the stored runs, of which each shows
-a fault, are simulated anew and judged. Where there is no simulator these are judged alone, and that is said.
+bytes that nobody told tlscore; these are found wrong where the set-up has zeros. Where it begins with x, the right bridges and the
+fault that an x shows are simulated alone; these bridges are found wrong where the set-up has no line `x data`. Before them the
+stored runs, of which each shows a fault, are simulated anew and judged. Where there is no simulator these are judged alone, and that
+is said, and what the simulator can't show, since it has no x, is named.
 
     python3 tests/rtl_runs.py TLSCORE [--right N]
 """
@@ -29,7 +31,11 @@ RESETS = 2
 
 
 def blamed(pages):
-    """What is found wrong of a bridge that is right: by errors strict that good pages fail, or bytes that the set-up has as zeros."""
+    """What is found wrong of a bridge that is right: by errors strict that good pages fail, or bytes that the set-up has as zeros; or x in
+    data, where the set-up doesn't say that there may be some."""
+    if pages == "unknown":
+        yield from (run.Bench("bridge", run.Asked(profile, pages="any"), began="UNKNOWN") for profile in run.PROFILES)
+        return
     yield run.Bench("streaming_bridge", run.Asked("tilelink", pages=pages), run.FAILING, is_calm=True)
     if pages == "good":
         yield from (run.Bench("bridge", run.Asked(profile), began="NOISE") for profile in run.PROFILES)
@@ -38,6 +44,8 @@ def blamed(pages):
 def planted(pages):
     """The testbenches by the profiles that are their own."""
     strict = run.Asked("bridge", pages=pages), run.Asked("tilelink", pages=pages)
+    if pages == "unknown":
+        return [run.Bench("bridge", asked, bug=bug) for asked in strict for bug in run.SHOWN_BY_X]
     benches = [bench for asked in strict for bench in run.benches("bridge", asked)]
     return benches + run.benches("streaming_bridge", run.Asked("tilelink", pages=pages), is_calm=True)
 
@@ -65,24 +73,31 @@ def cases(asked):
     """Each testbench, and what the right ones did."""
     simulator = run.installed()
     yield from ((f"the stored run {name}", why) for name, why in runs.compared(simulator, Path(asked.tlscore).resolve()))
+    for stored in runs.without_x(simulator) if simulator else ():
+        print(f"skipped: to simulate the stored run {stored.name} anew, as {simulator} has no x")
     if not simulator:
         print(f"skipped: the bridges in RTL, as neither {' nor '.join(run.SIMULATORS)} is installed")
         return
     given = argparse.Namespace(simulator=simulator, score=Path(asked.tlscore).resolve(), jobs=os.cpu_count() or 1)
     for pages in run.PAGES:
         seen, wrong = [], [*blamed(pages)]
+        plan, left_out = run.shown_in(plan_of(pages, asked.right), simulator)
+        for bench in left_out:
+            print(f"skipped: {name_of(bench)}, as {simulator} has no x")
         with tempfile.TemporaryDirectory() as folder:
-            for variant in run.tried(plan_of(pages, asked.right), given, Path(folder)):
+            for variant in run.tried(plan, given, Path(folder)):
                 yield name_of(variant.bench), None if variant.is_well() != (variant.bench in wrong) else str(variant)
                 seen += [variant.traffic] if variant.bench.bridge == "streaming_bridge" and not variant.bench.is_calm else []
         lacking = idle(functools.reduce(operator.or_, seen, run.traffic.Traffic()))
-        yield f"what the streaming bridge's runs show, {pages}", f"none had {', '.join(lacking)}" if lacking else None
+        if plan:
+            yield f"what the streaming bridge's runs show, {pages}", f"none had {', '.join(lacking)}" if lacking else None
 
 
 def name_of(bench):
     asked = bench.asked
     resets = f", reset {bench.resets} times" if bench.resets else ""
-    return f"{bench.device} in RTL, by profile {asked.profile} and errors {asked.errors}, {asked.pages} pages{resets}"
+    fault = f" with {bench.bug}" if bench.bug != run.RIGHT else ""
+    return f"{bench.device} in RTL{fault}, by profile {asked.profile} and errors {asked.errors}, {asked.pages} pages{resets}"
 
 
 def main():

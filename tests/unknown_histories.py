@@ -1,4 +1,5 @@
-"""Histories of beats of which nobody knows some digits, x and z, and what tlscore says of each. Lines and arrows are those of score_cases.py.
+"""Histories of beats of which nobody knows some digits, x and z, and what tlscore says of each. Lines and arrows are those of
+score_cases.py.
 """
 
 from script_cases import SETUP as LINES

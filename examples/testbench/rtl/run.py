@@ -259,10 +259,10 @@ def plan_of(given):
 
 
 def shown_in(plan, simulator):
-    """The testbenches that a simulator can show, and the names of the others: those that need an x, where it has two states."""
+    """The testbenches that a simulator can show, and the others: those that need an x, where it has two states."""
     lacks_x = simulator not in HAVE_X
-    names = [bench.name for bench, _ in plan if lacks_x and bench.needs_x]
-    return [(bench, seeds) for bench, seeds in plan if not (lacks_x and bench.needs_x)], names
+    left_out = [bench for bench, _ in plan if lacks_x and bench.needs_x]
+    return [(bench, seeds) for bench, seeds in plan if bench not in left_out], left_out
 
 
 def with_resets(plan, resets):
@@ -354,7 +354,7 @@ def main():
         return without_simulator(" or ".join(HAVE_X))
     print(f"{given.simulator}, seeds {given.first} to {given.first + given.runs - 1}", flush=True)
     if left_out:
-        print(f"left out, as {given.simulator} has no x: {', '.join(dict.fromkeys(left_out))}", flush=True)
+        print(f"left out, as {given.simulator} has no x: {', '.join(bench.name for bench in left_out)}", flush=True)
     if given.right:
         print(HEAD, flush=True)
     variants = []
