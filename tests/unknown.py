@@ -10,6 +10,8 @@ PAYLOADS = {"A": 8, "D": 7, "W": 1, "R": 2}  # which word of a line is its paylo
 
 def is_unclear(words):
     """Whether nobody knows a field of a beat but its payload."""
+    if not DIGIT.search(" ".join(words)):
+        return False
     places = [at for at, word in enumerate(words) if at and DIGIT.search(word)]
     return any(at != PAYLOADS.get(words[0]) and WORD.fullmatch(words[at]) for at in places)
 
@@ -17,7 +19,7 @@ def is_unclear(words):
 def known(words):
     """The words of a beat, with 0 in the place of each digit of its payload that nobody knows."""
     at = PAYLOADS.get(words[0])
-    return [DIGIT.sub("0", word) if at == number else word for number, word in enumerate(words)]
+    return [*words[:at], DIGIT.sub("0", words[at]), *words[at + 1 :]] if at else words
 
 
 def lanes_in(words):
