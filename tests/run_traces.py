@@ -200,10 +200,11 @@ def wrong(program, lines, beats):
 
 
 def with_some_unknown(rng, lines):
-    """Lines with x and z in lanes of the payload of some beats, of each channel as often."""
+    """Lines with x and z in lanes of the payload of some beats, of each channel as often, or in a lane of each request."""
     channels = [[at for at, line in enumerate(lines) if line.split()[0] == channel] for channel in PAYLOADS]
-    channels, lines = [it for it in channels if it], list(lines)
-    for at in {rng.choice(rng.choice(channels)) for _ in range(rng.choice((1, 4, 30)) if channels else 0)}:
+    requests, channels, lines = channels[0], [it for it in channels if it], list(lines)
+    some = {rng.choice(rng.choice(channels)) for _ in range(rng.choice((1, 4, 30)) if channels else 0)}
+    for at in rng.choice((some, some, requests)):
         lines[at] = with_unknown(rng, lines[at], rng.sample(range(8), rng.choice((1, 2, 8))))
     return lines
 
