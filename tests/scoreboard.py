@@ -78,9 +78,9 @@ def beat_of(words):
 
 def kind_of(board, words):
     """The kind of a beat that was found wrong, and whether all that is wrong is that nobody knows some of it."""
-    if board.is_unknown:
-        return KINDS[words[0]], True
-    return "client" if words[0] in "AD" and int(words[1]) >= board.setup.clients else KINDS[words[0]], False
+    if words[0] in "AD" and int(words[1]) >= board.setup.clients:
+        return "client", False
+    return KINDS[words[0]], board.is_unknown
 
 
 def counts_in(lines, wrong):

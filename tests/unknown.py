@@ -23,12 +23,11 @@ def known(words):
 
 
 def lanes_in(words):
-    """The lanes of a beat's payload that nobody knows, of two digits each, from the last: a first digit that is x or z stands for all
-    before it."""
+    """The lanes of a beat's payload that nobody knows, of two digits each, from the last: one digit alone that is x or z stands for all."""
     at = PAYLOADS.get(words[0])
     if at is None or not DIGIT.search(words[at]):
         return set()
-    digits = words[at].rjust(16, words[at][0] if words[at][0] in DIGITS else "0")
+    digits = words[at].rjust(16, words[at] if len(words[at]) == 1 else "0")
     return {7 - place // 2 for place, digit in enumerate(digits) if digit in DIGITS}
 
 
