@@ -1,0 +1,1 @@
+"""Tools beside the scoreboard tlscore: they read dumps and memory images, and explain, draw and count what it found."""

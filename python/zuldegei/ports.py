@@ -1,0 +1,198 @@
+"""What passes at the ports of a bridge at each edge of their clocks, as lines for tlscore."""
+
+from collections import deque
+from typing import Callable, Deque, Dict, List, Optional, Sequence, Tuple
+
+from .command import Fault
+from .signal_map import MOST_BITS, Channel, Clock, Finder, Key, SignalMap
+from .signals import Level, Wires, decimal, hexadecimal, in_lanes, is_known, wires
+
+ORDER = ("a", "aw", "ar", "w", "b", "r", "d")  # of the lines of one time, as docs/SCOREBOARD.md has it
+BEHIND_W = ORDER[4:]
+RESPONSES = ("OKAY", "EXOKAY", "SLVERR", "DECERR")
+ALL_LANES, LAST_WITH_DATA, ACCESS_ACK_DATA = 0xFF, 3, "1"
+WORD_SIZE = 2  # of a request that a port of 32 bits carries in one beat, at the most
+
+
+class Port:
+    """A channel at which beats pass, whose values are read where valid and ready are high."""
+
+    def __init__(self, channel: Channel):
+        self.key, self.fields = channel.key, channel.fields
+        data = channel.fields.get("data")
+        self.is_narrow = isinstance(data, Wires) and data.width == 32 and channel.key.client is not None
+        self.lacks_corrupt = channel.key.channel == "d" and "corrupt" in channel.lacking
+        self.valid, self.ready = Level(channel.fields["valid"]), Level(channel.fields["ready"])
+
+    def read(self, values: Sequence[bytes], time: int) -> Dict[str, str]:
+        """The digits of each field, none of more bits than a line has for it."""
+        read = {name: wire.read(values) for name, wire in self.fields.items()}
+        for name, most in MOST_BITS.items():
+            if len(read.get(name, "")) > most and "1" in read[name][:-most]:
+                raise Fault(f"at {time} {self.fields[name].name} is {hexadecimal(read[name], 1)}, of more than {most} bits: slice it")
+        if self.lacks_corrupt:
+            read["corrupt"] = read["denied"] if decimal(read["opcode"]) == ACCESS_ACK_DATA else "0"
+        return read
+
+    def is_passing(self, values: Sequence[bytes]) -> Optional[bool]:
+        """Whether a beat passes where valid isn't low; None where that isn't known."""
+        ready = self.ready.look(values)
+        return True if self.valid.digit == ready == "1" else False if ready == "0" else None
+
+
+class Domain:
+    """The ports of a clock, and how they stand to its reset."""
+
+    def __init__(self, clock: Clock, finder: Finder, slots: Dict[bytes, int]):
+        its_clock = finder.found[clock.path]
+        self.name, self.slot = clock.path, slots[its_clock[0].signal.code]
+        self.before, self.after = (b"1", b"0") if clock.is_falling else (b"0", b"1")
+        self.reset = Level(wires(clock.reset, finder.found[clock.reset], slots)) if clock.reset else None
+        self.released = "1" if clock.is_reset_low else "0"
+        made = [finder.channel(key, fields, slots) for key, fields in clock.channels.items()]
+        self.ports = [Port(it) for it in made]
+        self.lacking = [f"{name} of {it.key}" for it in made for name in it.lacking]
+        self.edges, self.is_up, self.is_awaited = 0, False, False
+
+    def is_reset(self, values: Sequence[bytes]) -> bool:
+        return self.reset is not None and self.reset.look(values) != self.released
+
+
+class Observer:
+    """Prints the beats that pass, in the order that tlscore asks for."""
+
+    def __init__(self, the_map: SignalMap, domains: List[Domain], write: Callable[[str], object]):
+        self.map, self.domains, self.write = the_map, domains, write
+        self.beats = self.unknown = self.printed = 0
+        self.unknown_at: Optional[int] = None
+        self.last_time: Optional[int] = None
+        self.held: Deque[Tuple[int, str]] = deque()  # W lines that no AW was printed for, with their times
+        self.lacking = 0  # how many W beats the printed AWs lack
+        self.requests: Dict[Tuple[int, str], Tuple[int, bool]] = {}  # lanes, and whether the upper half, by client and source
+
+    def edges(self, time: int, domains: List[Domain], values: Sequence[bytes]) -> None:
+        """Takes the edges of clocks at one time: the values are those that stood before it."""
+        passing = []
+        for domain in domains:
+            domain.edges += 1
+            if self.is_up(domain, values):
+                for port in domain.ports:
+                    if port.valid.look(values) != "0":
+                        passes = port.is_passing(values)
+                        if passes:
+                            passing.append(port)
+                        elif passes is None:
+                            self.note_unknown(time)
+        passing.sort(key=lambda it: (ORDER.index(it.key.channel), it.key.client or 0))
+        sent = [it for it in passing if it.key.channel not in BEHIND_W]
+        for port in sent:
+            self.beat(time, port.key, port.read(values, time), port.is_narrow)
+        while self.held and self.lacking:
+            self.line(*self.held.popleft())
+            self.lacking -= 1
+        for port in passing[len(sent) :]:
+            self.beat(time, port.key, port.read(values, time), port.is_narrow)
+
+    def is_up(self, domain: Domain, values: Sequence[bytes]) -> bool:
+        """Whether beats pass in a domain. Where the first of several is reset, the others' beats are gone until they are reset too,
+        or none is reset any more."""
+        if domain.is_reset(values):
+            if domain.is_up and not domain.is_awaited:
+                self.note_reset(domain)
+            domain.is_up = domain.is_awaited = False
+            return False
+        domain.is_up = True
+        if domain.is_awaited and not any(it.is_reset(values) for it in self.domains):
+            for it in self.domains:
+                it.is_awaited = False
+        return not domain.is_awaited
+
+    def note_reset(self, domain: Domain) -> None:
+        self.write("= reset\n")
+        self.held.clear()
+        self.lacking = 0
+        for it in self.domains:
+            it.is_awaited = it is not domain and it.reset is not None and it.is_up
+
+    def note_unknown(self, time: int) -> None:
+        self.unknown += 1
+        self.unknown_at = time if self.unknown_at is None else self.unknown_at
+
+    def line(self, time: int, text: str) -> None:
+        """Prints a line, behind one of its time where that is another."""
+        if time != self.last_time:
+            self.write(f"time {time}\n")
+            self.last_time = time
+        self.write(text)
+        self.beats += 1
+
+    def beat(self, time: int, key: Key, read: Dict[str, str], is_narrow: bool) -> None:
+        """Prints a beat, or holds it, if it is of W: they wait for their AW."""
+        if key.channel == "w":
+            self.held.append((time, w_line(read)))
+        elif key.channel == "a":
+            self.line(time, self.a_line(time, key.client, read, is_narrow))
+        elif key.channel == "d":
+            self.line(time, self.d_line(key.client, read, is_narrow))
+        else:
+            if key.channel == "aw":
+                self.lacking += (int(read["len"], 2) if is_known(read["len"]) else 0) + 1
+            self.line(time, answer_line(key.channel, read, self.map.ids) if key.channel in "br" else address_line(key, read, self.map.ids))
+
+    def a_line(self, time: int, client: int, read: Dict[str, str], is_narrow: bool) -> str:
+        has_data = not is_known(read["opcode"]) or int(read["opcode"], 2) <= LAST_WITH_DATA
+        mask, data, is_upper = read["mask"], read["data"], False
+        if is_narrow:
+            if is_known(read["size"]) and int(read["size"], 2) > WORD_SIZE:
+                raise Fault(f"at {time} client {client} asks for 2^{int(read['size'], 2)} bytes on 32 bits: one-beat messages fit alone")
+            is_upper = read["address"][-3:-2] == "1"
+            mask, data = upper(mask, is_upper, 4), upper(data, is_upper, 32)
+        lanes = int(mask, 2) if is_known(mask) else ALL_LANES
+        self.requests[client, read["source"]] = lanes, is_upper
+        told = in_lanes(data, lanes if has_data else 0)
+        return (
+            f"A {client} {decimal(read['opcode'])} {decimal(read['param'])} {decimal(read['size'])} {self.source(client, read)} "
+            f"{hexadecimal(read['address'][-32:], 8)} {hexadecimal(mask, 2)} {hexadecimal(told, 16)} {read['corrupt']}\n"
+        )
+
+    def d_line(self, client: int, read: Dict[str, str], is_narrow: bool) -> str:
+        lanes, is_upper = self.requests.get((client, read["source"]), (ALL_LANES, False))
+        data = upper(read["data"], is_upper, 32) if is_narrow else read["data"]
+        has_data = (not is_known(read["opcode"]) or decimal(read["opcode"]) == ACCESS_ACK_DATA) and read["corrupt"] != "1"
+        told = data if self.map.are_replies_whole else in_lanes(data, lanes if has_data else 0)
+        return (
+            f"D {client} {decimal(read['opcode'])} {decimal(read['param'])} {decimal(read['size'])} {self.source(client, read)} "
+            f"{read['denied']} {hexadecimal(told, 16)} {read['corrupt']}\n"
+        )
+
+    def source(self, client: int, read: Dict[str, str]) -> str:
+        told = decimal(read["source"])
+        return str(self.map.sources.get((client, int(told)), told)) if told.isdigit() else told
+
+
+def upper(bits: str, is_upper: bool, width: int) -> str:
+    """A half of a wider word, beside zeros."""
+    zeros = "0" * width
+    return bits.rjust(width, "0") + zeros if is_upper else zeros + bits.rjust(width, "0")
+
+
+def its_id(read: Dict[str, str], ids: Dict[int, int]) -> str:
+    told = decimal(read["id"])
+    return str(ids.get(int(told), told)) if told.isdigit() else told
+
+
+def address_line(key: Key, read: Dict[str, str], ids: Dict[int, int]) -> str:
+    rest = f"{decimal(read['len'])} {decimal(read['size'])} {decimal(read['burst'])}"
+    return f"{key.channel.upper()} {its_id(read, ids)} {hexadecimal(read['addr'][-32:], 8)} {rest}\n"
+
+
+def w_line(read: Dict[str, str]) -> str:
+    lanes = int(read["strb"], 2) if is_known(read["strb"]) else ALL_LANES
+    return f"W {hexadecimal(in_lanes(read['data'], lanes), 16)} {hexadecimal(read['strb'], 2)} {read['last']}\n"
+
+
+def answer_line(channel: str, read: Dict[str, str], ids: Dict[int, int]) -> str:
+    response = RESPONSES[int(read["resp"], 2)] if is_known(read["resp"]) else "x"
+    if channel == "b":
+        return f"B {its_id(read, ids)} {response}\n"
+    return f"R {its_id(read, ids)} {hexadecimal(read['data'], 16)} {response} {read['last']}\n"

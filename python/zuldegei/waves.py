@@ -1,0 +1,121 @@
+"""zuldegei-waves: the beats in a dump of a bridge's ports, as lines for the scoreboard."""
+
+import sys
+import time
+from pathlib import Path
+from typing import Callable, Dict, List, Sequence
+
+from .command import Fault, Status, ended, words_of
+from .ports import Domain, Observer
+from .signal_map import HELP, Finder, Reader, SignalMap, ready
+from .signals import Names
+from .vcd import Dump, opened
+
+NAME = "zuldegei-waves"
+MOST_TOLD = 6  # names in a remark
+EVERY = 0.5  # seconds between two looks at the progress
+
+
+class Progress:
+    """A line on a terminal that says how far a long dump is read, and how fast."""
+
+    def __init__(self, dump: Dump, size: int):
+        self.dump, self.size, self.began = dump, size, time.monotonic()
+        self.next = self.began + EVERY
+        self.is_shown = sys.stderr.isatty()
+        self.was_shown = False
+
+    def look(self, beats: int) -> None:
+        now = time.monotonic() if self.is_shown else 0
+        if not self.is_shown or now < self.next:
+            return
+        self.next, self.was_shown = now + EVERY, True
+        read = self.dump.lines.bytes / 1e6
+        share = f" of {self.size / 1e6:.0f}" if self.size else ""
+        rate = read / (now - self.began)
+        print(f"\r{NAME}: {read:.0f}{share} MB, {rate:.1f} MB/s, {beats:,} beats ", end="", file=sys.stderr, flush=True)
+
+    def close(self) -> None:
+        if self.was_shown:
+            print("\r\x1b[K", end="", file=sys.stderr, flush=True)
+
+
+def values_of(dump: Dump, finder: Finder, the_map: SignalMap) -> Dict[bytes, int]:
+    """Chooses the signals that the map names; gives the slot of each."""
+    return dump.want([it.signal for it in finder.all_of(the_map.clocks)])
+
+
+def observe(dump: Dump, the_map: SignalMap, write: Callable[[str], object], size: int = 0) -> Observer:
+    """Prints what passed at the ports that a map names."""
+    names = Names(dump.head)
+    names.layouts = the_map.layouts
+    finder = Finder(names)
+    slots = values_of(dump, finder, the_map)
+    domains = [Domain(it, finder, slots) for it in the_map.clocks if it.channels]
+    observer = Observer(the_map, domains, write)
+    progress = Progress(dump, size)
+    try:
+        sample(dump, domains, observer, [b"x"] * len(slots), progress)
+    finally:
+        progress.close()
+    for domain in domains:
+        if not domain.edges:
+            raise Fault(f"the clock {domain.name} has no {'falling' if domain.after == b'0' else 'rising'} edge in the dump")
+    return observer
+
+
+def sample(dump: Dump, domains: List[Domain], observer: Observer, values: List[bytes], progress: Progress) -> None:
+    """Goes through the times of a dump; at an edge the values are those before it."""
+    clocks = {domain.slot for domain in domains}
+    for now, changes in dump.steps():
+        if not clocks.isdisjoint(changes):
+            risen = [it for it in domains if values[it.slot] == it.before and changes.get(it.slot) == it.after]
+            if risen:
+                if dump.off is not None and observer.beats:
+                    raise Fault(f"the dump is off from {dump.off} on, so that beats went unseen")
+                observer.edges(now, risen, values)
+                progress.look(observer.beats)
+        for slot, value in changes.items():
+            values[slot] = value
+
+
+def remarks(observer: Observer) -> List[str]:
+    """What is to be said of an observation beside its lines."""
+    said = []
+    lacking = [name for domain in observer.domains for name in domain.lacking]
+    if lacking:
+        shown = ", ".join(lacking[:MOST_TOLD]) + (f" and {len(lacking) - MOST_TOLD} more" if len(lacking) > MOST_TOLD else "")
+        said.append(f"not in the dump, and taken as what a design without it has: {shown}")
+    if observer.unknown:
+        said.append(f"valid or ready was unknown {observer.unknown} times, first at {observer.unknown_at}: no beat was printed there")
+    if observer.held:
+        said.append(f"no AW came for the last {len(observer.held)} W beats: they weren't printed")
+    return said
+
+
+def work(arguments: Sequence[str]) -> int:
+    words = words_of(NAME, f"{__doc__}\n{HELP}", f"The ready maps are {', '.join(ready())}.")
+    words.add_argument("map", help="where the ports stand in the dump")
+    words.add_argument("dump", help="a VCD (.gz too), or an FST")
+    words.add_argument("--setup", help="a file of set-up lines that is printed first", metavar="FILE")
+    words.add_argument("--end", action="store_true", help="a line `= end` is printed last: all should be quiet there")
+    given = words.parse_args(arguments)
+    the_map = Reader(given.map).read(Path(given.map).read_text(errors="replace"))
+    write = sys.stdout.write
+    if given.setup:
+        write(Path(given.setup).read_text())
+    with opened(given.dump) as stream:
+        observer = observe(Dump(stream), the_map, write, Path(given.dump).stat().st_size if given.dump.endswith(".vcd") else 0)
+    if given.end:
+        write("= end\n")
+    for remark in remarks(observer):
+        print(f"{NAME}: {remark}", file=sys.stderr)
+    return Status.DONE
+
+
+def main() -> int:
+    return ended(NAME, lambda: work(sys.argv[1:]))
+
+
+if __name__ == "__main__":
+    sys.exit(main())

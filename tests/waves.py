@@ -1,0 +1,554 @@
+"""The lines that zuldegei-waves reads from dumps: those that the monitor of examples/testbench/rtl printed in the same run, byte for byte,
+from VCD and FST, by each simulator that is installed, of the right bridge and of each fault that is planted in it; of one client, of
+names as in rocket-chip, OpenTitan and PULP, and of ports in two clocks (tests/dumps). Then dumps and maps that can't be right, each of
+which ends in one line and a status, and unknown digits, as the Verilog standard prints them. And the fill lines of memory images.
+
+    python3 tests/waves.py TLSCORE [--all]
+"""
+
+import argparse
+import gzip
+import io
+import os
+import pty
+import random
+import re
+import shutil
+import subprocess
+import sys
+import tempfile
+import threading
+import time
+from pathlib import Path
+from typing import Dict, Iterator, List, NamedTuple, Optional, Tuple
+
+from ends import told
+
+TOP = Path(__file__).resolve().parent.parent
+RTL, DUMPS = TOP / "examples/testbench/rtl", TOP / "tests/dumps"
+sys.path += [str(RTL), str(TOP / "python")]
+sys.dont_write_bytecode = True
+
+import run  # noqa: E402
+from zuldegei.command import Fault  # noqa: E402
+from zuldegei.signal_map import Reader  # noqa: E402
+from zuldegei.vcd import Dump  # noqa: E402
+from zuldegei.waves import observe  # noqa: E402
+
+MAP = (DUMPS / "testbench.map").read_text()
+ONE_CLIENT = "".join(line for line in MAP.splitlines(True) if not line.startswith("client 1"))
+DESIGN = [str(RTL / name) for name in ("bridge.sv", "client.sv", "fifo.sv", "memory.sv", "monitor.sv", "streaming_bridge.sv")]
+Case = Tuple[str, Optional[str]]
+
+
+class Bench(NamedTuple):
+    """A testbench: its top module, its files, and what is defined for it."""
+
+    top: str
+    files: List[str]
+    defines: List[str] = []
+
+
+def testbench(bug: str = run.RIGHT, bridge: str = "bridge") -> Bench:
+    defines = [f"-DBUG={bug}"] + ([f"-DBRIDGE={bridge}"] if bridge != "bridge" else [])
+    return Bench("testbench", [str(RTL / "testbench.sv"), *DESIGN], defines)
+
+
+def style(top: str) -> Bench:
+    return Bench(top, [str(DUMPS / f"{top}.sv"), *DESIGN])
+
+
+def made(bench: Bench, simulator: str, folder: Path, tracing: Tuple[str, ...] = ("--trace",)) -> List[str]:
+    """Makes a testbench with a simulator; gives the words that run it."""
+    folder.mkdir(exist_ok=True)
+    program, searched = str(folder / bench.top), [f"-I{RTL}", f"-I{DUMPS}", *bench.defines]
+    if simulator == "iverilog":
+        words, runs = ["iverilog", "-g2012", *searched, "-s", bench.top, "-o", program, *bench.files], ["vvp", "-n", program]
+    else:
+        fast = ["-MAKEFLAGS", "OPT_FAST=-O0 OPT_SLOW=-O0 OPT_GLOBAL=-O0"]  # it is made in less time than it would save
+        words = ["verilator", "--binary", "--timing", "-Wno-fatal", *fast, *tracing, *searched, "--top-module", bench.top, "-Mdir", str(folder)]
+        words, runs = [*words, "-o", bench.top, *bench.files], [program]
+    run.simulated(words)
+    return runs
+
+
+def simulated(runs: List[str], folder: Path, dump: str, *more: str) -> Tuple[str, str]:
+    """Runs a testbench, which writes a dump; gives what its monitor printed, and what it said itself."""
+    seen = folder / "seen.lines"
+    words = [*runs, *(["-fst"] if dump.endswith(".fst") and runs[0] == "vvp" else []), "+seed=3", *more]
+    ran = subprocess.run([*words, f"+observed={seen}", f"+dump={folder / dump}"], capture_output=True, text=True, cwd=folder)
+    return seen.read_text(), ran.stdout + ran.stderr
+
+
+def command(module: str, *words: object, seconds: int = 120, **more: object) -> subprocess.CompletedProcess:
+    """Runs a command of the package from this checkout."""
+    environment = {**os.environ, "PYTHONPATH": str(TOP / "python"), "PYTHONDONTWRITEBYTECODE": "1"}
+    environment.update(more.pop("environment", {}))
+    words = [sys.executable, "-m", f"zuldegei.{module}", *map(str, words)]
+    return subprocess.run(words, capture_output=True, text=True, timeout=seconds, env=environment, **more)
+
+
+def read(folder: Path, the_map: str, dump: str) -> subprocess.CompletedProcess:
+    (folder / "ports.map").write_text(the_map)
+    return command("waves", folder / "ports.map", folder / dump)
+
+
+def same(ran: subprocess.CompletedProcess, wanted: str) -> Optional[str]:
+    """How a run of the command didn't print these lines."""
+    if ran.returncode:
+        return f"status {ran.returncode}; it said {ran.stderr.strip()[-300:]!r}"
+    if ran.stdout == wanted:
+        return None if wanted.count("\n") > 20 else "the run has hardly a beat"
+    lines = zip(ran.stdout.splitlines() + ["(nothing)"], wanted.splitlines() + ["(nothing)"])
+    return next((f"line {at} is {got!r}, not {due!r}" for at, (got, due) in enumerate(lines, 1) if got != due), "it ends early")
+
+
+def timed(lines: str) -> Iterator[Tuple[int, str]]:
+    """Each line of an observation with its time."""
+    now = 0
+    for line in lines.splitlines():
+        if line.startswith("time "):
+            now = int(line.split()[1])
+        else:
+            yield now, line
+
+
+def printed(lines: Iterator[Tuple[int, str]]) -> str:
+    """The text of an observation, in which a time stands where it is another than the one before."""
+    text, last = [], None
+    for now, line in lines:
+        text += [f"time {now}\n"] if now != last and not line.startswith("=") else []
+        text.append(f"{line}\n")
+        last = last if line.startswith("=") else now
+    return "".join(text)
+
+
+def without_client(lines: str, client: int) -> str:
+    return printed((now, line) for now, line in timed(lines) if line.split()[:2] not in (["A", str(client)], ["D", str(client)]))
+
+
+def icarus(folder: Path) -> Iterator[Case]:
+    """Each fault by Icarus, and of the right bridge each kind of dump, and resets."""
+    for bug in (run.RIGHT, *run.BUGS):
+        runs = made(testbench(bug), "iverilog", folder)
+        lines, _ = simulated(runs, folder, "run.vcd", "+requests=25")
+        yield f"{bug}, VCD", same(read(folder, MAP, "run.vcd"), lines)
+        if bug == run.RIGHT:
+            yield "one client of two", same(read(folder, ONE_CLIENT, "run.vcd"), without_client(lines, 1))
+            packed = folder / "run.vcd.gz"
+            packed.write_bytes(gzip.compress((folder / "run.vcd").read_bytes()))
+            yield "VCD packed by gzip", same(read(folder, MAP, "run.vcd.gz"), lines)
+            yield from hostile(folder, (folder / "run.vcd").read_bytes(), lines)
+            yield from commanded(folder, lines)
+            lines, _ = simulated(runs, folder, "run.vcd", "+requests=60", "+resets=3")
+            why = same(read(folder, MAP, "run.vcd"), lines)
+            yield "resets in mid-run", why or (None if lines.count("= reset") == 3 else "the run has other resets")
+    runs = made(testbench(bridge="streaming_bridge"), "iverilog", folder)
+    lines, _ = simulated(runs, folder, "run.vcd", "+requests=40", "+resets=1")
+    yield "the streaming bridge", same(read(folder, MAP.replace("replies whole", ""), "run.vcd"), lines)
+
+
+def fst(folder: Path) -> Iterator[Case]:
+    """FST, as Icarus writes it, of the right bridge and of two faults."""
+    for bug in (run.RIGHT, run.BUGS[1], run.BUGS[-1]):
+        runs = made(testbench(bug), "iverilog", folder)
+        lines, _ = simulated(runs, folder, "run.fst", "+requests=25")
+        yield f"{bug}, FST", same(read(folder, MAP, "run.fst"), lines)
+    whole = (folder / "run.fst").read_bytes()
+    (folder / "cut.fst").write_bytes(whole[: len(whole) // 2])
+    yield "an FST that is cut", one_line(read(folder, MAP, "cut.fst"), lines)
+
+
+def styles(folder: Path) -> Iterator[Case]:
+    """Names in the styles of other projects, and two clocks."""
+    for top in ("rocket", "opentitan"):
+        lines, _ = simulated(made(style(top), "iverilog", folder), folder, "run.vcd")
+        yield f"names of {top}", same(read(folder, (DUMPS / f"{top}.map").read_text(), "run.vcd"), lines)
+    yield "a reply of OpenTitan's that is denied", None if re.search(r"(?m)^D 0 1 .* 1 0{16} 1$", lines) else "none was"
+    runs = made(style("two_clocks"), "iverilog", folder)
+    bus, said = simulated(runs, folder, "run.vcd")
+    memory, _ = simulated(runs, folder, "again.vcd", "+axi")
+    resets = [int(it) + 3 for it in re.findall(r"reset at (\d+)", said)]
+    yield "two clocks, each with a reset", same(read(folder, (DUMPS / "two_clocks.map").read_text(), "run.vcd"), merged(bus, memory, resets))
+
+
+def merged(bus: str, memory: str, resets: List[int]) -> str:
+    """What two monitors printed in two clocks, as one: in one time A lines, those of the AXI4 port, and D lines. From the first edge under
+    reset in the clock of channels A and D (`resets`) nothing is told of the AXI4 port until it was reset too."""
+    parts = [it.split("= reset\n") for it in (bus, memory)]
+    lines: List[Tuple[int, str]] = []
+    for at, (ours, theirs) in enumerate(zip(*parts)):
+        placed = [(now, 0 if line[0] == "A" else 2, (now, line)) for now, line in timed(ours)]
+        latest, end = 0, resets[at] if at < len(resets) else sys.maxsize
+        for now, line in timed(theirs):
+            latest = max(now, latest)  # W lines stand where their AW came
+            placed += [(latest, 1, (now, line))] if latest < end else []
+        lines += ([(0, "= reset")] if at else []) + [it for _, _, it in sorted(placed, key=lambda it: it[:2])]
+    return printed(iter(lines))
+
+
+def verilator(folder: Path, faults: Tuple[str, ...]) -> Iterator[Case]:
+    """Dumps by Verilator: FST of the testbench, and VCD in which structs are scopes; and VCD of these faults."""
+    lines, _ = simulated(made(testbench(), "verilator", folder / "fst", ("--trace-fst",)), folder, "run.fst", "+requests=40", "+resets=1")
+    yield "the right bridge by Verilator, FST", same(read(folder, MAP, "run.fst"), lines)
+    runs = made(style("opentitan"), "verilator", folder / "structs", ("--trace", "--trace-structs"))
+    lines, _ = simulated(runs, folder, "run.vcd")
+    yield "structs as scopes by Verilator", same(read(folder, (DUMPS / "opentitan.map").read_text(), "run.vcd"), lines)
+    for bug in faults:
+        runs = made(testbench(bug), "verilator", folder / bug)
+        lines, _ = simulated(runs, folder, "run.vcd", "+requests=25")
+        yield f"{bug} by Verilator, VCD", same(read(folder, MAP, "run.vcd"), lines)
+
+
+def one_line(ran: subprocess.CompletedProcess, lines: str = "", named: Tuple[str, ...] = (), status: int = 2) -> Optional[str]:
+    """How a run of a command didn't end in one line that has these words, a status, and the first of these lines."""
+    if ran.returncode != status:
+        return f"status {ran.returncode}, not {status}; it said {ran.stderr.strip()[-300:]!r}"
+    if ran.stderr.count("\n") != 1 or not all(it in ran.stderr for it in named):
+        return f"it said {ran.stderr[-300:]!r}, without {named}"
+    return None if lines.startswith(ran.stdout) else "it printed lines that weren't observed"
+
+
+def in_process(the_map: str, dump: bytes) -> Tuple[str, str]:
+    """The lines of a dump, and the fault that ended them or nothing."""
+    text: List[str] = []
+    try:
+        observe(Dump(io.BytesIO(dump)), Reader("ports.map").read(the_map), text.append)
+    except Fault as why:
+        return "".join(text), str(why)
+    return "".join(text), ""
+
+
+def hostile(folder: Path, dump: bytes, lines: str) -> Iterator[Case]:
+    """Dumps that are cut, that have noise in them, or lack what the map names."""
+    lot = random.Random(7)
+    head = dump.index(b"$enddefinitions")
+    places = [*range(0, 400), *(lot.randrange(head) for _ in range(100)), *(lot.randrange(head, len(dump)) for _ in range(60))]
+    wrong = [at for at in places if not cut_well(dump, lines, at)]
+    yield "a dump that is cut anywhere", f"not when cut at {wrong[:5]}" if wrong else None
+    yield "a dump with noise in it", noisy(dump, lines, lot)
+    for name, data in (("noise", lot.randbytes(100_000)), ("no byte", b""), ("a packed dump that is cut", gzip.compress(dump)[:9000])):
+        (folder / "hostile.vcd").write_bytes(data)
+        yield f"{name} for a dump", one_line(read(folder, MAP, "hostile.vcd"), lines)
+    (folder / "noise.fst").write_bytes(b"\0" + lot.randbytes(5000))
+    if shutil.which("fst2vcd"):
+        yield "noise for an FST", one_line(read(folder, MAP, "noise.fst"))
+    ran = command("waves", folder / "ports.map", folder / "noise.fst", environment={"PATH": ""})
+    yield "an FST without fst2vcd", one_line(ran, named=("fst2vcd", "gtkwave"), status=3)
+    (folder / "hostile.vcd").write_bytes(dump[: dump.index(b"\n#5\n") + 1])
+    yield "a clock without an edge", one_line(read(folder, MAP, "hostile.vcd"), named=("testbench.clock", "edge"))
+    off = dump.replace(b"\n#500\n", b"\n#500\n$dumpoff\nx!\n$end\n", 1)
+    (folder / "hostile.vcd").write_bytes(off)
+    yield "a dump that is turned off", one_line(read(folder, MAP, "hostile.vcd"), lines, ("off from 500",))
+
+
+def cut_well(dump: bytes, lines: str, at: int) -> bool:
+    """Whether a dump that is cut gives the first of its lines, and a fault where it ends in the head or in the midst of a line."""
+    got, why = in_process(MAP, dump[:at])
+    is_whole = at > dump.index(b"$enddefinitions $end\n") + 20 and dump[at - 1 : at] == b"\n"
+    return lines.startswith(got) and (is_whole or bool(why))
+
+
+def noisy(dump: bytes, lines: str, lot: random.Random) -> Optional[str]:
+    """Whether bytes by lot in a dump are told, or do no harm, as in signals that the map doesn't name."""
+    told_of, harmed = 0, []
+    for _ in range(60):
+        data, at = bytearray(dump), lot.randrange(len(dump) - 50)
+        data[at : at + 40] = lot.randbytes(40)
+        got, why = in_process(MAP, bytes(data))
+        told_of += bool(why)
+        harmed += [] if why or got == lines else [at]
+    return f"not at {harmed[:5]}" if harmed else None if told_of > 20 else f"{told_of} of 60 were told"
+
+
+def commanded(folder: Path, lines: str) -> Iterator[Case]:
+    """Maps at fault, and the command's words, on the dump of a right run."""
+    faults = (
+        ("a signal that isn't there", MAP.replace("axi flat testbench.", "axi flat testbench.m_"), ("testbench.m_aw_valid", "testbench.aw_valid")),
+        ("a clock that isn't there", MAP.replace("testbench.clock", "testbench.clk"), ("testbench.clk", "testbench.clock")),
+        ("a field that nothing names", MAP.replace("b ready =1\n", "b ready testbench.b_redy\n"), ("testbench.b_redy", "nearest", "testbench.w_ready")),
+        ("a port of 128 bits", f"{MAP}a 0 data testbench.a_data\n", ("testbench.a_data has 128 bits",)),
+        ("a port of 128 lanes", f"{MAP}w strb testbench.a_mask\n", ("testbench.a_mask has 16 bits",)),
+        ("a slice out of range", f"{MAP}w strb testbench.w_strb[8:1]\n", ("testbench.w_strb[8:1]",)),
+        ("parts that don't fit", MAP.replace("part 0 of 2", "part 0 of 3"), ("parts",)),
+        ("a path of several signals", MAP.replace("testbench.clock", "a_valid"), ("several signals",)),
+        ("a word that no line begins with", f"{MAP}clok testbench.clock\n", ("line 10", "clok")),
+        ("a style that isn't there", MAP.replace("axi flat", "axi fat"), ("line 6",)),
+        ("a port ahead of its clock", f"client 3 flat testbench.\n{MAP}", ("line 1",)),
+        ("a field that isn't there", f"{MAP}aw qos =0\n", ("line 10", "aw qos")),
+        ("a ready map that isn't there", f"{MAP}use rocket testbench\n", ("rocket-chip", "opentitan", "pulp")),
+        ("a map of nothing", "# nothing\n", ("names no port",)),
+    )
+    for name, the_map, named in faults:
+        yield name, one_line(read(folder, the_map, "run.vcd"), named=named)
+    (folder / "ports.map").write_text(MAP)
+    setup = RTL / "setup.lines"
+    ran = command("waves", folder / "ports.map", folder / "run.vcd", "--setup", setup, "--end")
+    yield "a set-up and an end", same(ran, f"{setup.read_text()}{lines}= end\n")
+    yield "a dump that isn't there", one_line(command("waves", folder / "ports.map", folder / "none.vcd"), named=("none.vcd",), status=3)
+    ran = command("waves", folder / "ports.map")
+    yield "a word too few", one_line(ran, named=("--help",), status=6)
+    ran = command("waves", "--help")
+    yield "the help", None if ran.returncode == 0 and all(it in ran.stdout for it in ("renumber", "chisel", "opentitan")) else ran.stderr
+    yield "progress on a terminal", progress(folder)
+
+
+def progress(folder: Path) -> Optional[str]:
+    """Whether a terminal is told how far a dump is read, that comes through a pipe with a rest in between."""
+    pipe = folder / "pipe.vcd"
+    os.mkfifo(pipe)
+    data = (folder / "run.vcd").read_bytes()
+    parent, child = pty.openpty()
+    words = [sys.executable, "-m", "zuldegei.waves", str(folder / "ports.map"), str(pipe)]
+    environment = {**os.environ, "PYTHONPATH": str(TOP / "python"), "PYTHONDONTWRITEBYTECODE": "1"}
+    with subprocess.Popen(words, stdout=subprocess.DEVNULL, stderr=child, env=environment) as ran:
+        os.close(child)
+        feeder = threading.Thread(target=fed, args=(pipe, data))
+        feeder.start()
+        said = b""
+        try:
+            while True:
+                said += os.read(parent, 4096)
+        except OSError:
+            pass  # a terminal that nobody writes to any more
+        feeder.join()
+        ran.wait()
+    os.close(parent)
+    return None if re.search(rb"\d MB, [\d.]+ MB/s, [\d,]+ beats", said) and ran.returncode == 0 else repr(said[-200:])
+
+
+def fed(pipe: Path, data: bytes) -> None:
+    """Writes to a pipe half at once, and the rest after a second."""
+    with pipe.open("wb") as stream:
+        stream.write(data[: len(data) // 2])
+        stream.flush()
+        time.sleep(1)
+        stream.write(data[len(data) // 2 :])
+
+
+# A dump by hand: a client's port and an AXI4 port, in each of two forms, with digits that nobody knows.
+WIDTHS = {"opcode": 3, "param": 3, "size": 4, "source": 4, "address": 32, "mask": 8, "data": 64, "corrupt": 1, "denied": 1, "id": 4}
+HAND = """clock top.clock
+client 0 flat top.
+axi amba top.m_axi_
+"""
+
+
+class Hand:
+    """A dump by hand, one beat in each clock."""
+
+    def __init__(self, is_by_bit: bool = False):
+        self.is_by_bit, self.names, self.body, self.time = is_by_bit, {}, [], 0
+        self.declared = ["$timescale 1ns $end", "$scope module top $end", "$var wire 1 clock clock $end"]
+
+    def signal(self, name: str, width: int) -> None:
+        """Declares a signal, whole or bit by bit, as some simulators dump vectors."""
+        self.names[name] = width
+        if self.is_by_bit and width > 1:
+            self.declared += [f"$var wire 1 {name}.{at} {name} [{at}] $end" for at in range(width)]
+        else:
+            self.declared.append(f"$var wire {width} {name} {name} [{width - 1}:0] $end" if width > 1 else f"$var wire 1 {name} {name} $end")
+
+    def change(self, name: str, digits: str) -> None:
+        width = self.names[name]
+        if self.is_by_bit and width > 1:
+            filled = digits.rjust(width, "0" if digits[0] == "1" else digits[0])
+            self.body += [f"{digit}{name}.{width - 1 - at}" for at, digit in enumerate(filled)]
+        else:
+            self.body.append(f"b{digits} {name}" if width > 1 else f"{digits}{name}")
+
+    def clock(self, values: Dict[str, str]) -> None:
+        """A clock in which these values stand, and all signals of `valid` that aren't named are low."""
+        self.body += [f"#{self.time}", "0clock"]
+        for name in self.names:
+            if "valid" in name or "ready" in name:
+                self.change(name, values.get(name, "0" if "valid" in name else "1"))
+        for name, digits in values.items():
+            self.change(name, digits)
+        self.body += [f"#{self.time + 5}", "1clock"]
+        self.time += 10
+
+    def text(self) -> bytes:
+        return "\n".join([*self.declared, "$upscope $end", "$enddefinitions $end", *self.body, ""]).encode()
+
+
+FIELDS_A = ("opcode", "param", "size", "source", "address", "mask", "data", "corrupt")
+AXI_WIDTHS = {"awid": 4, "awaddr": 32, "awlen": 8, "awsize": 3, "wdata": 64, "wstrb": 8, "wlast": 1, "bid": 4, "bresp": 2}
+AXI_WIDTHS.update(arid=4, araddr=32, arlen=8, arsize=3, rid=4, rdata=64, rresp=2, rlast=1)
+
+
+def hand(is_by_bit: bool) -> Hand:
+    made_by_hand = Hand(is_by_bit)
+    for channel, names in (("a", FIELDS_A), ("d", ("opcode", "size", "source", "denied", "data", "corrupt"))):
+        for name in ("valid", "ready", *names):
+            made_by_hand.signal(f"{channel}_{name}", WIDTHS.get(name, 1))
+    for channel in ("aw", "w", "b", "ar", "r"):
+        for name in ("valid", "ready"):
+            made_by_hand.signal(f"m_axi_{channel}{name}", 1)
+    for name, width in AXI_WIDTHS.items():
+        made_by_hand.signal(f"m_axi_{name}", width)
+    return made_by_hand
+
+
+def a_beat(**fields: str) -> Dict[str, str]:
+    plain = dict(opcode="0", param="0", size="11", source="101", address="1000", mask="11111111", data="1", corrupt="0")
+    return {"a_valid": "1", **{f"a_{name}": digits for name, digits in {**plain, **fields}.items()}}
+
+
+# Each clock of the dump by hand, and the lines that are due: digits as IEEE 1800 has them for %h and %d, in capitals where only some of
+# the bits of a digit aren't known; and zeros in lanes that tell nothing.
+UNKNOWN = (
+    (a_beat(), "A 0 0 0 3 5 00000008 ff 0000000000000001 0"),
+    (a_beat(data="x"), "A 0 0 0 3 5 00000008 ff xxxxxxxxxxxxxxxx 0"),
+    (a_beat(data="z0001111"), "A 0 0 0 3 5 00000008 ff zzzzzzzzzzzzzzZf 0"),
+    (a_beat(data="1x01zzzz"), "A 0 0 0 3 5 00000008 ff 00000000000000Xz 0"),
+    (a_beat(data="x00000001", mask="1"), "A 0 0 0 3 5 00000008 01 0000000000000001 0"),
+    (a_beat(opcode="100", data="x"), "A 0 4 0 3 5 00000008 ff 0000000000000000 0"),
+    (a_beat(size="x", source="1x"), "A 0 0 0 x X 00000008 ff 0000000000000001 0"),
+    (a_beat(address="x0000", corrupt="x"), "A 0 0 0 3 5 xxxxxxx0 ff 0000000000000001 x"),
+    (a_beat(source="zzzz", mask="z"), "A 0 0 0 3 z 00000008 zz 0000000000000001 0"),
+    ({"a_valid": "x"}, None),
+    ({**a_beat(), "a_ready": "0"}, None),
+)
+
+
+def by_hand() -> Iterator[Case]:
+    """Unknown digits, in signals that are dumped whole and bit by bit."""
+    for is_by_bit in (False, True):
+        dump = hand(is_by_bit)
+        for values, _ in UNKNOWN:
+            dump.clock(values)
+        got, why = in_process(HAND, dump.text())
+        wanted = printed((10 * at + 5, line) for at, (_, line) in enumerate(UNKNOWN) if line)
+        form = "bit by bit" if is_by_bit else "whole"
+        yield f"unknown digits, vectors {form}", why or (None if got == wanted else f"{got!r}, not {wanted!r}")
+    yield from refused_by_hand()
+
+
+def refused_by_hand() -> Iterator[Case]:
+    """What can be seen at a beat alone: a burst on 32 bits, and an address of too many bits; and IDs with other numbers."""
+    dump = hand(False)
+    dump.signal("wide", 40)
+    dump.signal("narrow", 32)
+    dump.signal("lanes", 4)
+    dump.clock({**a_beat(size="10", address="1100"), "wide": "1" + "0" * 36, "narrow": "1", "lanes": "1111"})
+    narrow = f"{HAND}a 0 data top.narrow\na 0 mask top.lanes\n"
+    got, why = in_process(narrow, dump.text())
+    yield "a word of 32 bits in the upper half", why or (None if got == "time 5\nA 0 0 0 2 5 0000000c f0 0000000100000000 0\n" else got)
+    yield "a burst on 32 bits", refusal(in_process(narrow.replace("client", "client"), dump.text().replace(b"b10 a_size", b"b11 a_size")), "32 bits")
+    yield "an address of 40 bits", refusal(in_process(f"{HAND}a 0 address top.wide\n", dump.text()), "more than 32 bits")
+    got, why = in_process(f"{HAND}a 0 address top.wide[31:0]\nrenumber source 0 5 17\n", dump.text())
+    yield "a slice, and another number", why or (None if got.startswith("time 5\nA 0 0 0 2 17 00000000 ") else got)
+    dump = hand(False)
+    dump.clock({"m_axi_bvalid": "1", "m_axi_bid": "1001", "m_axi_bresp": "10"})
+    dump.clock({"m_axi_rvalid": "1", "m_axi_rid": "1", "m_axi_rdata": "x", "m_axi_rresp": "xx", "m_axi_rlast": "1"})
+    got, why = in_process(f"{HAND}renumber id 9 2\n", dump.text())
+    wanted = "time 5\nB 2 SLVERR\ntime 15\nR 1 xxxxxxxxxxxxxxxx x 1\n"
+    yield "another number for an ID", why or (None if got == wanted else got)
+
+
+def refusal(ended: Tuple[str, str], named: str) -> Optional[str]:
+    return None if named in ended[1] and not ended[0] else f"it said {ended[1]!r} behind {ended[0]!r}"
+
+
+WORDS = "// two words, and others\n1122334455667788 99aabbccddeeff00\n@5 x1 zz00 /* a\n comment */ dead_beef\n@3 1x000000000002"
+READS = """module top;
+    logic [63:0] words[8];
+    initial begin
+        for (int i = 0; i < 8; i++) words[i] = 'x;
+        $readmemh("words.hex", words);
+        for (int i = 0; i < 64; i++) if (^words[i/8][i%8*8+:8] !== 1'bx) $display("%h %h", 16'(i), words[i/8][i%8*8+:8]);
+    end
+endmodule
+"""
+IMAGE = 'const char text[] = "hello, memory"; long more[40] = {1, 2, 3, [39] = -1}; int zeros[20]; void _start(void) {}\n'
+
+
+def filled(ran: subprocess.CompletedProcess) -> Dict[int, int]:
+    """The bytes of fill lines, each of which has 32 at the most."""
+    lines = [line.split() for line in ran.stdout.splitlines()]
+    assert all(line[0] == "fill" and len(line) <= 34 for line in lines), ran.stdout
+    return {int(line[1], 16) + at: int(byte, 16) for line in lines for at, byte in enumerate(line[2:])}
+
+
+def images(folder: Path, score: str) -> Iterator[Case]:
+    """The fill lines of each kind of image."""
+    (folder / "words.hex").write_text(WORDS)
+    if shutil.which("iverilog"):
+        (folder / "reads.sv").write_text(READS)
+        run.simulated(["iverilog", "-g2012", "-o", str(folder / "reads"), str(folder / "reads.sv")])
+        ran = subprocess.run(["vvp", "-n", str(folder / "reads")], capture_output=True, text=True, cwd=folder)
+        wanted = {0x10000 + int(line.split()[0], 16): int(line.split()[1], 16) for line in ran.stdout.splitlines() if " " in line[4:5]}
+        got = filled(command("fill", folder / "words.hex", "--at", "10000"))
+        yield "what $readmemh reads, as Icarus does", None if got == wanted and len(got) > 40 else f"{got}, not {wanted}"
+    if shutil.which("objcopy"):
+        yield "an ELF, as objcopy has it", elf(folder)
+    else:
+        print("skipped: the image of an ELF, as objcopy isn't installed")
+    data = random.Random(3).randbytes(100)
+    (folder / "image.bin").write_bytes(data)
+    ran = command("fill", folder / "image.bin", "--format", "binary", "--at", "10ff0")
+    yield "a binary", None if filled(ran) == {0x10FF0 + at: byte for at, byte in enumerate(data)} else ran.stdout + ran.stderr
+    yield from judged_behind(ran.stdout, data, score)
+    (folder / "words.hex").write_text("11223344556677889")
+    yield "a word that is too long", one_line(command("fill", folder / "words.hex", "--width", "8"), named=("11223344556677889",))
+    ran = command("fill", folder / "image.bin", "--format", "binary", "--at", "fffffff0")
+    yield "an address of more than 32 bits", one_line(ran, ran.stdout, ("32 bits",))
+
+
+def elf(folder: Path) -> Optional[str]:
+    """An ELF's fill lines, and whether one that is cut is refused."""
+    (folder / "image.c").write_text(IMAGE)
+    linked = ["-nostdlib", "-static", "-Wl,-Ttext=0x80000000", "-Wl,--build-id=none", "-Wl,-z,noseparate-code", "-fno-pie", "-no-pie"]
+    subprocess.run(["cc", *linked, "-o", "image.elf", "image.c"], cwd=folder, check=True, capture_output=True)
+    subprocess.run(["objcopy", "-O", "binary", "image.elf", "image.bin"], cwd=folder, check=True)
+    got, image = filled(command("fill", folder / "image.elf")), (folder / "image.bin").read_bytes()
+    places = [at for at in got if bytes(got.get(at + k, 0) for k in range(len(image))) == image]
+    with_zeros = filled(command("fill", folder / "image.elf", "--zeros"))
+    if not places or len(with_zeros) < len(got) + 80:
+        return f"{len(got)} bytes, of which none begins the image of {len(image)}, or {len(with_zeros)} with zeros"
+    (folder / "cut.elf").write_bytes((folder / "image.elf").read_bytes()[:100])
+    ran = command("fill", folder / "cut.elf")
+    return one_line(ran, ran.stdout, ("ELF",))
+
+
+def judged_behind(lines: str, data: bytes, score: str) -> Iterator[Case]:
+    """What the scoreboard says of a Get of bytes that fill lines tell, where pages begin with nobody knows what."""
+    word = int.from_bytes(data[0x18:0x20], "little")
+    for name, told_word, status in (("right", word, 0), ("wrong", word ^ 1, 1)):
+        text = f"config 2 4 16 2 16 12 hh\nregion 0 4 10 gpah\npage 10 4 any\n{lines}"
+        text += f"A 1 4 0 3 7 00001008 ff 0 0\nD 1 1 0 3 7 0 {told_word:016x} 0\n"
+        ran = subprocess.run([score], input=text, capture_output=True, text=True)
+        is_well = ran.returncode == status and "compared 8 of 8" in ran.stdout
+        yield f"a Get of what was filled, {name}", None if is_well else f"status {ran.returncode}, {ran.stdout}{ran.stderr}"
+
+
+def cases(folder: Path, score: str, faults: Tuple[str, ...]) -> Iterator[Case]:
+    yield from by_hand()
+    yield from images(folder, score)
+    if shutil.which("iverilog"):
+        yield from icarus(folder)
+        yield from styles(folder)
+        if shutil.which("fst2vcd"):
+            yield from fst(folder)
+        else:
+            print("skipped: FST, as fst2vcd isn't installed")
+    else:
+        print("skipped: dumps by Icarus, as iverilog isn't installed")
+    if shutil.which("verilator") and shutil.which("fst2vcd"):
+        yield from verilator(folder, faults)
+    else:
+        print("skipped: dumps by Verilator, as verilator or fst2vcd isn't installed")
+
+
+def main() -> int:
+    asked = argparse.ArgumentParser(description=__doc__)
+    asked.add_argument("tlscore")
+    asked.add_argument("--all", action="store_true", help="also each fault by Verilator, which takes long to build each")
+    given = asked.parse_args()
+    with tempfile.TemporaryDirectory() as folder:
+        return told(cases(Path(folder), given.tlscore, run.BUGS if given.all else ()))
+
+
+if __name__ == "__main__":
+    sys.exit(main())
