@@ -1,0 +1,380 @@
+"""What is behind a wrong beat: the request, who wrote its bytes, which bursts carried them, and on which side of a bridge to look."""
+
+from enum import Enum
+from typing import Dict, List, NamedTuple, Optional, Tuple
+
+from .history import Burst, Given, History, Request, Transfer
+from .observation import AR, AW, PAGE, W, WORD, Beat, Wrong, byte_of, number, plural, spans
+
+MOST_LISTED = 4  # requests of a list
+
+
+class Side(Enum):
+    """Where to look: a part of a bridge, or what is beside it."""
+
+    WRITE = "write data: the way from channel A to W"
+    READ = "read data: the way from R to channel D"
+    REPLY = "reply: how channel D is told that a request is done"
+    ORDER = "order: what is done before what"
+    LIMIT = "limit: where and how large bursts are, and how many"
+    REQUEST = "request: what is taken on channel A"
+    ANSWER = "answer: B and R, which the memory gives"
+
+
+class Cause(NamedTuple):
+    """The side to look at, the sentence that says why, what it rests on, in lines of text, and the requests and bursts behind it."""
+
+    side: Side
+    sentence: str
+    grounds: List[str]
+    behind: Tuple[object, ...] = ()
+
+    def text(self) -> str:
+        return "\n".join([f"  look at the {self.side.value}", f"  {self.sentence}", *(f"    {it}" for it in self.grounds)])
+
+
+BY_AXI_RULE = {
+    "SIZE": (Side.LIMIT, "Its transfers are wider than the bus"),
+    "BURST_KIND": (Side.LIMIT, "Its burst isn't INCR"),
+    "CROSS_4K": (Side.LIMIT, "Its first byte and its last lie in different pages of 4 KB"),
+    "ID_RANGE": (Side.LIMIT, "Its ID is none of the port's"),
+    "DEPTH": (Side.LIMIT, "Its ID has as many bursts open as it may have"),
+    "PLACE": (Side.LIMIT, "No region leads to its page"),
+    "W_WITHOUT_AW": (Side.WRITE, "No address asks for these data"),
+    "STROBE": (Side.WRITE, "It has a strobe in a lane that its transfer doesn't cover"),
+    "WLAST": (Side.WRITE, "Its `last` isn't as the length of its burst has it"),
+    "B_WITHOUT_WRITE": (Side.ANSWER, "No write of its ID waits for an answer, or its data aren't all there"),
+    "R_WITHOUT_READ": (Side.ANSWER, "No read of its ID waits for data"),
+    "RLAST": (Side.ANSWER, "Its `last` isn't as the length of its burst has it"),
+    "EXOKAY": (Side.ANSWER, "EXOKAY answers exclusive accesses, and there are none"),
+}
+
+
+class Explainer:
+    """Explains wrong beats from the history of an observation."""
+
+    def __init__(self, history: History):
+        self.history, self.at = history, history.observation.place
+
+    def cause(self, wrong: Wrong) -> Cause:
+        """What is behind a wrong line."""
+        found = self.history.of_line.get(wrong.line)
+        cause = self.unanswered(wrong) if wrong.name == "UNANSWERED" else self.of_beat(wrong, found)
+        related = (found.request,) if isinstance(found, Burst) else tuple(found.bursts) if isinstance(found, Request) else ()
+        behind = [it for it in (found, *related, *cause.behind) if it is not None]
+        return cause._replace(behind=tuple({id(it): it for it in behind}.values()))
+
+    def of_beat(self, wrong: Wrong, found: object) -> Cause:
+        """What is behind a wrong beat."""
+        if wrong.kind in ("request", "client"):
+            return self.of_request(wrong, found)
+        if wrong.kind == "axi":
+            return self.of_axi(wrong, found)
+        beat = self.beat(wrong.line)
+        if isinstance(found, Request) and wrong.name == "PAYLOAD" and wrong.due:
+            return self.payload(wrong, found, beat)
+        return self.of_reply(wrong, found, beat)
+
+    def beat(self, line: int) -> Optional[Beat]:
+        return next((it for it in self.history.observation.beats() if it.line == line), None)
+
+    def named(self, request: Request) -> str:
+        return f"{request.name()} ({self.at(request.begun)})"
+
+    def of_request(self, wrong: Wrong, found: object) -> Cause:
+        grounds = [self.named(found)] if isinstance(found, Request) else []
+        if wrong.name == "SOURCE_BUSY":
+            beat = self.beat(wrong.line)
+            last = self.last_of(number(beat.words[0]), number(beat.words[4]), wrong.line) if beat else None
+            grounds += [f"the source is busy with {self.named(last)}"] if last else []
+        return Cause(Side.REQUEST, f"The client breaks the rule {wrong.name} of channel A: nothing of the bridge is wrong yet.", grounds)
+
+    # ---- the AXI4 port
+
+    def of_axi(self, wrong: Wrong, found: object) -> Cause:
+        """A beat that breaks a rule of the AXI4 port."""
+        beat = self.beat(wrong.line)
+        if wrong.name == "X":
+            side = Side.WRITE if beat and beat.kind == W else Side.ANSWER if beat and beat.kind in "BR" else Side.LIMIT
+            return Cause(side, "A digit of it isn't known, where it tells something.", self.burst_grounds(found))
+        side, sentence = BY_AXI_RULE[wrong.name]
+        grounds = self.burst_grounds(found)
+        if isinstance(found, Burst) and beat and beat.kind in (AW, AR):
+            grounds += self.shifted(found)
+        if isinstance(found, Burst) and wrong.name == "WLAST":
+            number_of = [it.beat.line for it in found.transfers].index(wrong.line) + 1
+            sentence += f": it is beat {number_of} of {found.length + 1}, and `last` is {beat.words[2]}"
+        return Cause(side, f"{sentence}.", grounds)
+
+    def burst_grounds(self, found: object) -> List[str]:
+        if not isinstance(found, Burst):
+            return []
+        lines = [f"{found.name()} ({self.at(found.beat.line)})"]
+        return lines + ([f"perhaps for {self.named(found.request)}"] if found.request else [])
+
+    def shifted(self, burst: Burst) -> List[str]:
+        """How far a burst is from the request that it may be of, or which request asks for what is in no region."""
+        request = burst.request
+        if request is not None and request.port_address != burst.address:
+            return [f"that request's bytes begin at {request.port_address:08x} on this port, and the burst {burst.address:08x}"]
+        if request is None:
+            near = [it for it in self.history.requests if it.begun < burst.beat.line and it.address % PAGE == burst.address % PAGE]
+            near = [it for it in near if it.port_address is None and (it.ended is None or it.ended > burst.beat.line)]
+            return [f"perhaps for {self.named(near[-1])}, whose address lies in no region"] if near else []
+        return []
+
+    # ---- replies
+
+    def unanswered(self, wrong: Wrong) -> Cause:
+        """What was still due at the observation's end."""
+        if wrong.side:
+            burst = next((it for it in self.history.bursts if it.id == wrong.id and not it.answer and it.is_write == (wrong.side == "write")), None)
+            return Cause(Side.ANSWER, f"A {wrong.side} of ID {wrong.id} got no answer.", self.burst_grounds(burst), (burst,))
+        request = self.last_of(wrong.client, wrong.source, wrong.line, is_open=True)
+        if request is None:
+            return Cause(Side.REPLY, "A reply that is due didn't come.", [])
+        return self.never_replied(request)._replace(behind=(request, *request.bursts))
+
+    def never_replied(self, request: Request) -> Cause:
+        """How far a request came that got no whole reply."""
+        grounds = [self.named(request), *self.its_bursts(request)]
+        if request.replies:
+            return Cause(Side.REPLY, f"Its reply stopped after {plural(len(request.replies), 'beat')} of {request.replies_due}.", grounds)
+        if request.port_address is None:
+            return Cause(Side.REPLY, "No region leads to it, so that it is to be denied, and no reply came.", grounds)
+        if not request.bursts:
+            return Cause(Side.REQUEST, "It was taken on channel A, and no burst of its bytes went out: it was lost before that.", grounds)
+        if all(it.answer for it in request.bursts):
+            return Cause(Side.REPLY, "Its bursts were all answered, and no reply came of it.", grounds)
+        return Cause(Side.ANSWER, "A burst of its bytes has no answer.", grounds)
+
+    def its_bursts(self, request: Request) -> List[str]:
+        lines = []
+        for burst in request.bursts:
+            answer = f"answered {self.at(burst.answer.line)}" if burst.answer else "not answered"
+            lines.append(f"{burst.name()} ({self.at(burst.beat.line)}), {answer}")
+        return lines
+
+    def last_of(self, client: Optional[int], source: Optional[int], line: int, is_open: bool = False) -> Optional[Request]:
+        """The last request of a client's source ahead of a line, or the last that isn't answered."""
+        found = [it for it in self.history.requests if (it.client, it.source) == (client, source) and it.begun < line]
+        found = [it for it in found if it.ended is None] if is_open else found
+        return found[-1] if found else None
+
+    def of_reply(self, wrong: Wrong, found: object, beat: Optional[Beat]) -> Cause:
+        """A reply's beat of which anything but the payload is wrong."""
+        if isinstance(found, Request) and wrong.name not in ("UNASKED", "INTERLEAVED"):
+            number_of = [it.line for it in found.replies].index(wrong.line) + 1
+            grounds = [f"beat {number_of} of {found.replies_due} of the reply to {self.named(found)}", *self.its_bursts(found), *self.errors(found)]
+            if wrong.name == "X":
+                return Cause(Side.READ if wrong.due else Side.REPLY, "A digit of it isn't known, where it tells something.", grounds)
+            side, sentence = self.of_field(wrong, found)
+            return Cause(side, sentence, grounds)
+        if wrong.name == "INTERLEAVED":
+            return self.interleaved(wrong, found, beat)
+        return self.unasked(wrong, beat)
+
+    def of_field(self, wrong: Wrong, request: Request) -> Tuple[Side, str]:
+        """Why another field than the payload differs: an error may have come too late, or of a burst beside its bytes."""
+        late = [it for it in request.bursts if it.answer is None or it.answer.line > wrong.line]
+        first, behind = request.port_address or 0, (request.port_address or 0) + request.bytes
+        astray = [it for it in request.bursts if not first <= it.address <= it.last_byte < behind]
+        if wrong.name in ("DENIED", "CORRUPT") and astray:
+            return Side.LIMIT, f"A burst of it lies beside its bytes, {first:08x} to {behind - 1:08x} on the port: due is {wrong.due}."
+        if wrong.name in ("DENIED", "CORRUPT") and late:
+            return Side.ORDER, f"It came before the answer to its burst, which tells of errors: due is {wrong.due}."
+        return Side.REPLY, f"Its {wrong.name} isn't as due: {wrong.due}."
+
+    def errors(self, request: Request) -> List[str]:
+        """The answers to its bursts that weren't OKAY."""
+        answers = [(it.answer, it.answer.words[1]) for it in request.bursts if it.is_write and it.answer]
+        answers += [(part.beat, part.beat.words[2]) for it in request.bursts if not it.is_write for part in it.transfers]
+        return [f"{self.at(beat.line)} told {response}" for beat, response in answers if response != "OKAY"]
+
+    def interleaved(self, wrong: Wrong, found: object, beat: Optional[Beat]) -> Cause:
+        """A reply begins, or goes on, where another lacks beats."""
+        client = number(beat.words[0])
+        cut = [it for it in self.history.requests if it.client == client and it.replies and it.replies[-1].line < wrong.line]
+        cut = [it for it in cut if len(it.replies) < it.replies_due]
+        grounds = [f"the reply that stopped is to {self.named(it)}" for it in cut[-1:]]
+        grounds += [f"this beat is of the reply to {self.named(found)}"] if isinstance(found, Request) else []
+        if cut:
+            have = f"after {plural(len(cut[-1].replies), 'beat')} of {cut[-1].replies_due}"
+            return Cause(Side.REPLY, f"Another reply comes {have} of the one that has begun: that one is cut short, or both are mixed.", grounds, (cut[-1],))
+        return Cause(Side.REPLY, "Its source isn't that of the reply that has begun.", grounds)
+
+    def unasked(self, wrong: Wrong, beat: Optional[Beat]) -> Cause:
+        """A reply that nobody waits for: given twice, to another source, or before its request is whole."""
+        client, source = number(beat.words[0]), number(beat.words[4])
+        last = self.last_of(client, source, wrong.line)
+        if last and (last.accepted is None or last.accepted > wrong.line):
+            return Cause(Side.ORDER, "It comes before the last beat of its request.", [self.named(last)], (last,))
+        waiting = [it for it in self.history.requests if it.client == client and it.begun < wrong.line and not replied(it, wrong.line)]
+        alike = [it for it in waiting if number(beat.words[3]) == it.size and (beat.words[1] == "0") == it.is_put]
+        lost = [it for it in alike if it.ended is None]
+        grounds = [f"the client waits for the reply to {self.named(it)}" for it in waiting[:MOST_LISTED]]
+        is_again = bool(last and last.replies and last.replies[-1].words[1:] == beat.words[1:])
+        if last and last.replies:
+            grounds.insert(0, f"the last request of this source, {self.named(last)}, got its reply in {self.at(last.replies[-1].line)}")
+            late = [it for it in last.bursts if it.answer is None or it.answer.line > last.replies[-1].line]
+            grounds[1:1] = [f"that reply came before the answer to its {it.name()} ({self.at(it.beat.line)})" for it in late]
+        if lost or alike and not is_again:
+            its = (lost or alike)[0]
+            sentence = f"No reply is due to source {source}; one like it is due to source {its.source}: it may have the wrong source."
+            return Cause(Side.REPLY, sentence, grounds, (its, *its.bursts, last))
+        sentence = "The last reply of this source comes again." if is_again else "No reply is due to this source."
+        return Cause(Side.REPLY, sentence, grounds, (last, *last.bursts) if last else ())
+
+    # ---- payloads
+
+    def payload(self, wrong: Wrong, request: Request, beat: Beat) -> Cause:
+        """A reply's beat with other bytes than are due: each byte has its story, and the first decides on the side."""
+        number_of = [it.line for it in request.replies].index(wrong.line)
+        got, due = beat.words[6], wrong.due.split()[7]
+        base = request.address // WORD * WORD + number_of * WORD
+        lanes = [it for it in range(WORD) if byte_of(got, it) != byte_of(due, it) and request.address <= base + it < request.address + request.bytes]
+        lanes = lanes or [it for it in range(WORD) if byte_of(got, it) != byte_of(due, it)]
+        stories: Dict[Tuple, List[int]] = {}
+        behind: List[object] = []
+        for lane in lanes:
+            story = ByteStory(self, request, beat, base + lane, byte_of(got, lane), byte_of(due, lane))
+            cause = story.told()
+            stories.setdefault((cause.side, cause.sentence, *cause.grounds), []).append(lane)
+            behind += [*cause.behind, story.writer, *(story.writer.bursts if story.writer else ())]
+        grounds = [f"beat {number_of + 1} of {request.replies_due} of the reply to {self.named(request)}"]
+        for (_, sentence, *its_grounds), its_lanes in stories.items():
+            values = [" ".join(hexed(byte_of(text, it)) for it in its_lanes) for text in (due, got)]
+            grounds.append(f"at {spans([base + it for it in its_lanes])}: due {values[0]}, came {values[1]}")
+            grounds += [f"  {it}" for it in ([sentence] if len(stories) > 1 else []) + its_grounds]
+        side, sentence = next(iter(stories))[:2] if stories else (Side.READ, "It differs in bytes that its request doesn't ask for.")
+        return Cause(side, sentence, grounds + self.races(request), tuple(behind))
+
+    def races(self, request: Request) -> List[str]:
+        """The requests that may write a byte of it and were in flight with it."""
+        first = request.port_address
+        found = [it for it in self.history.in_flight_with(request) if it.has_data and it.port_address is not None and first is not None]
+        found = [it for it in found if it.port_address < first + request.bytes and first < it.port_address + it.bytes]
+        return [f"in flight with it: {self.named(it)}" for it in found[:MOST_LISTED]]
+
+
+def hexed(value: Optional[int]) -> str:
+    return "xx" if value is None else f"{value:02x}"
+
+
+def replied(request: Request, line: int) -> bool:
+    """Whether a request's reply had come whole before a line."""
+    return request.ended is not None and request.ended < line
+
+
+class ByteStory:
+    """What became of a byte up to the reply that shows it: who gave it last, which W beats had it, and which R beat brought it."""
+
+    def __init__(self, explainer: Explainer, request: Request, reply: Beat, address: int, got: Optional[int], due: Optional[int]):
+        self.history, self.at, self.named = explainer.history, explainer.at, explainer.named
+        self.request, self.reply, self.got, self.due = request, reply, got, due
+        observation = explainer.history.observation
+        self.place = observation.on_the_port(address)
+        self.writer, self.given = self.last_writer()
+        self.carried = self.brought()
+
+    def last_writer(self) -> Tuple[Optional[Request], Optional[Given]]:
+        """The request accepted last before this one that gives the byte."""
+        found: Tuple[Optional[Request], Optional[Given]] = (None, None)
+        for other in self.history.requests:
+            is_before = other.accepted is not None and self.request.accepted is not None and other.accepted < self.request.accepted
+            if is_before and self.place is not None and other.covers(self.place):
+                given = other.gives(other.own_address(self.place))
+                is_corrupt = any(it.words[8] == "1" for it in other.beats)
+                found = (other, given) if given and not is_corrupt else found
+        return found
+
+    def brought(self) -> Optional[Tuple[Burst, Transfer]]:
+        """The R beat of the byte that came last before the reply, by a burst of this request, or else by any that it may be of."""
+        found = []
+        for burst in self.history.bursts:
+            part = burst.transfer_of(self.place) if not burst.is_write and self.place is not None else None
+            if part and self.request.begun < burst.beat.line and part.beat.line <= self.reply.line:
+                found.append((burst.request is self.request, part.beat.line, burst, part))
+        if not found:
+            return None
+        own = [it for it in found if it[0]] or found
+        return max(own, key=lambda it: it[1])[2:]
+
+    def told(self) -> Cause:
+        """The side, the sentence and its grounds."""
+        grounds = [self.origin()]
+        late = [it for it in self.request.bursts if not it.is_write and (it.answer is None or it.answer.line > self.reply.line)]
+        if self.carried is None and late:
+            its_read = f"read: {late[0].name()} ({self.at(late[0].beat.line)})"
+            return Cause(Side.REPLY, "The reply came before R brought this byte.", [*grounds, its_read])
+        if self.carried is None:
+            return Cause(Side.READ, "No R beat of this byte came since the request: look at the addresses of reads.", grounds)
+        burst, part = self.carried
+        value = part.byte(self.place)
+        its_read = f"read: {self.at(burst.beat.line)}, AR of ID {burst.id}; {self.at(part.beat.line)}, R"
+        if value == self.due:
+            return Cause(Side.READ, "R brought the due byte, and the reply shows another one.", [*grounds, f"{its_read} has {hexed(value)}, the due byte"])
+        if value != self.got:
+            sentence = "R brought another byte than is due, and the reply shows neither."
+            return Cause(Side.READ, sentence, [*grounds, f"{its_read} has {hexed(value)}"])
+        grounds.append(f"{its_read} has {hexed(value)}, as the reply shows")
+        return self.written(grounds, burst, part)
+
+    def origin(self) -> str:
+        if self.writer:
+            its_beat = "" if self.given.line == self.writer.begun else f", in {self.at(self.given.line)}"
+            return f"last given by {self.named(self.writer)}{its_beat}"
+        for line, first, values in self.history.observation.fills:
+            if self.place is not None and first <= self.place < first + len(values):
+                return f"given by no request: the memory began with {values[self.place - first]:02x} ({self.at(line)})"
+        return "given by no request: the memory began with it"
+
+    def writes(self, since: int, until: int) -> List[Tuple[Burst, Transfer]]:
+        """The W beats between two lines whose transfers cover the byte."""
+        found = []
+        for burst in self.history.bursts:
+            part = burst.transfer_of(self.place) if burst.is_write else None
+            if part and since < burst.beat.line < until and part.beat.line < until:
+                found.append((burst, part))
+        return sorted(found, key=lambda it: it[1].beat.line)
+
+    def written(self, grounds: List[str], read: Burst, brought: Transfer) -> Cause:
+        """The memory gave a byte that isn't due: it wasn't written, was written wrong, too late, or over."""
+        since = self.writer.begun if self.writer else 0
+        beats = self.writes(since, brought.beat.line)
+        others = [it for it in beats if it[0].request is not self.writer or self.writer is None]
+        over = [it for it in others if it[1].is_written(self.place) and it[1].byte(self.place) == self.got]
+        for burst, part in reversed(over):
+            giver = burst.request.gives(burst.request.own_address(self.place)) if burst.request and burst.request.covers(self.place) else None
+            if giver is None or giver.value != self.got:
+                why = f"write: {self.at(part.beat.line)}, W of {burst.name()}, has a strobe for this byte"
+                asked = f"its request, {self.named(burst.request)}, doesn't give it" if burst.request else "no request asks for it"
+                sentence = "A W beat writes this byte over, which its request doesn't give: look at strobes and addresses of writes."
+                return Cause(Side.WRITE, sentence, [*grounds, why, asked], (burst, burst.request))
+        if self.writer:
+            return self.by_its_writer(grounds, read, over)
+        return Cause(Side.ANSWER, "No write gave this byte, and the memory gave it for a read.", grounds)
+
+    def by_its_writer(self, grounds: List[str], read: Burst, over: List[Tuple[Burst, Transfer]]) -> Cause:
+        """What the bursts of the request that gave the byte last did with it."""
+        later = [it for it in self.writes(self.writer.begun, len(self.history.observation.lines)) if it[0].request is self.writer]
+        if not later:
+            return Cause(Side.WRITE, "The byte that was given last was never written.", [*grounds, "write: no W beat came of that request"])
+        burst, part = later[-1]
+        its_write = f"write: {self.at(burst.beat.line)}, AW of ID {burst.id}; {self.at(part.beat.line)}, W"
+        if not part.is_written(self.place):
+            return Cause(Side.WRITE, "The W beat of this byte has no strobe for it.", [*grounds, f"{its_write}, strobes {part.beat.words[1]}"])
+        if part.byte(self.place) != self.due:
+            return Cause(Side.WRITE, "The W beat of this byte has another one.", [*grounds, f"{its_write} has {hexed(part.byte(self.place))}"])
+        answer = self.at(burst.answer.line) if burst.answer else "never"
+        grounds = [*grounds, f"{its_write} has the due byte; B {answer}"]
+        is_late = burst.answer is None or read.beat.line < burst.answer.line
+        if self.writer.replies and (burst.answer is None or self.writer.replies[-1].line < burst.answer.line):
+            grounds.append(f"the Put was acknowledged before its B, in {self.at(self.writer.replies[-1].line)}")
+            return Cause(Side.ORDER, "The read was made before the write was answered, whose acknowledgement came too soon.", grounds)
+        if is_late:
+            return Cause(Side.ORDER, "The read was made before the write was answered: it overtook it.", grounds)
+        if over:
+            grounds.append(f"write: {self.at(over[-1][1].beat.line)}, W of {over[-1][0].name()}, has the byte that came")
+            return Cause(Side.ORDER, "An older byte was written over it: a write overtook another.", grounds)
+        return Cause(Side.ANSWER, "The byte was written and answered, and the memory gave another one for the read.", grounds)

@@ -1,0 +1,66 @@
+"""zuldegei-explain: what is behind the wrong beats of an observation, as text, and as a time line in one HTML file."""
+
+import sys
+from pathlib import Path
+from typing import Sequence, Tuple
+
+from .causes import Cause, Explainer
+from .command import Status, ended, words_of
+from .history import History
+from .observation import Observation, Verdict, Wrong, plural, verdict_of
+from .timeline import page
+
+NAME = "zuldegei-explain"
+MORE = """
+OBSERVATION is what tlscore read, set-up first, and VERDICT what it printed of that:
+
+  tlscore < joined.lines > joined.told; zuldegei-explain joined.lines joined.told --html joined.html
+
+The file needs no network. Keys: + and - zoom, the arrows go on, n and p lead to the next wrong beat and the one before, f to the first, and
+a fits all.
+Status 0: nothing was wrong; 1: something was, and it is explained.
+"""
+
+
+def explained(cause: Cause, observation: Observation, wrong: Wrong) -> str:
+    """The text about a wrong line."""
+    line = observation.lines[wrong.line] if wrong.line < len(observation.lines) else ""
+    return f"{observation.place(wrong.line)}: {line}\n  {wrong.text}\n{cause.text()}\n"
+
+
+def summary(verdict: Verdict, history: History) -> str:
+    counts = [plural(len(verdict.wrong), "wrong line"), plural(len(history.requests), "request"), plural(len(history.bursts), "burst")]
+    return ", ".join(counts)
+
+
+def read(observation: str, verdict: str) -> Tuple[Observation, Verdict]:
+    """An observation and its verdict."""
+    return Observation(Path(observation).read_text(errors="replace")), verdict_of(Path(verdict).read_text(errors="replace"))
+
+
+def work(arguments: Sequence[str]) -> int:
+    words = words_of(NAME, __doc__, MORE)
+    words.add_argument("observation", help="what tlscore read")
+    words.add_argument("verdict", help="what tlscore printed")
+    words.add_argument("-n", type=int, default=1, metavar="COUNT", help="how many wrong lines are explained, from the first (1)")
+    words.add_argument("--html", metavar="FILE", help="where the time line goes")
+    given = words.parse_args(arguments)
+    observation, verdict = read(given.observation, given.verdict)
+    history = History(observation, verdict)
+    explainer = Explainer(history)
+    shown = verdict.wrong[: max(given.n, 0)]
+    causes = [explainer.cause(it) for it in shown]
+    texts = [explained(cause, observation, it) for cause, it in zip(causes, shown)]
+    print("\n".join([*texts, summary(verdict, history)]))
+    if given.html:
+        name = Path(given.observation).name
+        Path(given.html).write_text(page(history, verdict, texts, [it.behind for it in causes], name))
+    return Status.WRONG if verdict.wrong else Status.DONE
+
+
+def main() -> int:
+    return ended(NAME, lambda: work(sys.argv[1:]))
+
+
+if __name__ == "__main__":
+    sys.exit(main())
