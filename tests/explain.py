@@ -19,7 +19,7 @@ from pathlib import Path
 from typing import Dict, Iterator, List, Optional, Tuple
 
 from ends import told
-from waves import RTL, command, one_line
+from waves import RTL, TOP, command, one_line
 
 RUNS = RTL / "runs"
 # Where each fault lies, as bridge.sv says of it, by the first word of a side.
@@ -38,6 +38,7 @@ SIDES = {
     "beat-dropped": "request",
 }
 BROWSERS = ("chromium", "chromium-browser", "google-chrome")
+COLOURS = ("cfe3ff", "d8f5d0", "9fc4f5", "aee3a0", "dd0000")  # of Puts, Gets, writes, reads and what is wrong
 Case = Tuple[str, Optional[str]]
 
 
@@ -173,20 +174,22 @@ def browsed(browser: str, folder: Path, score: str) -> Iterator[Case]:
         line = verdict.read_text().split()[2]
         marks = re.findall(rf'class="(?:wrong|flag)"[^>]*data-lines="{line}"', text)
         yield f"{name}, its first wrong beat", None if marks and f"wrong {line} " in text else f"{len(marks)} marks of line {line}"
-    yield "a picture", pictured(browser, folder)
+    yield from pictured(folder)
     yield "100,000 beats", large(browser, folder, score)
 
 
-def pictured(browser: str, folder: Path) -> Optional[str]:
-    """Whether a picture of a time line has its bars' colours and red."""
-    words = [browser, "--headless", "--no-sandbox", "--disable-gpu", f"--user-data-dir={folder / 'browser'}", "--window-size=900,420"]
-    page, picture = folder / "answered-early.html", folder / "picture.png"
-    subprocess.run([*words, f"--screenshot={picture}", page.as_uri()], capture_output=True, timeout=300)
-    if not picture.exists():
-        return "none was made"
-    found = pixels(picture)
-    lacking = [it for it in ("cfe3ff", "d8f5d0", "9fc4f5", "aee3a0", "dd0000") if found[bytes.fromhex(it)] < 20]
-    return f"it has hardly a pixel of {lacking}" if lacking else None
+def pictured(folder: Path) -> Iterator[Case]:
+    """Whether docs/picture.py makes a picture with the bars' colours and red, and whether the one that is kept is like it."""
+    picture = folder / "picture.png"
+    ran = subprocess.run([sys.executable, TOP / "docs/picture.py", picture], capture_output=True, text=True, timeout=300)
+    found = pixels(picture) if ran.returncode == 0 else Counter()
+    lacking = [it for it in COLOURS if found[bytes.fromhex(it)] < 20]
+    yield "a picture", f"it has hardly a pixel of {lacking}; {ran.stderr}" if lacking else None
+    kept = TOP / "docs/timeline.png"
+    stored = pixels(kept)
+    apart = [it for it in COLOURS if not 0.8 < stored[bytes.fromhex(it)] / max(1, found[bytes.fromhex(it)]) < 1.25]
+    is_large = kept.stat().st_size > 150_000 or sum(stored.values()) != sum(found.values())
+    yield "docs/timeline.png", f"it has {kept.stat().st_size} bytes, and others of {apart}" if apart or is_large else None
 
 
 def large(browser: str, folder: Path, score: str) -> Optional[str]:

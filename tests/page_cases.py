@@ -1,4 +1,4 @@
-"""Tries the pages: each guarantee of README names a call and a clause that the source has, each page that it names is there,
+"""Tries the pages, but for the commands that they show (page_commands.py): each guarantee of README names a call and a clause that the source has, each page that it names is there,
 each crate has a page, and in ARCHITECTURE a row with its files of definitions, each example of the library stands in a test as
 it stands on its page, the pages that are written by docs/definitions.py are up to date, docs/TRUSTED.md lists each definition
 that a clause of its statements names, each place that docs/ROWS.md names is there, and no file that is kept is a log or names a
@@ -20,7 +20,7 @@ import definitions  # noqa: E402
 from ends import told  # noqa: E402
 
 NAMED = re.compile(r"`(\w+)::(\w+)`,\s+`(\w+)`")
-PAGE = re.compile(r"`((?:docs|examples|crates)/[\w./-]+)`")
+PAGE = re.compile(r"`((?:docs|examples|crates|python)/[\w./-]+)`")
 # A row of a table of crates: the crate, and its files of definitions.
 ROW = re.compile(r"(?m)^\| (\w+) \| ((?:\w+, )*\w+) \| ")
 # An example of the library, and the tests that have each as it stands.
@@ -123,9 +123,9 @@ def without_space(text):
 
 
 def examples():
-    """Each example of README and of a crate's page, which is tested, and so proved and run, where the tests have its text."""
+    """Each example of docs/USE.md and of a crate's page, which is tested, and so proved and run, where the tests have its text."""
     tested = without_space(TESTED.read_text())
-    for page in [TOP / "README.md", *sorted(TOP.glob("crates/*/README.md"))]:
+    for page in [TOP / "docs/USE.md", *sorted(TOP.glob("crates/*/README.md"))]:
         for number, example in enumerate(EXAMPLE.findall(page.read_text())):
             name = f"example {number + 1} of {page.relative_to(TOP)}"
             yield name, None if without_space(example) in tested else f"{TESTED.relative_to(TOP)} doesn't have it"
@@ -148,7 +148,7 @@ def cases():
     page = (TOP / "README.md").read_text()
     lines = len(page.splitlines())
     yield "README is short", None if lines <= 120 else f"it has {lines} lines"
-    guaranteed = page[page.index("## What is guaranteed"):page.index("## Two commands")]
+    guaranteed = page[page.index("## What is guaranteed") :].partition("\n## ")[0]
     for sentence in GUARANTEE.findall(guaranteed):
         names = NAMED.findall(sentence)
         yield sentence[2:60], None if names else "it names no call and clause"

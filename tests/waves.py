@@ -35,8 +35,9 @@ from zuldegei.signal_map import Reader  # noqa: E402
 from zuldegei.vcd import Dump  # noqa: E402
 from zuldegei.waves import observe  # noqa: E402
 
-MAP = (DUMPS / "testbench.map").read_text()
-ONE_CLIENT = "".join(line for line in MAP.splitlines(True) if not line.startswith("client 1"))
+MAP = (RTL / "ports.map").read_text()
+ONE_CLIENT = "".join(line for line in MAP.splitlines(True) if not line.startswith(("client 1", "a 1", "d 1")))
+LINES = MAP.count("\n")
 DESIGN = [str(RTL / name) for name in ("bridge.sv", "client.sv", "fifo.sv", "memory.sv", "monitor.sv", "streaming_bridge.sv")]
 Case = Tuple[str, Optional[str]]
 
@@ -272,10 +273,10 @@ def commanded(folder: Path, lines: str) -> Iterator[Case]:
         ("a slice out of range", f"{MAP}w strb testbench.w_strb[8:1]\n", ("testbench.w_strb[8:1]",)),
         ("parts that don't fit", MAP.replace("part 0 of 2", "part 0 of 3"), ("parts",)),
         ("a path of several signals", MAP.replace("testbench.clock", "a_valid"), ("several signals",)),
-        ("a word that no line begins with", f"{MAP}clok testbench.clock\n", ("line 10", "clok")),
-        ("a style that isn't there", MAP.replace("axi flat", "axi fat"), ("line 6",)),
+        ("a word that no line begins with", f"{MAP}clok testbench.clock\n", (f"line {LINES + 1}", "clok")),
+        ("a style that isn't there", MAP.replace("axi flat", "axi fat"), ("axi fat",)),
         ("a port ahead of its clock", f"client 3 flat testbench.\n{MAP}", ("line 1",)),
-        ("a field that isn't there", f"{MAP}aw qos =0\n", ("line 10", "aw qos")),
+        ("a field that isn't there", f"{MAP}aw qos =0\n", (f"line {LINES + 1}", "aw qos")),
         ("a ready map that isn't there", f"{MAP}use rocket testbench\n", ("rocket-chip", "opentitan", "pulp")),
         ("a map of nothing", "# nothing\n", ("names no port",)),
     )

@@ -16,6 +16,7 @@ RESETS = ("reset", "drained")
 NO_REPLY = ("UNASKED", "NO_CLIENT")
 OPENS_ANYWAY = ("DEPTH", "CROSS_4K", "BURST_KIND", "PLACE", "W_WITHOUT_AW", "STROBE", "WLAST")
 COUNTS_ANYWAY = ("STROBE", "WLAST")
+BESIDE = 1  # how well a burst fits that touches no byte of a request, and is as long
 LATE = 16  # requests that have ended and whose bursts may still come
 
 
@@ -293,11 +294,13 @@ class History:
             waiting = still_waiting(waiting, burst.beat.line)
             waiting = [it for it in waiting if not is_served(it, served.get(id(it), []))]
             fits = [(fitness(it, burst), it) for it in waiting]
+            fits = [(fit, it) for fit, it in fits if fit > BESIDE or not it.bursts and (it.ended is None or it.ended > burst.beat.line)]
             best = max((fit for fit, _ in fits), default=0)
             if best:
                 burst.request = next(it for fit, it in fits if fit == best)
                 burst.request.bursts.append(burst)
-                served.setdefault(id(burst.request), []).append(burst)
+                if best > BESIDE:
+                    served.setdefault(id(burst.request), []).append(burst)
 
     def in_flight_with(self, request: Request) -> Iterator[Request]:
         """The requests that were in flight together with it."""
@@ -308,15 +311,15 @@ class History:
 
 
 def fitness(request: Request, burst: Burst) -> int:
-    """How well a burst fits a request: not at all, by a byte, within its bytes, at its first, or with all of them."""
+    """How well a burst fits a request: not at all, by its length alone, by a byte, within its bytes, at its first, or with all of them."""
     if request.port_address is None or burst.is_write and not request.has_data or not burst.is_write and request.is_put:
         return 0
     first, last = request.port_address, request.port_address + request.bytes - 1
     if burst.last_byte < first or last < burst.address:
-        return 0
+        return BESIDE if burst.last_byte - burst.address == last - first else 0
     if not (first <= burst.address and burst.last_byte <= last):
-        return 1
-    return 2 + (burst.address == first) + (burst.address == first and burst.last_byte == last)
+        return BESIDE + 1
+    return BESIDE + 2 + (burst.address == first) + (burst.address == first and burst.last_byte == last)
 
 
 def still_waiting(requests: List[Request], line: int) -> List[Request]:

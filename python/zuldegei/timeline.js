@@ -95,7 +95,7 @@ function drawHead(left) {
   head.textContent = "";
   const said = head.appendChild(document.createElement("b"));
   said.className = count ? "wrong" : "right";
-  said.textContent = count ? `${count} wrong; ${shown[2].slice(2)}` : "nothing is wrong";
+  said.textContent = count ? `${count} wrong: line ${shown[2].slice(8)}` : "nothing is wrong";
   for (const [name, act] of [["first", first], ["previous", previous], ["next", next], ["zoom in", zoomIn], ["zoom out", zoomOut], ["all", all]]) {
     const button = head.appendChild(document.createElement("button"));
     button.textContent = name;

@@ -1,0 +1,68 @@
+"""Runs the commands that README.md, docs/TESTBENCH.md and python/README.md show, each block of `shell` in turn at the top of the repository,
+and compares what they print, and the last status, with the block of `printed` behind it. A block that needs a program which isn't
+installed is left out, and named.
+
+    python3 tests/page_commands.py TLSCORE
+"""
+
+import os
+import re
+import shutil
+import subprocess
+import sys
+import tempfile
+from itertools import zip_longest
+from pathlib import Path
+from typing import Iterator, Optional, Tuple
+
+from ends import told
+
+TOP = Path(__file__).resolve().parent.parent
+PAGES = ("README.md", "docs/TESTBENCH.md", "python/README.md")
+BLOCK = re.compile(r"(?ms)^```shell\n(.*?)^```\n\n```printed (\d+)\n(.*?)^```$")
+SHOWN = re.compile(r"(?m)^```shell$")
+TOOLS = ("waves", "fill", "explain", "wave-of", "regress")
+NEEDED = ("iverilog", "verilator", "fst2vcd", "vcd2fst", "cc", "chromium")  # of Debian, where a block names one
+Case = Tuple[str, Optional[str]]
+
+
+def installed(folder: Path, score: str) -> dict:
+    """An environment in which the commands of the package, and this scoreboard, are on PATH."""
+    (folder / "tlscore").symlink_to(score)
+    for tool in TOOLS:
+        script = folder / f"zuldegei-{tool}"
+        script.write_text(f'#!/bin/sh\nexec "{sys.executable}" -m zuldegei.{tool.replace("-", "_")} "$@"\n')
+        script.chmod(0o755)
+    path = f"{folder}:{os.environ['PATH']}"
+    return {**os.environ, "PATH": path, "PYTHONPATH": str(TOP / "python"), "PYTHONDONTWRITEBYTECODE": "1", "COLUMNS": "100"}
+
+
+def differs(commands: str, status: int, printed: str, environment: dict) -> Optional[str]:
+    """How commands don't print what their page shows."""
+    ran = subprocess.run(
+        ["sh", "-c", commands], cwd=TOP, env=environment, stdout=subprocess.PIPE, stderr=subprocess.STDOUT, text=True, timeout=300
+    )  # fmt: skip
+    if ran.stdout != printed:
+        both = zip_longest(ran.stdout.splitlines(), printed.splitlines(), fillvalue="(nothing)")
+        return next((f"line {at} is {got!r}, not {due!r}" for at, (got, due) in enumerate(both, 1) if got != due), "a line's end")
+    return None if ran.returncode == status else f"status {ran.returncode}, not {status}"
+
+
+def cases(score: str) -> Iterator[Case]:
+    (TOP / "out").mkdir(exist_ok=True)
+    with tempfile.TemporaryDirectory() as folder:
+        environment = installed(Path(folder), score)
+        for page in PAGES:
+            text = (TOP / page).read_text()
+            blocks = BLOCK.findall(text)
+            yield f"the commands of {page}", None if blocks and len(blocks) == len(SHOWN.findall(text)) else "a block isn't followed by what it prints"
+            for number, (commands, status, printed) in enumerate(blocks, 1):
+                lacking = [it for it in NEEDED if re.search(rf"\b{it}\b", commands) and not shutil.which(it)]
+                if lacking:
+                    print(f"skipped: block {number} of {page} and what rests on it, as {' and '.join(lacking)} isn't installed")
+                    break
+                yield f"block {number} of {page}", differs(commands, int(status), printed, environment)
+
+
+if __name__ == "__main__":
+    sys.exit(told(cases(str(Path(sys.argv[1]).resolve()))))
