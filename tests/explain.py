@@ -1,7 +1,8 @@
 """What zuldegei-explain says of the stored runs of examples/testbench/rtl: of each planted fault the side on which it lies (what bridge.sv
 says of the fault), and beats that have what is said of them. Its time line in a browser, where Chromium is installed: each request, burst
 and beat of a run is an element there, the picture isn't blank, and a run of 100,000 beats is shown in a window. Observations and verdicts
-that can't be read. And what zuldegei-wave-of makes of the stored runs for GTKWave: each beat and each wrong line at its time.
+that can't be read. And what zuldegei-wave-of makes of the stored runs for GTKWave: each
+beat and each wrong line at its time. Stored runs that were changed by lot are explained and drawn, whatever is wrong of them.
 
     python3 tests/explain.py TLSCORE
 """
@@ -20,6 +21,10 @@ from typing import Dict, Iterator, List, Optional, Tuple
 
 from ends import told
 from waves import RTL, TOP, command, one_line
+from zuldegei.causes import Explainer
+from zuldegei.history import History
+from zuldegei.observation import Observation, verdict_of
+from zuldegei.timeline import page
 
 RUNS = RTL / "runs"
 # Where each fault lies, as bridge.sv says of it, by the first word of a side.
@@ -96,6 +101,46 @@ def hostile(folder: Path) -> Iterator[Case]:
     (folder / "right.told").write_text("= judged 47 wrong 0 outstanding 0 open 0 compared 32 of 32\n")
     ran = command("explain", lines, folder / "right.told", "--html", folder / "right.html")
     yield "where nothing is wrong", None if ran.returncode == 0 and ran.stdout.startswith("0 wrong lines, 8 requests") else ran.stdout + ran.stderr
+
+
+def mutated(score: str) -> Iterator[Case]:
+    """Stored runs with lines by lot left out, doubled, swapped, or with another word: each wrong line is explained and drawn, whatever it is."""
+    lot, judged, sides_seen = random.Random(11), 0, Counter()
+    texts = [it.read_text() for it in (*sorted(RUNS.glob("*.lines")), *sorted((TOP / "examples/scoreboard").glob("*.in")))]
+    for number in range(200):
+        text = changed(lot.choice(texts).splitlines(), lot)
+        ran = subprocess.run([score], input=text, capture_output=True, text=True)
+        if ran.returncode > 1:
+            continue
+        judged += 1
+        observation, verdict = Observation(text), verdict_of(ran.stdout)
+        history = History(observation, verdict)
+        causes = [Explainer(history).cause(it) for it in verdict.wrong]
+        sides_seen.update(it.side.name for it in causes)
+        drawn_text = page(history, verdict, [it.text() for it in causes], [it.behind for it in causes], "changed")
+        if len(causes) != len(verdict.wrong) or '"wrong":' not in drawn_text:
+            yield f"changed run {number}", f"{len(causes)} causes of {len(verdict.wrong)}"
+    yield "changed runs", None if judged > 80 and len(sides_seen) == 7 else f"{judged} were judged, with {sides_seen}"
+
+
+def changed(lines: List[str], lot: random.Random) -> str:
+    """A run with up to three changes by lot."""
+    for _ in range(lot.randrange(1, 4)):
+        at, other, how = lot.randrange(len(lines)), lot.randrange(len(lines)), lot.randrange(5)
+        words = lines[at].split()
+        if how == 0 and len(lines) > 5:
+            del lines[at]
+        elif how == 1:
+            lines.insert(at, lines[other])
+        elif how == 2 and len(words) > 2:
+            place = lot.randrange(2, len(words))
+            words[place] = lot.choice(["x", "0", "1", "5", words[place][::-1], f"{words[place][:-1]}z"])
+            lines[at] = " ".join(words)
+        elif how == 3:
+            lines.insert(at, lot.choice(["= reset", "= drained", "= noclient"]))
+        else:
+            lines[at - 1], lines[at] = lines[at], lines[at - 1]
+    return "\n".join(lines) + "\n"
 
 
 def counts(lines: str) -> Dict[str, int]:
@@ -256,6 +301,7 @@ def cases(folder: Path, score: str) -> Iterator[Case]:
     yield from sides()
     yield from waved(folder)
     yield from hostile(folder)
+    yield from mutated(score)
     browser = next(filter(shutil.which, BROWSERS), None)
     if browser:
         yield from browsed(browser, folder, score)

@@ -448,6 +448,19 @@ def refused_by_hand() -> Iterator[Case]:
     yield "another number for an ID", why or (None if got == wanted else got)
 
 
+def shown_maps() -> Iterator[Case]:
+    """The maps that python/README.md shows, line by line."""
+    page = (TOP / "python/README.md").read_text()
+    found = re.findall(r"(?m)^(?:    (?:use|clock|reset|client|axi|renumber|a|d|aw) .*\n)+", page)
+    for number, text in enumerate(found, 1):
+        try:
+            Reader("README.md").read(text)
+            yield f"map {number} of the page", None
+        except Fault as why:
+            yield f"map {number} of the page", str(why)
+    yield "the maps of the page", None if len(found) == 2 else f"it has {len(found)}"
+
+
 def refusal(ended: Tuple[str, str], named: str) -> Optional[str]:
     return None if named in ended[1] and not ended[0] else f"it said {ended[1]!r} behind {ended[0]!r}"
 
@@ -526,6 +539,7 @@ def judged_behind(lines: str, data: bytes, score: str) -> Iterator[Case]:
 
 def cases(folder: Path, score: str, faults: Tuple[str, ...]) -> Iterator[Case]:
     yield from by_hand()
+    yield from shown_maps()
     yield from images(folder, score)
     if shutil.which("iverilog"):
         yield from icarus(folder)

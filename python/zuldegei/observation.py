@@ -122,7 +122,7 @@ class Observation:
             self.entries.append(waiting)
 
     def beat(self, number: int, now: Optional[int], words: List[str]) -> Beat:
-        if len(words) != FIELDS[words[0]] + 1:
+        if len(words) != FIELDS[words[0]] + 1 or words[0] in (A, D) and not words[1].isdigit():
             raise ValueError(words)
         return Beat(number, now, words[0], words[1:])
 
