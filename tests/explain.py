@@ -100,11 +100,12 @@ def hostile(folder: Path) -> Iterator[Case]:
     yield "an observation that isn't there", one_line(command("explain", folder / "none", verdict), named=("none",), status=3)
     (folder / "right.told").write_text("= judged 47 wrong 0 outstanding 0 open 0 compared 32 of 32\n")
     ran = command("explain", lines, folder / "right.told", "--html", folder / "right.html")
-    yield "where nothing is wrong", None if ran.returncode == 0 and ran.stdout.startswith("0 wrong lines, 8 requests") else ran.stdout + ran.stderr
+    is_well = ran.returncode == 0 and ran.stdout.startswith("0 wrong lines, 8 requests")
+    yield "where nothing is wrong", None if is_well else ran.stdout + ran.stderr
 
 
 def mutated(score: str) -> Iterator[Case]:
-    """Stored runs with lines by lot left out, doubled, swapped, or with another word: each wrong line is explained and drawn, whatever it is."""
+    """Stored runs with lines by lot left out, doubled, swapped, or with another word: each wrong line is explained and drawn."""
     lot, judged, sides_seen = random.Random(11), 0, Counter()
     texts = [it.read_text() for it in (*sorted(RUNS.glob("*.lines")), *sorted((TOP / "examples/scoreboard").glob("*.in")))]
     for number in range(200):
@@ -211,7 +212,8 @@ def browsed(browser: str, folder: Path, score: str) -> Iterator[Case]:
         lines, verdict = run_of(name)
         page = folder / f"{name}.html"
         command("explain", lines, verdict, "--html", page)
-        yield f"{name}, without a network", None if not re.search(r'(?:src|href)="|https?://(?!www\.w3\.org)', page.read_text()) else "it has a link"
+        links = re.findall(r'(?:src|href)="|https?://(?!www\.w3\.org)', page.read_text())
+        yield f"{name}, without a network", f"it has links: {links}" if links else None
         text = dom(browser, folder, f"{page.as_uri()}#all")
         wanted = counts(lines.read_text())
         yield f"{name}, all of it drawn", None if drawn(text) == wanted else f"{drawn(text)}, not {wanted}"
@@ -219,8 +221,45 @@ def browsed(browser: str, folder: Path, score: str) -> Iterator[Case]:
         line = verdict.read_text().split()[2]
         marks = re.findall(rf'class="(?:wrong|flag)"[^>]*data-lines="{line}"', text)
         yield f"{name}, its first wrong beat", None if marks and f"wrong {line} " in text else f"{len(marks)} marks of line {line}"
+    yield from used(browser, folder)
     yield from pictured(folder)
     yield "100,000 beats", large(browser, folder, score)
+
+
+def acted(browser: str, folder: Path, page: Path, script: str) -> str:
+    """What a browser makes of a page once a script has acted on it."""
+    copy = folder / "acted.html"
+    copy.write_text(page.read_text().replace("</html>", f"<script>{script}</script></html>"))
+    return dom(browser, folder, copy.as_uri())
+
+
+def window(text: str) -> Tuple[int, int]:
+    """The times between which a page shows a run."""
+    found = re.search(r'id="window">(-?\d+) to (-?\d+) ', text)
+    return int(found[1]), int(found[2])
+
+
+def used(browser: str, folder: Path) -> Iterator[Case]:
+    """Keys, and the lines of a bar to which one points."""
+    lines, verdict = run_of("other-source")
+    page = folder / "other-source.html"
+    command("explain", lines, verdict, "--html", page)
+    press = "document.dispatchEvent(new KeyboardEvent('keydown', {key: '%s'}));"
+    begin, end = window(acted(browser, folder, page, ""))
+    spans = {key: window(acted(browser, folder, page, press % key)) for key in ("+", "-", "ArrowRight", "n", "a")}
+    wrong = [int(it.split()[-1]) for it in verdict.read_text().splitlines()[:-1]]
+    yield "it begins at the first wrong beat", None if begin < wrong[0] < end < wrong[1] else f"{begin} to {end} is shown"
+    yield "the key +", None if abs((spans["+"][1] - spans["+"][0]) * 2 - (end - begin)) <= 4 else str(spans)
+    yield "the key -", None if abs(spans["-"][1] - spans["-"][0] - (end - begin) * 2) <= 4 else str(spans)
+    yield "an arrow", None if spans["ArrowRight"][0] > begin and spans["ArrowRight"][1] > end else str(spans)
+    yield "the key n", None if spans["n"][0] < wrong[1] < spans["n"][1] else str(spans)
+    times = [int(it.split()[1]) for it in lines.read_text().splitlines() if it.startswith("time ")]
+    yield "the key a", None if spans["a"] == (min(times), max(times)) else f"{spans['a']}, not {min(times)} to {max(times)}"
+    point = "document.querySelector('rect.aw').dispatchEvent(new MouseEvent('mousemove', {bubbles: true, clientX: 300, clientY: 90}));"
+    tip = re.search(r'(?s)<div id="tip"[^>]*>(.*?)</div>', acted(browser, folder, page, point))[1]
+    named = [line.strip(" !").partition(": ") for line in tip.splitlines()]
+    is_well = len(named) >= 3 and all(lines.read_text().splitlines()[int(number) - 1] == text for number, _, text in named)
+    yield "the lines of a bar", None if is_well else repr(tip)
 
 
 def pictured(folder: Path) -> Iterator[Case]:
@@ -294,7 +333,8 @@ def misplaced(vcd: Path, lines: Path, verdict: Path) -> Optional[str]:
     listed = vcd.with_suffix(".gtkw").read_text()
     first = verdict.read_text().splitlines()[0].split()[-1]
     shown = set(re.findall(r"(?m)^tlscore\.(\w+)$", listed))
-    return None if f"*0.000000 {first} " in listed and shown == set(re.findall(r"\$var \w+ 1 \S+ (\w+) ", text)) else f"its list is {listed!r}"
+    is_marked = re.search(rf"(?m)^\*-?\d+\.\d+ {first} ", listed)
+    return None if is_marked and shown == set(re.findall(r"\$var \w+ 1 \S+ (\w+) ", text)) else f"its list is {listed!r}"
 
 
 def cases(folder: Path, score: str) -> Iterator[Case]:

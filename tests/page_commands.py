@@ -1,6 +1,6 @@
-"""Runs the commands that README.md, docs/TESTBENCH.md and python/README.md show, each block of `shell` in turn at the top of the repository,
-and compares what they print, and the last status, with the block of `printed` behind it. A block that needs a program which isn't
-installed is left out, and named.
+"""Runs the commands that README.md, docs/TESTBENCH.md and python/README.md show, each block of `shell` in turn at the top of the
+repository, and compares what they print, and the last status, with the block of `printed` behind it. A block that needs a program
+which isn't installed is left out, and named.
 
     python3 tests/page_commands.py TLSCORE
 """
@@ -55,7 +55,8 @@ def cases(score: str) -> Iterator[Case]:
         for page in PAGES:
             text = (TOP / page).read_text()
             blocks = BLOCK.findall(text)
-            yield f"the commands of {page}", None if blocks and len(blocks) == len(SHOWN.findall(text)) else "a block isn't followed by what it prints"
+            is_whole = blocks and len(blocks) == len(SHOWN.findall(text))
+            yield f"the commands of {page}", None if is_whole else "a block isn't followed by what it prints"
             for number, (commands, status, printed) in enumerate(blocks, 1):
                 lacking = [it for it in NEEDED if re.search(rf"\b{it}\b", commands) and not shutil.which(it)]
                 if lacking:

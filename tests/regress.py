@@ -72,7 +72,8 @@ def states(folder: Path, score: str) -> Iterator[Case]:
     yield "a file that isn't there", Made(folder, score, "none.lines").wrong(2, ["failed"])
     yield "a wrong run and a failed one", Made(folder, score, "fault.lines", RUNS[0]).wrong(1, ["failed", "wrong"])
     made = Made(folder, score, "--command", "echo why it fails >&2; exit 3")
-    yield "a command that fails", made.wrong(2, ["failed"]) or (None if "status 3: why it fails" in made.runs[0]["why"] else made.runs[0]["why"])
+    said = made.runs[0]["why"] if made.runs else ""
+    yield "a command that fails", made.wrong(2, ["failed"]) or (None if "status 3: why it fails" in said else said)
     yield "a command that takes too long", Made(folder, score, "--command", "sleep 60", "--timeout", 0.5).wrong(2, ["late"])
     yield "no scoreboard", ended(Made(folder, "", RIGHT, "--score", folder / "none"), 3, "none")
     yield "no run", ended(Made(folder, score), 6, "--help")
@@ -87,7 +88,8 @@ def ended(made: Made, status: int, named: str) -> Optional[str]:
 
 def seeded(folder: Path, score: str) -> Iterator[Case]:
     """Commands with seeds: each waits for the others, so that they end where all are made at once."""
-    waits = "touch came.{seed}; n=0; until [ -e came.1 ] && [ -e came.2 ] && [ -e came.5 ]; do sleep 0.1; n=$((n+1)); [ $n -lt 300 ] || exit 9; done"
+    came = "[ -e came.1 ] && [ -e came.2 ] && [ -e came.5 ]"
+    waits = f"touch came.{{seed}}; n=0; until {came}; do sleep 0.1; n=$((n+1)); [ $n -lt 300 ] || exit 9; done"
     made = Made(folder, score, "--command", f"{waits}; tail -n +4 '{RIGHT}'", "--seeds", "1-2,5", "-j", 3, "--setup", setup_of(folder))
     yield "three at once", made.wrong(0, ["right"] * 3) or (None if [it["seed"] for it in made.runs] == [1, 2, 5] else str(made.runs))
     kept = folder / "kept"

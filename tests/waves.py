@@ -67,8 +67,8 @@ def made(bench: Bench, simulator: str, folder: Path, tracing: Tuple[str, ...] = 
         words, runs = ["iverilog", "-g2012", *searched, "-s", bench.top, "-o", program, *bench.files], ["vvp", "-n", program]
     else:
         fast = ["-MAKEFLAGS", "OPT_FAST=-O0 OPT_SLOW=-O0 OPT_GLOBAL=-O0"]  # it is made in less time than it would save
-        words = ["verilator", "--binary", "--timing", "-Wno-fatal", *fast, *tracing, *searched, "--top-module", bench.top, "-Mdir", str(folder)]
-        words, runs = [*words, "-o", bench.top, *bench.files], [program]
+        words = ["verilator", "--binary", "--timing", "-Wno-fatal", *fast, *tracing, *searched, "--top-module", bench.top]
+        words, runs = [*words, "-Mdir", str(folder), "-o", bench.top, *bench.files], [program]
     run.simulated(words)
     return runs
 
@@ -170,7 +170,8 @@ def styles(folder: Path) -> Iterator[Case]:
     bus, said = simulated(runs, folder, "run.vcd")
     memory, _ = simulated(runs, folder, "again.vcd", "+axi")
     resets = [int(it) + 3 for it in re.findall(r"reset at (\d+)", said)]
-    yield "two clocks, each with a reset", same(read(folder, (DUMPS / "two_clocks.map").read_text(), "run.vcd"), merged(bus, memory, resets))
+    ran = read(folder, (DUMPS / "two_clocks.map").read_text(), "run.vcd")
+    yield "two clocks, each with a reset", same(ran, merged(bus, memory, resets))
 
 
 def merged(bus: str, memory: str, resets: List[int]) -> str:
@@ -265,9 +266,9 @@ def noisy(dump: bytes, lines: str, lot: random.Random) -> Optional[str]:
 def commanded(folder: Path, lines: str) -> Iterator[Case]:
     """Maps at fault, and the command's words, on the dump of a right run."""
     faults = (
-        ("a signal that isn't there", MAP.replace("axi flat testbench.", "axi flat testbench.m_"), ("testbench.m_aw_valid", "testbench.aw_valid")),
+        ("a signal that isn't there", MAP.replace("axi flat testbench.", "axi flat testbench.m_"), ("m_aw_valid", "testbench.aw_valid")),
         ("a clock that isn't there", MAP.replace("testbench.clock", "testbench.clk"), ("testbench.clk", "testbench.clock")),
-        ("a field that nothing names", MAP.replace("b ready =1\n", "b ready testbench.b_redy\n"), ("testbench.b_redy", "nearest", "testbench.w_ready")),
+        ("a field that nothing names", MAP.replace("b ready =1\n", "b ready testbench.b_redy\n"), ("b_redy", "testbench.w_ready")),
         ("a port of 128 bits", f"{MAP}a 0 data testbench.a_data\n", ("testbench.a_data has 128 bits",)),
         ("a port of 128 lanes", f"{MAP}w strb testbench.a_mask\n", ("testbench.a_mask has 16 bits",)),
         ("a slice out of range", f"{MAP}w strb testbench.w_strb[8:1]\n", ("testbench.w_strb[8:1]",)),
@@ -348,7 +349,8 @@ class Hand:
         if self.is_by_bit and width > 1:
             self.declared += [f"$var wire 1 {name}.{at} {name} [{at}] $end" for at in range(width)]
         else:
-            self.declared.append(f"$var wire {width} {name} {name} [{width - 1}:0] $end" if width > 1 else f"$var wire 1 {name} {name} $end")
+            span = f"{name} [{width - 1}:0]" if width > 1 else name
+            self.declared.append(f"$var wire {width} {name} {span} $end")
 
     def change(self, name: str, digits: str) -> None:
         width = self.names[name]
@@ -436,7 +438,7 @@ def refused_by_hand() -> Iterator[Case]:
     narrow = f"{HAND}a 0 data top.narrow\na 0 mask top.lanes\n"
     got, why = in_process(narrow, dump.text())
     yield "a word of 32 bits in the upper half", why or (None if got == "time 5\nA 0 0 0 2 5 0000000c f0 0000000100000000 0\n" else got)
-    yield "a burst on 32 bits", refusal(in_process(narrow.replace("client", "client"), dump.text().replace(b"b10 a_size", b"b11 a_size")), "32 bits")
+    yield "a burst on 32 bits", refusal(in_process(narrow, dump.text().replace(b"b10 a_size", b"b11 a_size")), "32 bits")
     yield "an address of 40 bits", refusal(in_process(f"{HAND}a 0 address top.wide\n", dump.text()), "more than 32 bits")
     got, why = in_process(f"{HAND}a 0 address top.wide[31:0]\nrenumber source 0 5 17\n", dump.text())
     yield "a slice, and another number", why or (None if got.startswith("time 5\nA 0 0 0 2 17 00000000 ") else got)

@@ -64,6 +64,25 @@ class Explainer:
         behind = [it for it in (found, *related, *cause.behind) if it is not None]
         return cause._replace(behind=tuple({id(it): it for it in behind}.values()))
 
+    def in_order(self, wrong: List[Wrong]) -> List[Wrong]:
+        """Wrong lines by their place; of what is unanswered at the end the oldest first, which may hold up the others."""
+        return sorted(wrong, key=lambda it: (it.line, self.begun(it)))
+
+    def begun(self, wrong: Wrong) -> int:
+        """The line in which an unanswered request or burst began; of any other wrong beat no line."""
+        if wrong.name != "UNANSWERED":
+            return 0
+        if wrong.side:
+            burst = self.unanswered_burst(wrong)
+            return burst.beat.line if burst else wrong.line
+        request = self.last_of(wrong.client, wrong.source, wrong.line, is_open=True)
+        return request.begun if request else wrong.line
+
+    def unanswered_burst(self, wrong: Wrong) -> Optional[Burst]:
+        """The oldest burst of an ID that has no answer."""
+        found = (it for it in self.history.bursts if it.id == wrong.id and it.is_write == (wrong.side == "write"))
+        return next((it for it in found if not it.answer), None)
+
     def of_beat(self, wrong: Wrong, found: object) -> Cause:
         """What is behind a wrong beat."""
         if wrong.kind in ("request", "client"):
@@ -79,15 +98,18 @@ class Explainer:
         return next((it for it in self.history.observation.beats() if it.line == line), None)
 
     def named(self, request: Request) -> str:
+        """A request, with the place where it began."""
         return f"{request.name()} ({self.at(request.begun)})"
 
     def of_request(self, wrong: Wrong, found: object) -> Cause:
+        """A beat that the client gave wrong."""
         grounds = [self.named(found)] if isinstance(found, Request) else []
         if wrong.name == "SOURCE_BUSY":
             beat = self.beat(wrong.line)
             last = self.last_of(number(beat.words[0]), number(beat.words[4]), wrong.line) if beat else None
             grounds += [f"the source is busy with {self.named(last)}"] if last else []
-        return Cause(Side.REQUEST, f"The client breaks the rule {wrong.name} of channel A: nothing of the bridge is wrong yet.", grounds)
+        sentence = f"The client breaks the rule {wrong.name} of channel A: nothing of the bridge is wrong yet."
+        return Cause(Side.REQUEST, sentence, grounds)
 
     # ---- the AXI4 port
 
@@ -107,6 +129,7 @@ class Explainer:
         return Cause(side, f"{sentence}.", grounds)
 
     def burst_grounds(self, found: object) -> List[str]:
+        """A burst, and the request that it may be of."""
         if not isinstance(found, Burst):
             return []
         lines = [f"{found.name()} ({self.at(found.beat.line)})"]
@@ -128,7 +151,7 @@ class Explainer:
     def unanswered(self, wrong: Wrong) -> Cause:
         """What was still due at the observation's end."""
         if wrong.side:
-            burst = next((it for it in self.history.bursts if it.id == wrong.id and not it.answer and it.is_write == (wrong.side == "write")), None)
+            burst = self.unanswered_burst(wrong)
             return Cause(Side.ANSWER, f"A {wrong.side} of ID {wrong.id} got no answer.", self.burst_grounds(burst), (burst,))
         request = self.last_of(wrong.client, wrong.source, wrong.line, is_open=True)
         if request is None:
@@ -149,6 +172,7 @@ class Explainer:
         return Cause(Side.ANSWER, "A burst of its bytes has no answer.", grounds)
 
     def its_bursts(self, request: Request) -> List[str]:
+        """The bursts of a request, and whether they were answered."""
         lines = []
         for burst in request.bursts:
             answer = f"answered {self.at(burst.answer.line)}" if burst.answer else "not answered"
@@ -165,7 +189,8 @@ class Explainer:
         """A reply's beat of which anything but the payload is wrong."""
         if isinstance(found, Request) and wrong.name not in ("UNASKED", "INTERLEAVED"):
             number_of = [it.line for it in found.replies].index(wrong.line) + 1
-            grounds = [f"beat {number_of} of {found.replies_due} of the reply to {self.named(found)}", *self.its_bursts(found), *self.errors(found)]
+            grounds = [f"beat {number_of} of {found.replies_due} of the reply to {self.named(found)}"]
+            grounds += [*self.its_bursts(found), *self.errors(found)]
             if wrong.name == "X":
                 return Cause(Side.READ if wrong.due else Side.REPLY, "A digit of it isn't known, where it tells something.", grounds)
             side, sentence = self.of_field(wrong, found)
@@ -200,7 +225,8 @@ class Explainer:
         grounds += [f"this beat is of the reply to {self.named(found)}"] if isinstance(found, Request) else []
         if cut:
             have = f"after {plural(len(cut[-1].replies), 'beat')} of {cut[-1].replies_due}"
-            return Cause(Side.REPLY, f"Another reply comes {have} of the one that has begun: that one is cut short, or both are mixed.", grounds, (cut[-1],))
+            sentence = f"Another reply comes {have} of the one that has begun: that one is cut short, or both are mixed."
+            return Cause(Side.REPLY, sentence, grounds, (cut[-1],))
         return Cause(Side.REPLY, "Its source isn't that of the reply that has begun.", grounds)
 
     def unasked(self, wrong: Wrong, beat: Optional[Beat]) -> Cause:
@@ -215,7 +241,8 @@ class Explainer:
         grounds = [f"the client waits for the reply to {self.named(it)}" for it in waiting[:MOST_LISTED]]
         is_again = bool(last and last.replies and last.replies[-1].words[1:] == beat.words[1:])
         if last and last.replies:
-            grounds.insert(0, f"the last request of this source, {self.named(last)}, got its reply in {self.at(last.replies[-1].line)}")
+            replied_at = self.at(last.replies[-1].line)
+            grounds.insert(0, f"the last request of this source, {self.named(last)}, got its reply in {replied_at}")
             late = [it for it in last.bursts if it.answer is None or it.answer.line > last.replies[-1].line]
             grounds[1:1] = [f"that reply came before the answer to its {it.name()} ({self.at(it.beat.line)})" for it in late]
         if lost or alike and not is_again:
@@ -232,8 +259,8 @@ class Explainer:
         number_of = [it.line for it in request.replies].index(wrong.line)
         got, due = beat.words[6], wrong.due.split()[7]
         base = request.address // WORD * WORD + number_of * WORD
-        lanes = [it for it in range(WORD) if byte_of(got, it) != byte_of(due, it) and request.address <= base + it < request.address + request.bytes]
-        lanes = lanes or [it for it in range(WORD) if byte_of(got, it) != byte_of(due, it)]
+        differing = [it for it in range(WORD) if byte_of(got, it) != byte_of(due, it)]
+        lanes = [it for it in differing if request.address <= base + it < request.address + request.bytes] or differing
         stories: Dict[Tuple, List[int]] = {}
         behind: List[object] = []
         for lane in lanes:
@@ -313,7 +340,8 @@ class ByteStory:
         value = part.byte(self.place)
         its_read = f"read: {self.at(burst.beat.line)}, AR of ID {burst.id}; {self.at(part.beat.line)}, R"
         if value == self.due:
-            return Cause(Side.READ, "R brought the due byte, and the reply shows another one.", [*grounds, f"{its_read} has {hexed(value)}, the due byte"])
+            grounds.append(f"{its_read} has {hexed(value)}, the due byte")
+            return Cause(Side.READ, "R brought the due byte, and the reply shows another one.", grounds)
         if value != self.got:
             sentence = "R brought another byte than is due, and the reply shows neither."
             return Cause(Side.READ, sentence, [*grounds, f"{its_read} has {hexed(value)}"])
@@ -321,6 +349,7 @@ class ByteStory:
         return self.written(grounds, burst, part)
 
     def origin(self) -> str:
+        """Who gave the byte."""
         if self.writer:
             its_beat = "" if self.given.line == self.writer.begun else f", in {self.at(self.given.line)}"
             return f"last given by {self.named(self.writer)}{its_beat}"
@@ -345,12 +374,14 @@ class ByteStory:
         others = [it for it in beats if it[0].request is not self.writer or self.writer is None]
         over = [it for it in others if it[1].is_written(self.place) and it[1].byte(self.place) == self.got]
         for burst, part in reversed(over):
-            giver = burst.request.gives(burst.request.own_address(self.place)) if burst.request and burst.request.covers(self.place) else None
+            request, giver = burst.request, None
+            if request and request.covers(self.place):
+                giver = request.gives(request.own_address(self.place))
             if giver is None or giver.value != self.got:
                 why = f"write: {self.at(part.beat.line)}, W of {burst.name()}, has a strobe for this byte"
-                asked = f"its request, {self.named(burst.request)}, doesn't give it" if burst.request else "no request asks for it"
+                asked = f"its request, {self.named(request)}, doesn't give it" if request else "no request asks for it"
                 sentence = "A W beat writes this byte over, which its request doesn't give: look at strobes and addresses of writes."
-                return Cause(Side.WRITE, sentence, [*grounds, why, asked], (burst, burst.request))
+                return Cause(Side.WRITE, sentence, [*grounds, why, asked], (burst, request))
         if self.writer:
             return self.by_its_writer(grounds, read, over)
         return Cause(Side.ANSWER, "No write gave this byte, and the memory gave it for a read.", grounds)
@@ -359,13 +390,16 @@ class ByteStory:
         """What the bursts of the request that gave the byte last did with it."""
         later = [it for it in self.writes(self.writer.begun, len(self.history.observation.lines)) if it[0].request is self.writer]
         if not later:
-            return Cause(Side.WRITE, "The byte that was given last was never written.", [*grounds, "write: no W beat came of that request"])
+            grounds.append("write: no W beat came of that request")
+            return Cause(Side.WRITE, "The byte that was given last was never written.", grounds)
         burst, part = later[-1]
         its_write = f"write: {self.at(burst.beat.line)}, AW of ID {burst.id}; {self.at(part.beat.line)}, W"
         if not part.is_written(self.place):
-            return Cause(Side.WRITE, "The W beat of this byte has no strobe for it.", [*grounds, f"{its_write}, strobes {part.beat.words[1]}"])
+            grounds.append(f"{its_write}, strobes {part.beat.words[1]}")
+            return Cause(Side.WRITE, "The W beat of this byte has no strobe for it.", grounds)
         if part.byte(self.place) != self.due:
-            return Cause(Side.WRITE, "The W beat of this byte has another one.", [*grounds, f"{its_write} has {hexed(part.byte(self.place))}"])
+            grounds.append(f"{its_write} has {hexed(part.byte(self.place))}")
+            return Cause(Side.WRITE, "The W beat of this byte has another one.", grounds)
         answer = self.at(burst.answer.line) if burst.answer else "never"
         grounds = [*grounds, f"{its_write} has the due byte; B {answer}"]
         is_late = burst.answer is None or read.beat.line < burst.answer.line

@@ -16,8 +16,8 @@ OBSERVATION is what tlscore read, set-up first, and VERDICT what it printed of t
 
   tlscore < joined.lines > joined.told; zuldegei-explain joined.lines joined.told --html joined.html
 
-The file needs no network. Keys: + and - zoom, the arrows go on, n and p lead to the next wrong beat and the one before, f to the first, and
-a fits all.
+The file needs no network. Keys: + and - zoom, the arrows go on, n and p lead to the next wrong beat and the one before, f to the
+first, and a shows all.
 Status 0: nothing was wrong; 1: something was, and it is explained.
 """
 
@@ -39,6 +39,7 @@ def read(observation: str, verdict: str) -> Tuple[Observation, Verdict]:
 
 
 def work(arguments: Sequence[str]) -> int:
+    """Does what the words ask for."""
     words = words_of(NAME, __doc__, MORE)
     words.add_argument("observation", help="what tlscore read")
     words.add_argument("verdict", help="what tlscore printed")
@@ -48,6 +49,7 @@ def work(arguments: Sequence[str]) -> int:
     observation, verdict = read(given.observation, given.verdict)
     history = History(observation, verdict)
     explainer = Explainer(history)
+    verdict = verdict._replace(wrong=explainer.in_order(verdict.wrong))
     shown = verdict.wrong[: max(given.n, 0)]
     causes = [explainer.cause(it) for it in shown]
     texts = [explained(cause, observation, it) for cause, it in zip(causes, shown)]

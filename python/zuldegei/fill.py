@@ -39,13 +39,15 @@ def run_of(values: Sequence) -> List[int]:
 
 
 def format_of(data: bytes) -> str:
+    """What a file is, by its bytes."""
     if data.startswith(ELF_MAGIC):
         return "elf"
-    is_text = not data.translate(None, b"0123456789abcdefABCDEFxXzZ_?@ \t\r\n") or data.lstrip()[:2] in (b"//", b"/*") or data.lstrip()[:1] == b"@"
-    return "readmemh" if is_text else "binary"
+    is_text = not data.translate(None, b"0123456789abcdefABCDEFxXzZ_?@ \t\r\n")
+    return "readmemh" if is_text or data.lstrip().startswith((b"//", b"/*", b"@")) else "binary"
 
 
 def stretches_of(data: bytes, given: argparse.Namespace) -> Iterator[Stretch]:
+    """The bytes of an image, as the words have its format."""
     kind = given.format or format_of(data)
     if kind == "elf":
         return of_elf(data, given.virtual, given.zeros)
@@ -59,6 +61,7 @@ def number(text: str) -> int:
 
 
 def work(arguments: Sequence[str]) -> int:
+    """Does what the words ask for."""
     words = words_of(NAME, __doc__, MORE)
     words.add_argument("image", help="the file")
     words.add_argument("--format", choices=("readmemh", "binary", "elf"), help="what the file is")

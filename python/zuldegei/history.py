@@ -1,7 +1,8 @@
 """Requests with their replies and bursts with their beats, put together from the beats of an observation.
 
 Which burst carries out which request is nothing that a port tells. Here a burst belongs to a request that it may be of: one that has
-begun, whose bytes it touches, and whose bytes no burst before it had all of; the one that it fits best, and of these the oldest."""
+begun, whose bytes it touches, and whose bytes no burst before it had all of; the one that it fits best, of these one that got a reply, and
+of these the oldest."""
 
 from collections import deque
 from dataclasses import dataclass, field
@@ -192,6 +193,7 @@ class History:
                 kept.clear()
 
     def ask(self, beat: Beat) -> None:
+        """Takes a beat of channel A."""
         numbers = [number(it) for it in beat.words[:5]] + [number(beat.words[5], 16)]
         if self.told(beat) and (self.told(beat).name != "X" or None in numbers) or None in numbers:
             return  # a beat that is refused changes nothing
@@ -209,6 +211,7 @@ class History:
             del self.begun[client]
 
     def reply(self, beat: Beat) -> None:
+        """Takes a beat of channel D."""
         told = self.told(beat)
         client, source = number(beat.words[0]), number(beat.words[4])
         if told and (told.name in NO_REPLY or told.name == "X" and not told.due):
@@ -229,9 +232,11 @@ class History:
             del self.replying[client]
 
     def end(self, request: Request, beat: Beat) -> None:
+        """Notes where a request was in flight no more."""
         request.ended = max(beat.line, request.accepted or beat.line)
 
     def open_burst(self, beat: Beat) -> None:
+        """Takes an AW or an AR."""
         told = self.told(beat)
         numbers = [number(beat.words[0]), number(beat.words[1], 16), number(beat.words[2]), number(beat.words[3])]
         if None in numbers:
@@ -248,6 +253,7 @@ class History:
                 self.hand_over(self.early.popleft())
 
     def write(self, beat: Beat) -> None:
+        """Takes a W beat, which waits where no burst lacks data."""
         told = self.told(beat)
         if told and told.name not in COUNTS_ANYWAY and not (told.name == "X" and number(beat.words[2]) is not None):
             return
@@ -257,6 +263,7 @@ class History:
             self.early.append(beat)
 
     def hand_over(self, beat: Beat) -> None:
+        """Gives a W beat to the oldest burst that lacks data."""
         burst = self.lacking[0]
         burst.take(beat)
         self.of_line[beat.line] = burst
@@ -264,6 +271,7 @@ class History:
             self.lacking.popleft()
 
     def answer(self, beat: Beat) -> None:
+        """Takes a B."""
         waiting = self.open.get((AW, number(beat.words[0])))
         if waiting and not self.told(beat):
             burst = waiting.popleft()
@@ -271,6 +279,7 @@ class History:
             self.of_line[beat.line] = burst
 
     def read(self, beat: Beat) -> None:
+        """Takes an R beat."""
         waiting, told = self.open.get((AR, number(beat.words[0]))), self.told(beat)
         if not waiting or told and told.name != "X":
             return
@@ -297,7 +306,8 @@ class History:
             fits = [(fit, it) for fit, it in fits if fit > BESIDE or not it.bursts and (it.ended is None or it.ended > burst.beat.line)]
             best = max((fit for fit, _ in fits), default=0)
             if best:
-                burst.request = next(it for fit, it in fits if fit == best)
+                fitting = [it for fit, it in fits if fit == best]
+                burst.request = next((it for it in fitting if it.replies), fitting[0])
                 burst.request.bursts.append(burst)
                 if best > BESIDE:
                     served.setdefault(id(burst.request), []).append(burst)

@@ -39,6 +39,8 @@ class Event(NamedTuple):
 
 
 class Region(NamedTuple):
+    """Pages that lead to the AXI4 port."""
+
     first: int
     pages: int
     leads_to: int
@@ -122,11 +124,13 @@ class Observation:
             self.entries.append(waiting)
 
     def beat(self, number: int, now: Optional[int], words: List[str]) -> Beat:
+        """A beat, if it has as many words as its kind has."""
         if len(words) != FIELDS[words[0]] + 1 or words[0] in (A, D) and not words[1].isdigit():
             raise ValueError(words)
         return Beat(number, now, words[0], words[1:])
 
     def set_up(self, number: int, words: List[str]) -> None:
+        """Takes what is looked at of a set-up line."""
         if words[0] == "config":
             self.bus = int(words[9]) if len(words) > 9 else BUS
         elif words[0] == "region":

@@ -55,6 +55,7 @@ class Domain:
         self.edges, self.is_up, self.is_awaited = 0, False, False
 
     def is_reset(self, values: Sequence[bytes]) -> bool:
+        """Whether its reset holds, or isn't known."""
         return self.reset is not None and self.reset.look(values) != self.released
 
 
@@ -108,6 +109,7 @@ class Observer:
         return not domain.is_awaited
 
     def note_reset(self, domain: Domain) -> None:
+        """Prints that all is reset, and forgets what was held."""
         self.write("= reset\n")
         self.held.clear()
         self.lacking = 0
@@ -115,6 +117,7 @@ class Observer:
             it.is_awaited = it is not domain and it.reset is not None and it.is_up
 
     def note_unknown(self, time: int) -> None:
+        """Notes that nobody knows whether a beat passed."""
         self.unknown += 1
         self.unknown_at = time if self.unknown_at is None else self.unknown_at
 
@@ -140,6 +143,7 @@ class Observer:
             self.line(time, answer_line(key.channel, read, self.map.ids) if key.channel in "br" else address_line(key, read, self.map.ids))
 
     def a_line(self, time: int, client: int, read: Dict[str, str], is_narrow: bool) -> str:
+        """The line of a beat on channel A."""
         has_data = not is_known(read["opcode"]) or int(read["opcode"], 2) <= LAST_WITH_DATA
         mask, data, is_upper = read["mask"], read["data"], False
         if is_narrow:
@@ -156,6 +160,7 @@ class Observer:
         )
 
     def d_line(self, client: int, read: Dict[str, str], is_narrow: bool) -> str:
+        """The line of a beat on channel D, with zeros in lanes that tell nothing."""
         lanes, is_upper = self.requests.get((client, read["source"]), (ALL_LANES, False))
         data = upper(read["data"], is_upper, 32) if is_narrow else read["data"]
         has_data = (not is_known(read["opcode"]) or decimal(read["opcode"]) == ACCESS_ACK_DATA) and read["corrupt"] != "1"
@@ -166,6 +171,7 @@ class Observer:
         )
 
     def source(self, client: int, read: Dict[str, str]) -> str:
+        """A source, by the number that the map has for it."""
         told = decimal(read["source"])
         return str(self.map.sources.get((client, int(told)), told)) if told.isdigit() else told
 
@@ -177,21 +183,25 @@ def upper(bits: str, is_upper: bool, width: int) -> str:
 
 
 def its_id(read: Dict[str, str], ids: Dict[int, int]) -> str:
+    """An ID, by the number that the map has for it."""
     told = decimal(read["id"])
     return str(ids.get(int(told), told)) if told.isdigit() else told
 
 
 def address_line(key: Key, read: Dict[str, str], ids: Dict[int, int]) -> str:
+    """The line of an AW or an AR."""
     rest = f"{decimal(read['len'])} {decimal(read['size'])} {decimal(read['burst'])}"
     return f"{key.channel.upper()} {its_id(read, ids)} {hexadecimal(read['addr'][-32:], 8)} {rest}\n"
 
 
 def w_line(read: Dict[str, str]) -> str:
+    """The line of a W beat, with zeros in lanes without a strobe."""
     lanes = int(read["strb"], 2) if is_known(read["strb"]) else ALL_LANES
     return f"W {hexadecimal(in_lanes(read['data'], lanes), 16)} {hexadecimal(read['strb'], 2)} {read['last']}\n"
 
 
 def answer_line(channel: str, read: Dict[str, str], ids: Dict[int, int]) -> str:
+    """The line of a B or an R."""
     response = RESPONSES[int(read["resp"], 2)] if is_known(read["resp"]) else "x"
     if channel == "b":
         return f"B {its_id(read, ids)} {response}\n"

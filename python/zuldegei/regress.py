@@ -19,8 +19,8 @@ from .observation import verdict_of
 
 NAME = "zuldegei-regress"
 MORE = """
-Each RUN is a file that tlscore reads, or, by --command, a command for a shell that prints one; {seed} in it is each seed of --seeds in turn. The
-set-up of --setup is put ahead of each. A run is
+Each RUN is a file that tlscore reads, or, by --command, a command for a shell that prints one; {seed} in it is each seed of --seeds in
+turn. The set-up of --setup is put ahead of each. A run is
 
   right      nothing is wrong
   wrong      tlscore found a wrong beat, which the table and both files name with its time
@@ -28,9 +28,9 @@ set-up of --setup is put ahead of each. A run is
   failed     its command failed, or its observation is at fault
   late       it took longer than --timeout
 
-Status 0: all are right; 1: one is wrong; 2: none is wrong, and one is nothing, failed or late; 3: no run could be made, as where tlscore isn't
-there; 6: a word that it doesn't know. With --keep FOLDER the observation and the verdict of each run that isn't right are kept there, for
-zuldegei-explain.
+Status 0: all are right; 1: one is wrong; 2: none is wrong, and one is nothing, failed or late; 3: no run could be made, as where tlscore
+isn't there; 6: a word that it doesn't know. With --keep FOLDER the observation and the verdict of each run that isn't right are kept
+there, for zuldegei-explain.
 """
 
 
@@ -120,7 +120,8 @@ class Runner:
             ran = subprocess.run([self.score], stdin=file, capture_output=True, timeout=left)
         verdict = ran.stdout.decode(errors="replace")
         if ran.returncode not in (Status.DONE, Status.WRONG):
-            return State.FAILED, verdict, f"tlscore ended with status {ran.returncode}: {ran.stderr.decode(errors='replace').strip()[-200:]}"
+            said = ran.stderr.decode(errors="replace").strip()[-200:]
+            return State.FAILED, verdict, f"tlscore ended with status {ran.returncode}: {said}"
         return State.WRONG if ran.returncode else State.RIGHT, verdict, ""
 
     def told(self, job: Job, state: State, verdict: str, why: str, seconds: float) -> Outcome:
@@ -135,6 +136,7 @@ class Runner:
         return Outcome(job, state, seconds, *counts, *((first.text[2:], first.line, first.time) if first else ("", None, None)), why)
 
     def kept(self, job: Job, joined: Path, verdict: str) -> None:
+        """Keeps a run for who wants to explain it."""
         name = "".join(it if it.isalnum() or it in "-_." else "_" for it in job.name)[-100:]
         shutil.copyfile(joined, self.keep / f"{name}.lines")
         (self.keep / f"{name}.told").write_text(verdict)
@@ -218,6 +220,7 @@ def junit(made: Sequence[Outcome], seconds: float) -> ElementTree.ElementTree:
 
 
 def status_of(made: Sequence[Outcome]) -> Status:
+    """The status of all runs together."""
     if any(it.state is State.WRONG for it in made):
         return Status.WRONG
     return Status.DONE if made and all(it.state is State.RIGHT for it in made) else Status.FAULT
@@ -252,6 +255,7 @@ def score_of(given: Optional[str]) -> str:
 
 
 def work(arguments: Sequence[str]) -> int:
+    """Does what the words ask for."""
     words = words_of(NAME, __doc__, MORE)
     words.add_argument("runs", nargs="*", metavar="RUN", help="a file that tlscore reads")
     words.add_argument("--command", help="a command that prints an observation")

@@ -52,8 +52,9 @@ STYLE is how names are made of PREFIX, the channel and the field:
   chisel   PREFIXa_valid PREFIXa_bits_opcode, PREFIXaw_valid PREFIXaw_bits_id
   struct   PREFIXa_valid PREFIXa.opcode, PREFIXaw_valid PREFIXaw.id
   amba     PREFIXawvalid PREFIXawid; AMBA: PREFIXAWVALID PREFIXAWID
-Where PREFIX has a star the name stands in its place, so that axi_*_o gives axi_aw_valid_o. With a second PREFIX the first is of what the port's sender drives (A beats, d_ready, AW, W and AR beats, b_ready, r_ready), and
-the second of what comes back. With `part I of N` each signal is an array of N ports, of which this is number I, from 0.
+Where PREFIX has a star the name stands in its place, so that axi_*_o gives axi_aw_valid_o. With a second PREFIX the first is of what
+the port's sender drives (A beats, d_ready, AW, W and AR beats, b_ready, r_ready), and the second of what comes back. With `part I of N`
+each signal is an array of N ports, of which this is number I, from 0.
 FIELD is valid, ready, or as TileLink and AXI4 have it: opcode param size source address mask data corrupt, denied of D; id addr len
 size burst, data strb last, id resp, id data resp last. A design may lack param, corrupt and denied, which are 0 then, but a denied
 AccessAckData is corrupt; and burst, which is 1. Any other that it lacks has to be told, as by `b ready =1`.
@@ -158,6 +159,7 @@ class Reader:
         return self.map
 
     def take(self, line: str) -> None:
+        """Takes a line."""
         words = line.split()
         if not words:
             return
@@ -179,6 +181,7 @@ class Reader:
         last.reset, last.is_reset_low = path, {"high": False, "low": True}[level]
 
     def client(self, *words: str) -> None:
+        """Both channels of a client."""
         part, parts = 0, 1
         if words[-4:-3] == ("part",) and words[-2] == "of":
             part, parts, words = int(words[-3]), int(words[-1]), words[:-4]
@@ -189,6 +192,7 @@ class Reader:
             self.bundle(Key(channel, int(client)), style, prefixes, part, parts)
 
     def axi(self, *words: str) -> None:
+        """The five channels of the AXI4 port."""
         style, *prefixes = words
         for channel in AXI:
             self.bundle(Key(channel), style, prefixes)
@@ -209,11 +213,13 @@ class Reader:
         return self.map.clocks[-1].channels.setdefault(key, {}) if known is None else known
 
     def one_field(self, key: Key, name: str, signal: str) -> None:
+        """Where one field of a channel stands."""
         if name not in (*HANDSHAKE, *FIELDS[key.channel]) or signal.startswith("=") and int(signal[1:], 0) < 0:
             raise ValueError(name)
         self.channel(key)[name] = Wanted(signal)
 
     def layout(self, *words: str) -> None:
+        """Names the parts of a vector."""
         parts = [it.partition(":") for it in words[1:]]
         named = [(name, self.map.widths.get(bits, 0) or int(bits or "1")) for name, _, bits in parts]
         if not named or min(width for _, width in named) < 1:
@@ -224,6 +230,7 @@ class Reader:
         self.map.widths.setdefault(name, int(bits))
 
     def renumber(self, kind: str, *numbers: str) -> None:
+        """Another number for an ID or a source."""
         if kind == "id":
             before, after = map(int, numbers)
             self.map.ids[before] = after
@@ -289,6 +296,7 @@ class Finder:
         return self.names.cut(wanted.text, whole, low + each * (wanted.part + 1) - 1, low + each * wanted.part)
 
     def must(self, path: str) -> List[Selection]:
+        """The bits of a path, which has to be there."""
         found = self.names.find(path)
         if not found:
             raise Fault(f"the dump has no signal {path}; the nearest are {self.names.nearest(path)}")

@@ -20,6 +20,7 @@ class Piece(NamedTuple):
     last: int
 
     def read(self, values: Sequence[bytes]) -> str:
+        """The digits; a value that is shorter than its signal goes on as its first digit says."""
         text = values[self.slot]
         if len(text) < self.width:
             text = (b"0" if text[:1] == b"1" else text[:1]) * (self.width - len(text)) + text
@@ -57,6 +58,7 @@ class Level:
         self.value, self.digit = b"", "x"
 
     def look(self, values: Sequence[bytes]) -> str:
+        """The digit as it is now."""
         if values[self.slot] is not self.value:
             self.value, self.digit = values[self.slot], self.wire.read(values)
         return self.digit
@@ -135,6 +137,7 @@ class Names:
         return []
 
     def part_of(self, base: str, vector: Selection, parts: List[Tuple[str, int]], name: str) -> List[Selection]:
+        """The bits of a part of a vector, whose parts stand with the highest first."""
         width, told = abs(vector.high - vector.low) + 1, sum(width for _, width in parts)
         if width != told:
             raise Fault(f"{base} has {width} bits in the dump, and its layout {told}")

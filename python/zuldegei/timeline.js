@@ -1,7 +1,8 @@
 "use strict";
-// Draws the requests and bursts of an observation in a window of time. DATA has `rows`, the names of the lines of the picture; `bars`, each
-// [row, kind, label, begin, end, beats]; a beat is [time, line, isReply]; `wrong`, each [time, line, text, row of its own or -1, when what is behind it began, first lines of that]; `lines`, the text of each line;
-// `resets`, times; `texts`, what is said of the wrong beats.
+// Draws the requests and bursts of an observation in a window of time. DATA has `rows`, the names of the lines of the picture;
+// `bars`, each [row, kind, label, begin, end, beats]; a beat is [time, line, isReply]; `wrong`, each [time, line, text, row of its own
+// or -1, when what is behind it began, first lines of that]; `lines`, the text of each line; `resets`, times; `texts`, what is said of
+// the wrong beats.
 const DATA = JSON.parse(document.getElementById("data").textContent);
 const LEFT = 150, TOP = 18, HIGH = 20, MOST = 4000;
 const SVG = "http://www.w3.org/2000/svg";
@@ -46,14 +47,16 @@ function drawBar(svg, bar, y, x) {
   const blamed = beats.some(it => wrongLines.has(it[1])), isBehind = behind.has(beats[0][1]);
   const left = x(begin), wide = Math.max(3, x(end) - left + 3);
   const group = described(element(svg, "g", {}), beats.map(it => it[1]));
-  element(group, "rect", { class: "bar " + kind + (isBehind ? " behind" : "") + (blamed ? " blamed" : ""), x: left, y: y + 2, width: wide, height: HIGH - 5 });
+  const look = "bar " + kind + (isBehind ? " behind" : "") + (blamed ? " blamed" : "");
+  element(group, "rect", { class: look, x: left, y: y + 2, width: wide, height: HIGH - 5 });
   if (wide > label.length * 6.8) element(group, "text", { x: left + 3, y: y + 12 }, label);
   for (const [time, line, isReply] of beats) {
     const place = x(time) + 1.5;
     if (time < from || time > to) continue;
     const tick = { class: "beat lines" + (isReply ? " reply" : ""), x1: place, x2: place, y1: y + 12, y2: y + HIGH - 3 };
     described(element(group, "line", tick), [line]);
-    if (wrongLines.has(line)) described(element(svg, "circle", { class: "wrong", cx: place, cy: y + HIGH / 2, r: 8 }), [line]);
+    if (!wrongLines.has(line)) continue;
+    described(element(svg, "circle", { class: "wrong", cx: place, cy: y + HIGH / 2, r: 8 }), [line]);
   }
 }
 
@@ -96,7 +99,7 @@ function drawHead(left) {
   const said = head.appendChild(document.createElement("b"));
   said.className = count ? "wrong" : "right";
   said.textContent = count ? `${count} wrong: line ${shown[2].slice(8)}` : "nothing is wrong";
-  for (const [name, act] of [["first", first], ["previous", previous], ["next", next], ["zoom in", zoomIn], ["zoom out", zoomOut], ["all", all]]) {
+  for (const [name, act] of Object.entries({ first, previous, next, "zoom in": zoomIn, "zoom out": zoomOut, all })) {
     const button = head.appendChild(document.createElement("button"));
     button.textContent = name;
     button.onclick = act;

@@ -35,6 +35,7 @@ class Timeline:
         return 1, 0 if burst.is_write else 1, burst.id
 
     def row_name(self, row: tuple) -> str:
+        """What a row is called."""
         kind, part, place = row
         return f"client {part} source {place}" if kind == 0 else f"{'read' if part else 'write'} ID {place}" if kind == 1 else NOT_ASKED
 
@@ -42,6 +43,7 @@ class Timeline:
         return [[self.time(it.line), it.line, int(is_reply)] for it in beats]
 
     def request_bar(self, request: Request) -> list:
+        """A bar from a request's first beat to the last of its reply."""
         kind = "put" if request.is_put else "get" if not request.has_data and request.opcode == GET else "other"
         label = f"{request.name().partition(' of ')[0][:LONGEST]} {request.address:x}+{request.bytes}"
         beats = self.beats(request.beats, False) + self.beats(request.replies, True)
@@ -49,6 +51,7 @@ class Timeline:
         return [self.rows[self.request_row(request)], kind, label, self.time(request.begun), end, beats]
 
     def burst_bar(self, burst: Burst) -> list:
+        """A bar from a burst's address to its last answer."""
         beats = self.beats([burst.beat, *(it.beat for it in burst.transfers if burst.is_write)], False)
         back = [burst.answer] if burst.is_write and burst.answer else [it.beat for it in burst.transfers if not burst.is_write]
         beats += self.beats(back, True)
@@ -72,7 +75,7 @@ class Timeline:
         return [time, wrong.line, wrong.text, row, min([self.time(it) for it in firsts] + [time]), sorted(set(firsts))]
 
     def waiting(self, wrong: Wrong) -> Optional[object]:
-        """What a beat that belongs to nothing is shown beside: the request or burst that got no answer, or the source of an unasked reply."""
+        """What a beat that belongs to nothing is shown beside: a request or burst without an answer, or the last request of its source."""
         if wrong.side is not None:
             bursts = [it for it in self.history.bursts if it.id == wrong.id and it.is_write == (wrong.side == "write") and not it.answer]
             return bursts[0] if bursts else None

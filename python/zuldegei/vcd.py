@@ -218,6 +218,7 @@ class Dump:
         return changes
 
     def go_to(self, digits: bytes) -> None:
+        """Goes on to a time."""
         if not digits.isdigit() or int(digits) < self.time:
             raise self.fault(f"{digits[:80]!r} is no time behind {self.time}")
         self.time = int(digits)

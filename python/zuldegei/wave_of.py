@@ -1,6 +1,8 @@
 """zuldegei-wave-of: an observation and its verdict as a VCD for GTKWave, with strings for beats and a mark at each wrong one."""
 
+import math
 import re
+import statistics
 import sys
 from pathlib import Path
 from typing import Dict, Iterator, List, NamedTuple, Sequence, TextIO, Tuple
@@ -11,11 +13,12 @@ from .observation import A, AR, AW, B, D, OPERATIONS, R, W, Beat, Observation, V
 
 NAME = "zuldegei-wave-of"
 SCOPE, WRONG = "tlscore", "wrong"
+SHOWN_TIMES, WIDEST = 12, 3  # times that the window shows, and how many units it has where GTKWave's zoom is 0
 MORE = """
 OBSERVATION is what tlscore read, with `time` lines, and VERDICT what it printed. The VCD has a string for each channel, as
-line12_Get_00000008+8_s7, a wire that is high with each beat, and `wrong`, the text of each wrong line. Beside it a file NAME.gtkw is written,
-with all of them and a marker at the first wrong one: gtkwave NAME.vcd NAME.gtkw. Open it beside the design's own dump, in the same unit
-(--timescale), to see both.
+line12_Get_00000008+8_s7, a wire that is high with each beat, and `wrong`, the text of each wrong line. Beside it a file NAME.gtkw is
+written, with all of them and a marker at the first wrong one: gtkwave NAME.vcd NAME.gtkw. Open it beside the design's own dump, in
+the same unit (--timescale), to see both.
 """
 
 
@@ -110,14 +113,18 @@ def groups(found: Sequence[Change]) -> Iterator[Tuple[int, Dict[str, List[str]],
 
 
 def write_gtkw(found: Sequence[Change], vcd: Path, file: TextIO) -> None:
-    """Writes GTKWave's list of the signals, with its marker at the first wrong beat."""
+    """Writes GTKWave's list of the signals, with its marker at the first wrong beat and the times ahead of it in the window."""
     first = next((it.time for it in found if it.signal == WRONG), 0)
-    file.write(f'[dumpfile] "{vcd.name}"\n[timestart] {max(0, first - 200)}\n*0.000000 {first}{" -1" * 26}\n')
+    gaps = [following - time for time, _, following in groups(found)] or [1]
+    span = SHOWN_TIMES * max(1, statistics.median_low(gaps))
+    start, zoom = max(0, first - span * 3 // 4), math.log2(WIDEST / span)
+    file.write(f'[dumpfile] "{vcd.name}"\n[timestart] {start}\n*{zoom:.6f} {first}{" -1" * 26}\n')
     for name in names_of(found):
         file.write(f"@820\n{SCOPE}.{name}\n@28\n{SCOPE}.{name}_passes\n")  # as text, and as a bit
 
 
 def work(arguments: Sequence[str]) -> int:
+    """Does what the words ask for."""
     words = words_of(NAME, __doc__, MORE)
     words.add_argument("observation", help="what tlscore read")
     words.add_argument("verdict", help="what tlscore printed")

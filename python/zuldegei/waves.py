@@ -26,6 +26,7 @@ class Progress:
         self.was_shown = False
 
     def look(self, beats: int) -> None:
+        """Shows how far it is, if it is time."""
         now = time.monotonic() if self.is_shown else 0
         if not self.is_shown or now < self.next:
             return
@@ -94,6 +95,7 @@ def remarks(observer: Observer) -> List[str]:
 
 
 def work(arguments: Sequence[str]) -> int:
+    """Does what the words ask for."""
     words = words_of(NAME, f"{__doc__}\n{HELP}", f"The ready maps are {', '.join(ready())}.")
     words.add_argument("map", help="where the ports stand in the dump")
     words.add_argument("dump", help="a VCD (.gz too), or an FST")
