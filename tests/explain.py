@@ -97,6 +97,8 @@ def hostile(folder: Path) -> Iterator[Case]:
     yield "noise for a verdict", one_line(command("explain", lines, folder / "noise"), named=("tlscore",))
     (folder / "bad.lines").write_text(lines.read_text() + "A 0 0 0 3\n")
     yield "a beat that is cut", one_line(command("explain", folder / "bad.lines", verdict), named=("line 95",))
+    ran = command("explain", lines, run_of("reply-lost")[1])
+    yield "a verdict of another run", one_line(ran, named=("isn't of this observation", "65"))
     yield "an observation that isn't there", one_line(command("explain", folder / "none", verdict), named=("none",), status=3)
     (folder / "right.told").write_text("= judged 47 wrong 0 outstanding 0 open 0 compared 32 of 32\n")
     ran = command("explain", lines, folder / "right.told", "--html", folder / "right.html")

@@ -8,9 +8,11 @@ import json
 import os
 import pty
 import re
+import signal
 import subprocess
 import sys
 import tempfile
+import time
 from pathlib import Path
 from typing import Iterator, List, Optional, Tuple
 from xml.etree import ElementTree
@@ -75,9 +77,23 @@ def states(folder: Path, score: str) -> Iterator[Case]:
     said = made.runs[0]["why"] if made.runs else ""
     yield "a command that fails", made.wrong(2, ["failed"]) or (None if "status 3: why it fails" in said else said)
     yield "a command that takes too long", Made(folder, score, "--command", "sleep 60", "--timeout", 0.5).wrong(2, ["late"])
+    began = time.monotonic()
+    yield "a run that is interrupted", interrupted(folder, score) or (None if time.monotonic() - began < 40 else "it waits for its commands")
     yield "no scoreboard", ended(Made(folder, "", RIGHT, "--score", folder / "none"), 3, "none")
     yield "no run", ended(Made(folder, score), 6, "--help")
     yield "seeds without a place", ended(Made(folder, score, "--command", "true", "--seeds", "1-3"), 6, "{seed}")
+
+
+def interrupted(folder: Path, score: str) -> Optional[str]:
+    """Whether a call that is interrupted ends, with its command."""
+    words = [sys.executable, "-m", "zuldegei.regress", "--command", "touch began; sleep 60; touch ended", "--score", score]
+    environment = {**os.environ, "PYTHONPATH": str(TOP / "python"), "PYTHONDONTWRITEBYTECODE": "1"}
+    with subprocess.Popen(words, cwd=folder, env=environment, stdout=subprocess.DEVNULL, stderr=subprocess.PIPE, text=True) as program:
+        while program.poll() is None and not (folder / "began").exists():
+            time.sleep(0.1)
+        program.send_signal(signal.SIGINT)
+        _, said = program.communicate(timeout=60)
+    return None if program.returncode == 130 and said.strip().endswith("interrupted") else f"status {program.returncode}, {said!r}"
 
 
 def ended(made: Made, status: int, named: str) -> Optional[str]:

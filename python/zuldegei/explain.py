@@ -7,7 +7,7 @@ from typing import Sequence, Tuple
 from .causes import Cause, Explainer
 from .command import Status, ended, words_of
 from .history import History
-from .observation import Observation, Verdict, Wrong, plural, verdict_of
+from .observation import Observation, Verdict, Wrong, check_same, plural, verdict_of
 from .timeline import page
 
 NAME = "zuldegei-explain"
@@ -35,7 +35,9 @@ def summary(verdict: Verdict, history: History) -> str:
 
 def read(observation: str, verdict: str) -> Tuple[Observation, Verdict]:
     """An observation and its verdict."""
-    return Observation(Path(observation).read_text(errors="replace")), verdict_of(Path(verdict).read_text(errors="replace"))
+    seen, told = Observation(Path(observation).read_text(errors="replace")), verdict_of(Path(verdict).read_text(errors="replace"))
+    check_same(seen, told)
+    return seen, told
 
 
 def work(arguments: Sequence[str]) -> int:

@@ -181,6 +181,15 @@ def verdict_of(text: str) -> Verdict:
     return Verdict(wrong, judged)
 
 
+def check_same(observation: Observation, verdict: Verdict) -> None:
+    """Refuses a verdict that can't be of this observation: each wrong line is a beat, or the end."""
+    beats = {it.line for it in observation.beats()}
+    ends = {it.line for it in observation.entries if isinstance(it, Event) and it.name == "end"}
+    for wrong in verdict.wrong:
+        if wrong.line not in (ends if wrong.name == "UNANSWERED" else beats):
+            raise Fault(f"the verdict isn't of this observation: {wrong.text[:80]!r}, and line {wrong.line} isn't what it tells of")
+
+
 def wrong_of(found: "re.Match[str]") -> Wrong:
     numbers = {name: None if found[name] is None else int(found[name]) for name in ("line", "number", "client", "source", "id", "time")}
     return Wrong(kind=found["kind"], name=found["name"], due=found["due"], side=found["side"], text=found[0], **numbers)

@@ -44,15 +44,21 @@ class Domain:
     """The ports of a clock, and how they stand to its reset."""
 
     def __init__(self, clock: Clock, finder: Finder, slots: Dict[bytes, int]):
-        its_clock = finder.found[clock.path]
-        self.name, self.slot = clock.path, slots[its_clock[0].signal.code]
-        self.before, self.after = (b"1", b"0") if clock.is_falling else (b"0", b"1")
+        self.name, self.clock = clock.path, wires(clock.path, finder.found[clock.path], slots)
+        if self.clock.width != 1:
+            raise Fault(f"the clock {clock.path} has {self.clock.width} bits")
+        self.slot = self.clock.pieces[0].slot
+        self.edge = ("1", "0") if clock.is_falling else ("0", "1")
         self.reset = Level(wires(clock.reset, finder.found[clock.reset], slots)) if clock.reset else None
         self.released = "1" if clock.is_reset_low else "0"
         made = [finder.channel(key, fields, slots) for key, fields in clock.channels.items()]
         self.ports = [Port(it) for it in made]
         self.lacking = [f"{name} of {it.key}" for it in made for name in it.lacking]
         self.edges, self.is_up, self.is_awaited = 0, False, False
+
+    def has_edge(self, values: Sequence[bytes], changes: Dict[int, bytes]) -> bool:
+        """Whether its clock has its edge with these changes."""
+        return self.slot in changes and (self.clock.read(values), self.clock.read(changes)) == self.edge
 
     def is_reset(self, values: Sequence[bytes]) -> bool:
         """Whether its reset holds, or isn't known."""

@@ -5,13 +5,14 @@ import json
 import os
 import shlex
 import shutil
+import signal
 import subprocess
 import sys
 import tempfile
 import time
 from concurrent.futures import FIRST_COMPLETED, ThreadPoolExecutor, wait
 from pathlib import Path
-from typing import Dict, Iterator, List, NamedTuple, Optional, Sequence, TextIO
+from typing import BinaryIO, Dict, Iterator, List, NamedTuple, Optional, Sequence, Set, TextIO, Tuple
 from xml.etree import ElementTree
 
 from .command import Fault, Status, ended, words_of
@@ -79,6 +80,7 @@ class Runner:
 
     def __init__(self, score: str, setup: str, timeout: float, keep: Optional[Path]):
         self.score, self.setup, self.timeout, self.keep = score, setup, timeout, keep
+        self.running: Set[int] = set()  # the commands that go on, each with all that it began
 
     def outcome(self, job: Job) -> Outcome:
         """Makes a run, and says what came of it."""
@@ -108,12 +110,32 @@ class Runner:
                     return f"{job.file}: {why.strerror}"
                 return ""
             with tempfile.TemporaryFile() as errors:
-                ran = finished(["sh", "-c", job.command], file, errors, self.timeout)
+                ran = self.finished(["sh", "-c", job.command], file, errors)
                 errors.seek(0)
                 said = errors.read().decode(errors="replace").strip().splitlines()
         return f"the command ended with status {ran}: {' '.join(said[-1:])[:200]}" if ran else ""
 
-    def judged(self, joined: Path, began: float) -> tuple:
+    def finished(self, words: List[str], output: BinaryIO, errors: BinaryIO) -> int:
+        """The status of a command; where it takes too long it is ended, with all that it began."""
+        with subprocess.Popen(words, stdout=output, stderr=errors, stdin=subprocess.DEVNULL, start_new_session=True) as program:
+            self.running.add(program.pid)
+            try:
+                return program.wait(self.timeout)
+            except BaseException:
+                os.killpg(program.pid, signal.SIGKILL)
+                raise
+            finally:
+                self.running.discard(program.pid)
+
+    def stop(self) -> None:
+        """Ends all commands that go on."""
+        for group in list(self.running):
+            try:
+                os.killpg(group, signal.SIGKILL)
+            except ProcessLookupError:
+                pass  # it has ended by itself
+
+    def judged(self, joined: Path, began: float) -> Tuple[State, str, str]:
         """How tlscore ended on an observation."""
         left = max(0.1, self.timeout - (time.monotonic() - began))
         with joined.open("rb") as file:
@@ -128,7 +150,10 @@ class Runner:
         """The counts of a verdict."""
         if not verdict.strip():
             return Outcome(job, state, seconds, why=why)
-        found = verdict_of(verdict)
+        try:
+            found = verdict_of(verdict)
+        except Fault as fault:
+            return Outcome(job, State.FAILED, seconds, why=why or str(fault))
         first, last = (found.wrong or [None])[0], found.judged
         counts = (last.beats, last.wrong, last.compared, last.told) if last else (0, len(found.wrong), 0, 0)
         state = State.NOTHING if state is State.RIGHT and last and not last.beats else state
@@ -140,16 +165,6 @@ class Runner:
         name = "".join(it if it.isalnum() or it in "-_." else "_" for it in job.name)[-100:]
         shutil.copyfile(joined, self.keep / f"{name}.lines")
         (self.keep / f"{name}.told").write_text(verdict)
-
-
-def finished(words: List[str], output: object, errors: object, timeout: float) -> int:
-    """The status of a command; where it takes too long it is ended, with all that it began."""
-    with subprocess.Popen(words, stdout=output, stderr=errors, stdin=subprocess.DEVNULL, start_new_session=True) as program:
-        try:
-            return program.wait(timeout)
-        except BaseException:
-            os.killpg(program.pid, 9)
-            raise
 
 
 def outcomes(jobs: Sequence[Job], runner: Runner, at_once: int) -> Iterator[Outcome]:
@@ -170,6 +185,7 @@ def outcomes(jobs: Sequence[Job], runner: Runner, at_once: int) -> Iterator[Outc
         except BaseException:
             for future in running:
                 future.cancel()
+            runner.stop()
             raise
 
 
@@ -284,7 +300,7 @@ def work(arguments: Sequence[str]) -> int:
     return status_of(made)
 
 
-def all_made(jobs: Sequence[Job], runner: Runner, at_once: int) -> tuple:
+def all_made(jobs: Sequence[Job], runner: Runner, at_once: int) -> Tuple[List[Outcome], float]:
     """What came of all runs, in the order in which they were asked for, and how long that took."""
     began, progress, made = time.monotonic(), Progress(len(jobs), sys.stderr), []
     try:

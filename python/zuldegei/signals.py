@@ -19,7 +19,7 @@ class Piece(NamedTuple):
     first: int
     last: int
 
-    def read(self, values: Sequence[bytes]) -> str:
+    def read(self, values: Union[Sequence[bytes], Dict[int, bytes]]) -> str:
         """The digits; a value that is shorter than its signal goes on as its first digit says."""
         text = values[self.slot]
         if len(text) < self.width:
@@ -34,7 +34,8 @@ class Wires(NamedTuple):
     width: int
     pieces: Tuple[Piece, ...]
 
-    def read(self, values: Sequence[bytes]) -> str:
+    def read(self, values: Union[Sequence[bytes], Dict[int, bytes]]) -> str:
+        """The digits of all its pieces, by the values of their slots."""
         first, *others = self.pieces
         return first.read(values) + "".join([it.read(values) for it in others]) if others else first.read(values)
 

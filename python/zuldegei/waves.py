@@ -61,7 +61,7 @@ def observe(dump: Dump, the_map: SignalMap, write: Callable[[str], object], size
         progress.close()
     for domain in domains:
         if not domain.edges:
-            raise Fault(f"the clock {domain.name} has no {'falling' if domain.after == b'0' else 'rising'} edge in the dump")
+            raise Fault(f"the clock {domain.name} has no {'falling' if domain.edge[1] == '0' else 'rising'} edge in the dump")
     return observer
 
 
@@ -70,7 +70,7 @@ def sample(dump: Dump, domains: List[Domain], observer: Observer, values: List[b
     clocks = {domain.slot for domain in domains}
     for now, changes in dump.steps():
         if not clocks.isdisjoint(changes):
-            risen = [it for it in domains if values[it.slot] == it.before and changes.get(it.slot) == it.after]
+            risen = [it for it in domains if it.has_edge(values, changes)]
             if risen:
                 if dump.off is not None and observer.beats:
                     raise Fault(f"the dump is off from {dump.off} on, so that beats went unseen")
