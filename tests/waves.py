@@ -241,6 +241,8 @@ def hostile(folder: Path, dump: bytes, lines: str) -> Iterator[Case]:
     yield "a clock without an edge", one_line(read(folder, MAP, "hostile.vcd"), named=("testbench.clock", "edge"))
     off = dump.replace(b"\n#500\n", b"\n#500\n$dumpoff\nx!\n$end\n", 1)
     (folder / "hostile.vcd").write_bytes(off)
+    late = dump.replace(b"\n#5\n", b"\n$dumpoff\nx!\n$end\n$dumpon\n0!\n$end\n#5\n", 1)
+    yield "a dump that is turned on late", None if in_process(MAP, late) == (lines, "") else in_process(MAP, late)[1] or "it has other lines"
     yield "a dump that is turned off", one_line(read(folder, MAP, "hostile.vcd"), lines, ("off from 500",))
 
 

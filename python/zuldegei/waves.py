@@ -74,6 +74,7 @@ def sample(dump: Dump, domains: List[Domain], observer: Observer, values: List[b
             if risen:
                 if dump.off is not None and observer.beats:
                     raise Fault(f"the dump is off from {dump.off} on, so that beats went unseen")
+                dump.off = None
                 observer.edges(now, risen, values)
                 progress.look(observer.beats)
         for slot, value in changes.items():
@@ -105,7 +106,7 @@ def work(arguments: Sequence[str]) -> int:
     the_map = Reader(given.map).read(Path(given.map).read_text(errors="replace"))
     write = sys.stdout.write
     if given.setup:
-        write(Path(given.setup).read_text())
+        write("".join(f"{line}\n" for line in Path(given.setup).read_text(errors="replace").splitlines()))
     with opened(given.dump) as stream:
         observer = observe(Dump(stream), the_map, write, Path(given.dump).stat().st_size if given.dump.endswith(".vcd") else 0)
     if given.end:
