@@ -76,7 +76,7 @@ def made(bench: Bench, simulator: str, folder: Path, tracing: Tuple[str, ...] = 
 def simulated(runs: List[str], folder: Path, dump: str, *more: str) -> Tuple[str, str]:
     """Runs a testbench, which writes a dump; gives what its monitor printed, and what it said itself."""
     seen = folder / "seen.lines"
-    words = [*runs, *(["-fst"] if dump.endswith(".fst") and runs[0] == "vvp" else []), "+seed=3", *more]
+    words = [*runs, *(["-fst"] if dump.endswith(".fst") and runs[0] == "vvp" else []), *more, "+seed=3"]
     ran = subprocess.run([*words, f"+observed={seen}", f"+dump={folder / dump}"], capture_output=True, text=True, cwd=folder)
     return seen.read_text(), ran.stdout + ran.stderr
 
@@ -191,8 +191,8 @@ def merged(bus: str, memory: str, resets: List[int]) -> str:
 
 def verilator(folder: Path, faults: Tuple[str, ...]) -> Iterator[Case]:
     """Dumps by Verilator: FST of the testbench, and VCD in which structs are scopes; and VCD of these faults."""
-    lines, _ = simulated(made(testbench(), "verilator", folder / "fst", ("--trace-fst",)), folder, "run.fst", "+requests=40", "+resets=1")
-    yield "the right bridge by Verilator, FST", same(read(folder, MAP, "run.fst"), lines)
+    lines, _ = simulated(made(testbench(), "verilator", folder / "fst", ("--trace-fst",)), folder, "run.fst", "+requests=60", "+resets=3")
+    yield "the right bridge by Verilator, FST, with resets", same(read(folder, MAP, "run.fst"), lines)
     runs = made(style("opentitan"), "verilator", folder / "structs", ("--trace", "--trace-structs"))
     lines, _ = simulated(runs, folder, "run.vcd")
     yield "structs as scopes by Verilator", same(read(folder, (DUMPS / "opentitan.map").read_text(), "run.vcd"), lines)
