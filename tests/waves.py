@@ -161,17 +161,21 @@ def fst(folder: Path) -> Iterator[Case]:
 
 
 def styles(folder: Path) -> Iterator[Case]:
-    """Names in the styles of other projects, and two clocks."""
+    """Names in the styles of other projects."""
     for top in ("rocket", "opentitan"):
         lines, _ = simulated(made(style(top), "iverilog", folder), folder, "run.vcd")
         yield f"names of {top}", same(read(folder, (DUMPS / f"{top}.map").read_text(), "run.vcd"), lines)
     yield "a reply of OpenTitan's that is denied", None if re.search(r"(?m)^D 0 1 .* 1 0{16} 1$", lines) else "none was"
-    runs = made(style("two_clocks"), "iverilog", folder)
+
+
+def two_clocks(folder: Path, simulator: str) -> Case:
+    """Ports in two clocks, each with a reset of its own, as the monitor saw them in two runs, once in each clock."""
+    runs = made(style("two_clocks"), simulator, folder)
     bus, said = simulated(runs, folder, "run.vcd")
     memory, _ = simulated(runs, folder, "again.vcd", "+axi")
     resets = [int(it) + 3 for it in re.findall(r"reset at (\d+)", said)]
     ran = read(folder, (DUMPS / "two_clocks.map").read_text(), "run.vcd")
-    yield "two clocks, each with a reset", same(ran, merged(bus, memory, resets))
+    return f"two clocks, each with a reset, by {simulator}", same(ran, merged(bus, memory, resets))
 
 
 def merged(bus: str, memory: str, resets: List[int]) -> str:
@@ -196,6 +200,7 @@ def verilator(folder: Path, faults: Tuple[str, ...]) -> Iterator[Case]:
     runs = made(style("opentitan"), "verilator", folder / "structs", ("--trace", "--trace-structs"))
     lines, _ = simulated(runs, folder, "run.vcd")
     yield "structs as scopes by Verilator", same(read(folder, (DUMPS / "opentitan.map").read_text(), "run.vcd"), lines)
+    yield two_clocks(folder / "clocks", "verilator")
     for bug in faults:
         runs = made(testbench(bug), "verilator", folder / bug)
         lines, _ = simulated(runs, folder, "run.vcd", "+requests=25")
@@ -553,6 +558,7 @@ def cases(folder: Path, score: str, faults: Tuple[str, ...]) -> Iterator[Case]:
     if shutil.which("iverilog"):
         yield from icarus(folder)
         yield from styles(folder)
+        yield two_clocks(folder, "iverilog")
         if shutil.which("fst2vcd"):
             yield from fst(folder)
         else:
