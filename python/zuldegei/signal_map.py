@@ -38,7 +38,7 @@ scopes may be left out, or a slice of it, as tb.a_data[127:64], or a number, as 
   axi STYLE PREFIX [PREFIX]    the five channels of the AXI4 port
   a N FIELD SIGNAL, d N FIELD SIGNAL, aw FIELD SIGNAL, and so for w, b, ar and r
                                one field, where it isn't as a line before it says
-  layout SIGNAL NAME[:BITS] .. names the parts of a vector, the highest first, so that SIGNAL.NAME is one
+  layout SIGNAL NAME[:BITS] .. names the parts of a vector, the highest first, so that SIGNAL.NAME is one; a second line goes on
   width NAME NUMBER            a name for BITS in the layouts behind it
   renumber id FROM TO, renumber source CLIENT FROM TO
                                another number for an AXI4 ID, or for a source
@@ -219,12 +219,12 @@ class Reader:
         self.channel(key)[name] = Wanted(signal)
 
     def layout(self, *words: str) -> None:
-        """Names the parts of a vector."""
+        """Names the parts of a vector, behind those that lines before it named."""
         parts = [it.partition(":") for it in words[1:]]
         named = [(name, self.map.widths.get(bits, 0) or int(bits or "1")) for name, _, bits in parts]
         if not named or min(width for _, width in named) < 1:
             raise ValueError(words)
-        self.map.layouts[words[0]] = named
+        self.map.layouts.setdefault(words[0], []).extend(named)
 
     def width(self, name: str, bits: str) -> None:
         self.map.widths.setdefault(name, int(bits))
