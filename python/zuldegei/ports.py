@@ -70,7 +70,7 @@ class Observer:
 
     def __init__(self, the_map: SignalMap, domains: List[Domain], write: Callable[[str], object]):
         self.map, self.domains, self.write = the_map, domains, write
-        self.beats = self.unknown = self.printed = 0
+        self.beats = self.unknown = 0
         self.unknown_at: Optional[int] = None
         self.last_time: Optional[int] = None
         self.held: Deque[Tuple[int, str]] = deque()  # W lines that no AW was printed for, with their times
