@@ -41,6 +41,7 @@ SIDES = {
     "cut-short": "reply",
     "reply-lost": "reply",
     "beat-dropped": "request",
+    "unknown-read": "read",
 }
 BROWSERS = ("chromium", "chromium-browser", "google-chrome")
 COLOURS = ("cfe3ff", "d8f5d0", "9fc4f5", "aee3a0", "dd0000")  # of Puts, Gets, writes, reads and what is wrong
@@ -54,7 +55,8 @@ def run_of(name: str) -> Tuple[Path, Path]:
 def sides() -> Iterator[Case]:
     """The side of each fault, and whether the lines that the text names have the bytes that it says of them."""
     stored = {it.stem for it in RUNS.glob("*.lines")}
-    yield "a side for each stored run", None if set(SIDES) <= stored else f"{set(SIDES) - stored} isn't stored"
+    others = set(SIDES) ^ stored
+    yield "a side for each stored run", f"not both: {', '.join(sorted(others))}" if others else None
     for name, side in SIDES.items():
         ran = command("explain", *run_of(name))
         found = re.search(r"(?m)^  look at the (\w+)", ran.stdout)
