@@ -39,8 +39,8 @@ class Crate:
         return hashlib.sha256(lines + b"".join(b"%b\0%b\0" % (bytes(it), it.read_bytes()) for it in files)).hexdigest()
 
     def build(self):
-        """Builds it in a copy of its own, with the libraries that stand there; gives what rt prints."""
-        self.began, sum = time.monotonic(), self.sum()
+        """Builds it in a copy of its own, with the libraries that stand there; gives what rt prints, and whether it is built."""
+        sum = self.sum()
         shutil.rmtree(self.copy, ignore_errors=True)
         for crate in (*self.below, self):
             shutil.copytree(crate.folder, self.copy / crate.folder, ignore=shutil.ignore_patterns("out"))
@@ -52,14 +52,22 @@ class Crate:
         given = self.copy / self.folder / "stdin"
         with open(given if given.exists() else os.devnull, "rb") as stdin:
             ran = subprocess.run(self.words, cwd=given.parent, stdin=stdin, stdout=subprocess.PIPE, stderr=subprocess.STDOUT)
-        if ran.returncode == 0 and (self.copy / self.result).exists():
+        is_made = ran.returncode == 0 and (self.copy / self.result).exists()
+        if is_made:
             self.made.parent.mkdir(exist_ok=True)
             shutil.rmtree(self.made, ignore_errors=True)
             (self.copy / self.result).replace(self.made)
             self.stamp.write_text(sum)
-            self.is_built, self.seconds = True, time.monotonic() - self.began
             shutil.rmtree(self.copy)
-        return ran.stdout
+        return ran.stdout, is_made
+
+    def begins(self):
+        self.began = time.monotonic()
+
+    def ends(self, is_made):
+        """Notes that it is built, and how long it took. It is noted by the thread that says how far all is."""
+        if is_made:
+            self.is_built, self.seconds = True, time.monotonic() - self.began
 
 
 def crates_of(program):
@@ -93,14 +101,17 @@ def build(program, crates):
             chain, total = chains(crates, sum(it.seconds for it in done) / sum(before[it] for it in done) if done else 1)
             waits = [it for it in crates if not it.began and not it.is_built and all(below.is_built for below in it.below)]
             for crate in sorted(waits, key=chain.get, reverse=True)[: LANES - len(running)]:
+                crate.begins()
                 running[pool.submit(crate.build)] = crate
             number, minutes = sum(it.is_built for it in crates), max(*chain.values(), total / LANES) / 60
             names = ", ".join(it.name for it in running.values())
             print(f"{program}: {number} of {len(crates)} built, {minutes:.0f} min to go; now {names}", file=sys.stderr, flush=True)
             for ended in wait(running, return_when=FIRST_COMPLETED).done:
                 crate = running.pop(ended)
-                sys.stdout.buffer.write(ended.result())
-                if not crate.is_built:
+                printed, is_made = ended.result()
+                crate.ends(is_made)
+                sys.stdout.buffer.write(printed)
+                if not is_made:
                     return crate
     return None
 
