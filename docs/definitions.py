@@ -1,76 +1,40 @@
 #!/usr/bin/env python3
-"""Writes docs/DEFINITIONS.md, the index of all definitions in crates/*/specs, and docs/TRUSTED.md, which lists what the
-statements rest on. With --check it writes nothing, and fails where a page is out of date.
+"""Prints a definition of crates/*/specs, and all that it rests on; or what one of the statements that a user relies on rests on.
 
-Run it at the top of the repository after a definition has changed:
-
-    python3 docs/definitions.py [--check]
+    docs/definitions.py NAME              a definition, by NAME, FILE.NAME or CRATE/FILE.NAME
+    docs/definitions.py --statement NAME  a statement
+    docs/definitions.py                   how to use it, and the statements
+    docs/definitions.py --write           writes the table of statements in docs/WORDS.md, after a definition has changed
+    docs/definitions.py --check           fails where that table is out of date
 """
+import argparse
 import re
+import signal
 import sys
+import textwrap
 from dataclasses import dataclass, field
+from difflib import get_close_matches
 from pathlib import Path
+from typing import Dict, Iterator, List, Optional, Set, Tuple, Union
 
 TOP = Path(__file__).resolve().parent.parent
-INDEX, TRUSTED = TOP / "docs" / "DEFINITIONS.md", TOP / "docs" / "TRUSTED.md"
+WORDS = TOP / "docs" / "WORDS.md"
+TABLE_HEAD = "| statement | what it is | call and clauses | definitions | new | lines |\n|---|---|---|---|---|---|\n"
 
-INDEX_HEAD = """# Definitions
 
-The contracts cite these definitions. Each stands in `crates/NAME/specs/FILE.antt`, below the comment, if it has one, that is
-shown here as its words. This page is written by `docs/definitions.py`.
+@dataclass(frozen=True)
+class Statement:
+    """A statement: its short name, its title, the call and the clauses that say it, and the definitions that these name."""
 
-Numbers are natural numbers without a bound, lists are lists, and `Option` is Rust's. A definition whose type ends in
-`Bool` is a test, one whose type ends in `Type 0` is a fact. ARCHITECTURE.md says what a Rust type is in a contract.
+    name: str
+    title: str
+    clauses: str
+    roots: Tuple[Tuple[str, str, str], ...]  # crate, file and name
 
-## Words of our own
 
-| word | what it means here |
-|---|---|
-| accepted, number | a request is accepted with its last beat, under the next number, from 0: that is its place in the order |
-| live, done, in flight | a request is live from its acceptance until its reply is taken; it is done when it has nothing more to send or to wait for, and in flight until then |
-| spell | beats spell a request where they are its message, from the first to the last, and break no rule |
-| front | the first items of a list that goes on: the beats of a message whose last is still to come, the bytes of a script that were read |
-| stands | of a request on a port: all its beats have come, and nobody has taken it from there |
-| standing | what a page is: good, one that answers with an error, or absent, which is a page that isn't listed |
-| perform | what the memory does with a single beat: it stores the bytes of a write, or captures those of a read; the answer is a step of its own, later |
-| capture | keep a read beat's bytes and response, as they are when it is performed, until its R |
-| gather | collect what the memory's answers say of one reply |
-| outline | what a reply needs of its request: what was asked, by which source, and of which bytes |
-| carried out | of a request: all of its effect at once, reply and bytes, atomically, as `meaning` of the crate meaning has it; of a script's line: what it asks for is done, and its text is written |
-| box, stock | a box has the room for one burst, or one reply, and is made once; those that the bridge holds are its stock |
-| serial | the number of a burst among all that were sent, reads and writes together, from 0 |
-| set-up, world, step | a set-up has the limits of the bridge, its regions, and the memory's pages and bad words; a world is a bridge and a memory that were made of one; a step, or event, is one thing that happens to a world |
-| region, page map | a region leads TileLink pages to as many AXI pages, for the operations that it permits; a page map is a list of regions |
-| plan, piece | a plan says as which bursts a request goes to the memory; a piece is one of these bursts |
-| outstanding, open, unanswered | of a burst: it was sent, and its B or its last R hasn't come; it is *owed* these answers |
-| side | reads, or writes, where the two are counted apart |
-| conflict, hold back | two requests conflict where they share a byte of AXI addresses and at least one is no Get; the earlier one then holds the later one back until it is done |
-| ready | of a request: its next burst may be sent now |
-| work | how many steps bridge and memory have left to make: bursts to send, beats to perform, answers to come |
-| begin, whole | of a request, for the scoreboard: it begins with its first beat on channel A, and is whole with its last; in real time it is in flight from its first beat to its reply's last, or to its own last, if that comes later |
-| due | of a reply, for the scoreboard: its request was accepted (by `errors any`: has begun), and it isn't over: it wasn't observed whole, nor did it end early |
-| word | the eight bytes of a payload, or those at an address that is a multiple of eight; in a script what stands between spaces; in `threads` also a number by which a memory thread chooses its next step |
-| worker, turn, gate | a worker is a client's thread or a memory thread; a turn is what it does while it holds the lock once; a gate is what a caller of `run_threads` gives, to hold workers up or let them pass |
-| history, receipt, report | a history is the steps that changed a world, in order; a receipt is a reply as a client's thread got it; a report is a history with the receipts that it gives |
-| handle | what a program needs to start threads or to wait, in Rattle; what has none can do neither |
-| worked value, worked row | an example whose result comes from outside, as from a standard |
-"""
-
-TRUSTED_HEAD = """# What the statements rest on
-
-Whoever trusts a statement trusts that its definitions mean what they are taken for. This page lists, for each of the statements
-that a user relies on, the definitions that it reaches: those that its clauses name, then what these name, and so on, each once.
-What a later statement shares with one before it isn't listed again. Beside them read the clauses themselves, which stand above
-the call's body in `crates/NAME/src`: they say which values of a call go into the definitions. None of these calls has a condition.
-A value with private parts is its model in a clause, as ARCHITECTURE.md says. The rest, which is the bodies, all other contracts
-and the proofs, is held to these by the prover. This page is written by `docs/definitions.py`.
-
-Lines are counted without comments. The Rust types that are reached stand at each statement's end.
-"""
-
-# The statements: what each is of, its words, and the definitions that its clauses name, as crate, file and name.
 STATEMENTS = (
-    (
+    Statement(
+        "run",
         "The main theorem",
         "`world_run::run`, clause `one_at_a_time`.",
         (
@@ -81,8 +45,14 @@ STATEMENTS = (
             ("world", "World", "byte_of"),
         ),
     ),
-    ("What a run's record is", "`world_run::run`, clause `shows`.", (("world_run", "Runs", "IsRunOf"),)),
-    (
+    Statement(
+        "record",
+        "What a run's record is",
+        "`world_run::run`, clause `shows`.",
+        (("world_run", "Runs", "IsRunOf"), ("setups", "Setups", "lists_of")),
+    ),
+    Statement(
+        "step",
         "What a step by hand keeps",
         "`world_run::opened` and `world_run::ordered_step`, clause `order`.",
         (
@@ -93,19 +63,28 @@ STATEMENTS = (
             ("setups", "Setups", "lists_of"),
         ),
     ),
-    ("What `drain` does", "`world::World::drain`, clause `drains`.", (("world", "Laws", "IsDrained"),)),
-    (
+    Statement(
+        "drain",
+        "What `drain` does",
+        "`world::World::drain`, clause `drains`.",
+        (("world", "Laws", "IsDrained"),),
+    ),
+    Statement(
+        "text",
         "The text of `run` and `check`, and the status",
         "`tlbridge::carried_out`, clauses `run` and `check`, and `tlbridge::status_of`.",
         (
             ("tlbridge", "Endings", "EndsAs"),
             ("run_script", "Run", "run_reading"),
             ("check_script", "Check", "check_reading"),
+            ("script_text", "Scripts", "text_of"),
+            ("script_text", "Scripts", "text_before_failure"),
             ("tlbridge", "Modes", "Flushes"),
             ("tlbridge", "Results", "status_of"),
         ),
     ),
-    (
+    Statement(
+        "threads",
         "A run in threads",
         "`bridge_threads::run_threads`, clauses `report`, `one_at_a_time`, `refused`, `full` and `beat`.",
         (
@@ -114,20 +93,46 @@ STATEMENTS = (
             ("thread_reports", "Refusals", "is_refused"),
             ("thread_reports", "FullHistories", "IsFullHistory"),
             ("bridge_threads", "RefusedBeats", "IsRefusedBeat"),
+            ("world_run", "Headline", "IsOneAtATime"),
+            ("setups", "Setups", "lists_of"),
+            ("world_run", "Runs", "sent_in"),
+            ("world", "World", "byte_of"),
         ),
     ),
-    ("The text of `threads`", "`tlbridge::carried_out_in_threads`, clause `ending`.", (("tlbridge", "Threads", "EndsAsRead"),)),
-    (
+    Statement(
+        "threads-text",
+        "The text of `threads`",
+        "`tlbridge::carried_out_in_threads`, clause `ending`.",
+        (("tlbridge", "Threads", "EndsAsRead"), ("tlbridge", "Modes", "Flushes")),
+    ),
+    Statement(
+        "judge",
         "When what was observed is right",
         "`scoreboard::Scoreboard::judge`, clauses `exactly` and `memory`.",
-        (("scoreboard", "Right", "IsRight"),),
+        (
+            ("scoreboard", "Right", "IsRight"),
+            ("scoreboard", "Boards", "opening_from"),
+            ("scoreboard", "Boards", "IsReached"),
+            ("scoreboard", "Boards", "answer_to"),
+            ("scoreboard", "InsideBoards", "board_of"),
+            ("scoreboard", "InsideBoards", "client_of"),
+            ("scoreboard", "Places", "wrong_place"),
+            ("meaning", "Meaning", "bytes_after_all"),
+        ),
     ),
-    (
-        "What is seen of a run",
-        "`observed_run::observed`, clause `shows`; clause `right` says that it is right, as above.",
-        (("observed_run", "SeenRuns", "observed"),),
+    Statement(
+        "observed",
+        "What is seen of a run, and that it is right",
+        "`observed_run::observed`, clauses `shows` and `right`.",
+        (
+            ("observed_run", "SeenRuns", "observed"),
+            ("scoreboard", "Right", "IsRight"),
+            ("scoreboard", "Boards", "from_zeros"),
+            ("setups", "Setups", "lists_of"),
+        ),
     ),
-    (
+    Statement(
+        "board",
         "What the scoreboard says",
         "`scoreboard::Scoreboard::judge`, clauses `answer` and `state`, and the board that `exactly` begins with.",
         (
@@ -135,69 +140,107 @@ STATEMENTS = (
             ("scoreboard", "Boards", "after_seen"),
             ("scoreboard", "InsideBoards", "board_of"),
             ("scoreboard", "Boards", "IsReached"),
+            ("scoreboard", "Places", "wrong_place"),
+            ("scoreboard", "Boards", "opening_from"),
+            ("scoreboard", "Right", "IsRight"),
         ),
     ),
-    (
-        "That what it finds wrong in real time is wrong in every order",
+    Statement(
+        "real-time",
+        "What the scoreboard finds wrong in real time is wrong in every order",
         "`scoreboard::Scoreboard::judge`, clause `rightly`.",
-        (("scoreboard", "RealTime", "JudgesRightly"),),
+        (
+            ("scoreboard", "RealTime", "JudgesRightly"),
+            ("scoreboard", "InsideBoards", "board_of"),
+            ("scoreboard", "InsideBoards", "client_of"),
+            ("scoreboard", "Places", "wrong_place"),
+        ),
     ),
-    (
-        "What it says in real time, beside what it says in order of acceptance",
+    Statement(
+        "profiles",
+        "How its verdicts in real time and in order of acceptance agree",
         "`scoreboard::Scoreboard::judge`, clauses `right` and `wider`.",
-        (("scoreboard", "Wider", "LetsRightPass"), ("scoreboard", "Wider", "IsWiderAlong")),
+        (
+            ("scoreboard", "Wider", "LetsRightPass"),
+            ("scoreboard", "Wider", "IsWiderAlong"),
+            ("scoreboard", "InsideBoards", "board_of"),
+            ("scoreboard", "InsideBoards", "client_of"),
+            ("scoreboard", "Places", "wrong_place"),
+        ),
     ),
-    (
+    Statement(
+        "score-text",
         "The text of the scoreboard",
         "`score_script::score_text`.",
         (
             ("script_text", "Scripts", "EndsOrStops"),
             ("score_script", "Scores", "score_reading"),
             ("score_script", "Scores", "opening_state"),
+            ("script_text", "Scripts", "text_of"),
+            ("script_text", "Scripts", "text_before_failure"),
         ),
     ),
 )
 
-PUBLIC = re.compile(r"^(?:abbrev pub|unfoldable pub|pub record|pub data|pub) (.*)$")
 BEGINS = re.compile(r"^(?:(?:abbrev|unfoldable|opaque) )?(?:pub )?(?:(record|data) )?([\w◌≡-]+)(?= )")
 NAMES = re.compile(r"^use Rattle\.([\w.]+?)(?:\.\{(.*)\}| as (\w+))$")
 
 
 @dataclass
 class Definition:
+    """A definition: its place, whether it is a record or data, and its text with its comments."""
+
     crate: str
     file: str
     name: str
-    shape: str = ""
-    words: str = ""
-    lines: list = field(default_factory=list)
+    kind: str
+    text: List[str] = field(default_factory=list)
+
+    @property
+    def place(self) -> str:
+        """Its file."""
+        return f"crates/{self.crate}/specs/{self.file}.antt"
+
+    @property
+    def full_name(self) -> str:
+        """The name that no other definition has."""
+        return f"{self.crate}/{self.file}.{self.name}"
+
+    @property
+    def lines(self) -> List[str]:
+        """Its lines without the comments."""
+        return [line for line in self.text if not line.lstrip().startswith("--")]
+
+    @property
+    def words(self) -> str:
+        """The comment above it."""
+        first = next(at for at, line in enumerate(self.text) if not line.startswith("--"))
+        return " ".join(line[2:].strip() for line in self.text[:first])
 
 
 @dataclass
 class File:
-    head: str
-    definitions: dict  # by name
-    named: dict  # what a name that is brought in stands for: a path and a name
-    modules: dict  # what a module's name that is brought in stands for: a path
+    """What a file of definitions has, and what it brings in from others."""
+
+    definitions: Dict[str, Definition] = field(default_factory=dict)
+    named: Dict[str, Tuple[str, str]] = field(default_factory=dict)  # a name stands for a path and a name
+    modules: Dict[str, str] = field(default_factory=dict)  # a module's name stands for a path
 
 
-def crates():
+Files = Dict[Tuple[str, str], File]
+Found = Union[Definition, str, None]  # a definition, or a Rust type by its name
+
+
+def crates() -> Iterator[str]:
+    """The names of the crates, in the order of crates.txt."""
     for line in (TOP / "crates.txt").read_text(encoding="utf-8").splitlines():
         line = line.split("#")[0].strip()
         if line:
             yield line.split(":")[0].split()[0]
 
 
-def head_of(lines):
-    told = []
-    for line in lines:
-        if not line.startswith("--"):
-            break
-        told.append(line[2:].strip())
-    return " ".join(told)
-
-
-def brought_in(line, named, modules):
+def brought_in(line: str, named: Dict[str, Tuple[str, str]], modules: Dict[str, str]) -> None:
+    """Notes what a line `use` brings in."""
     path, names, alias = NAMES.match(line).groups()
     if alias:
         modules[alias] = path
@@ -206,55 +249,44 @@ def brought_in(line, named, modules):
         named[(here or own).strip()] = path, own.strip()
 
 
-def read(crate, path):
-    lines = path.read_text(encoding="utf-8").splitlines()
-    definitions, named, modules, words, now = {}, {}, {}, [], None
-    for line in lines:
+def begun(file: File, crate: str, stem: str, line: str) -> Definition:
+    """The definition that a line begins, or goes on with."""
+    kind, name = BEGINS.match(line).groups()
+    return file.definitions.setdefault(name, Definition(crate, stem, name, kind or ""))
+
+
+def read(crate: str, path: Path) -> File:
+    """Reads a file of definitions."""
+    file, comment, now = File(), [], None
+    for line in path.read_text(encoding="utf-8").splitlines():
         if line.startswith("--"):
-            words.append(line[2:].strip())
+            comment.append(line)
             continue
         if line.startswith("use "):
-            brought_in(line, named, modules)
+            brought_in(line, file.named, file.modules)
         elif line and line[0] not in " )":
-            kind, name = BEGINS.match(line).groups()
-            if name not in definitions:
-                public = PUBLIC.match(line)
-                shape = kind or (public.group(1).partition(" ")[2].lstrip(": ").strip() if public else "")
-                definitions[name] = Definition(crate, path.stem, name, shape, " ".join(words))
-            now = definitions[name]
+            now = begun(file, crate, path.stem, line)
         if now and line.strip() and not line.startswith("use "):
-            now.lines.append(line)
-        words = []
-    return File(head_of(lines), definitions, named, modules)
+            now.text += [*comment, line]
+        comment = []
+    return file
 
 
-def all_files():
+def all_files() -> Iterator[Tuple[Tuple[str, str], File]]:
+    """Every file of definitions, by its crate and its name."""
     for crate in crates():
         for path in sorted((TOP / "crates" / crate / "specs").glob("*.antt")):
             if path.stem != "Lib":
                 yield (crate, path.stem), read(crate, path)
 
 
-def is_public(definition):
-    return bool(PUBLIC.match(definition.lines[0]))
+def with_constructor(file: File, name: str) -> Optional[Definition]:
+    """The data of a file that have a constructor of that name."""
+    constructor = re.compile(rf"(?m)^  (?:pub )?{re.escape(name)} :")
+    return next((it for it in file.definitions.values() if it.kind == "data" and constructor.search("\n".join(it.text))), None)
 
 
-def index(files):
-    out, last = [INDEX_HEAD], None
-    for (crate, name), file in files.items():
-        if crate != last:
-            out.append(f"## {crate}\n")
-            last = crate
-        out.append(f"### {name}\n\n{file.head}\n")
-        out.append("| name | type | in words |\n|---|---|---|")
-        for it in file.definitions.values():
-            if is_public(it):
-                out.append(f"| `{it.name}` | `{it.shape}` | {it.words} |")
-        out.append("")
-    return "\n".join(out)
-
-
-def found_at(files, path, name):
+def found_at(files: Files, path: str, name: str) -> Found:
     """The definition of a name in a module, or the Rust type of that name or of that variant; none where it isn't ours."""
     parts = path.split(".")
     if len(parts) < 3 or not (TOP / "crates" / parts[0]).is_dir() or parts[1] != "specs":
@@ -262,17 +294,11 @@ def found_at(files, path, name):
     if parts[2] == "declared":
         return f"{parts[0]}::{[it for it in parts if it != 'TheVariants'][-1]}"
     file = files.get((parts[0], parts[2]))
-    if not file:
-        return None
-    if name in file.definitions:
-        return file.definitions[name]
-    # a constructor
-    holds = [it for it in file.definitions.values() if it.shape == "data" and re.search(rf"(?m)^  (?:pub )?{name} :", "\n".join(it.lines))]
-    return holds[0] if holds else None
+    return file and (file.definitions.get(name) or with_constructor(file, name))
 
 
-def named_by(files, it):
-    """What a definition names, in order: definitions, and Rust types as text."""
+def named_by(files: Files, it: Definition) -> List[Found]:
+    """What a definition names, in order."""
     file, seen = files[it.crate, it.file], []
     text = "\n".join(line.split(" -- ")[0] for line in it.lines)
     for module, name in re.findall(r"(?:\b(\w+)\.)?([A-Za-z_◌][\w◌-]*)", text):
@@ -289,46 +315,158 @@ def named_by(files, it):
     return seen
 
 
-def reached(files, roots, before):
+def reached(files: Files, roots: List[Definition], before: Set[str]) -> Tuple[List[Definition], List[str]]:
     """The definitions that some roots reach and that weren't reached before, nearest first, and the Rust types."""
-    left, here, types = [files[crate, file].definitions[name] for crate, file, name in roots], [], []
+    left, here, types = list(roots), [], []
     for it in left:
-        if id(it) in before:
+        if it.full_name in before:
             continue
-        before.add(id(it))
+        before.add(it.full_name)
         here.append(it)
         for found in named_by(files, it):
             if isinstance(found, Definition):
                 left.append(found)
             elif found not in types:
                 types.append(found)
-    return here, types
+    return here, sorted(types)
 
 
-def trusted(files):
-    out, before = [TRUSTED_HEAD], set()
-    for title, clauses, roots in STATEMENTS:
-        here, types = reached(files, roots, before)
-        lines = sum(len(it.lines) for it in here)
-        out.append(f"## {title}\n\n{clauses} {len(here)} definitions, {lines} lines.\n")
-        out.append("| definition | where | in words |\n|---|---|---|")
-        for it in here:
-            out.append(f"| `{it.name}` | `{it.crate}/specs/{it.file}.antt` | {it.words} |")
-        if types:
-            out.append(f"\nRust types: {', '.join(f'`{it}`' for it in sorted(types))}.")
-        out.append("")
-    return "\n".join(out)
+def rests_on(files: Files, statement: Statement, before: Set[str]) -> Tuple[List[Definition], List[str]]:
+    """What a statement rests on, but for what was reached before."""
+    return reached(files, [files[crate, file].definitions[name] for crate, file, name in statement.roots], before)
 
 
-def main():
-    files = dict(all_files())
-    pages = {INDEX: index(files), TRUSTED: trusted(files)}
-    if sys.argv[1:] == ["--check"]:
-        late = [it.name for it, text in pages.items() if not it.exists() or it.read_text(encoding="utf-8") != text]
-        print("\n".join(f"{it} is out of date" for it in late), end="\n" if late else "")
-        return 1 if late else 0
-    for it, text in pages.items():
-        it.write_text(text, encoding="utf-8")
+def lines_of(definitions: List[Definition]) -> int:
+    """How many lines some definitions have, without the comments."""
+    return sum(len(it.lines) for it in definitions)
+
+
+def filled(words: str, indent: str) -> str:
+    """Words in lines of at most 100 columns."""
+    return textwrap.fill(words, 100, initial_indent=indent, subsequent_indent=indent, break_long_words=False, break_on_hyphens=False)
+
+
+def headed(head: str, words: str) -> str:
+    """A head, and words below it where there are any."""
+    return f"{head}\n{filled(words, '    ')}" if words else head
+
+
+def listed(definitions: List[Definition], types: List[str]) -> Iterator[str]:
+    """Each definition with its file and its words, and then the Rust types."""
+    yield from (headed(f"{it.name}  {it.place}", it.words) for it in definitions)
+    if types:
+        yield f"\n{filled('Rust types: ' + ', '.join(types) + '.', '')}"
+
+
+def shown_definition(files: Files, it: Definition) -> Iterator[str]:
+    """The text of a definition, its file, and what it rests on."""
+    (_, *others), types = reached(files, [it], set())
+    yield f"{it.place}\n"
+    yield from it.text
+    count = f"{len(others)} more, of {lines_of(others)} lines, the nearest first:" if others else "no other."
+    yield f"\nOf the definitions in crates/*/specs it rests on {count}\n"
+    yield from listed(others, types)
+
+
+def shown_statement(files: Files, statement: Statement) -> Iterator[str]:
+    """The call and the clauses of a statement, and what it rests on."""
+    definitions, types = rests_on(files, statement, set())
+    yield f"{statement.title}: {statement.clauses.replace('`', '')}"
+    yield f"\nIt rests on {len(definitions)} definitions of {lines_of(definitions)} lines, the nearest first:\n"
+    yield from listed(definitions, types)
+
+
+def called(files: Files, asked: str) -> List[Definition]:
+    """The definitions that a name asks for; where there is none, the data with a constructor of that name."""
+    every = [it for file in files.values() for it in file.definitions.values()]
+    found = [it for it in every if asked in (it.name, f"{it.file}.{it.name}", it.full_name)]
+    return found or [it for it in (with_constructor(file, asked) for file in files.values()) if it]
+
+
+def nearest(files: Files, asked: str) -> List[str]:
+    """The names of definitions that are most like one that there isn't."""
+    lower = {it.lower(): it for file in files.values() for it in file.definitions}
+    return [lower[it] for it in get_close_matches(asked.rpartition(".")[2].lower(), lower, 5, 0.5)]
+
+
+def answer_to(files: Files, asked: str) -> int:
+    """Prints the definition that is asked for, or tells why it can't; gives the status."""
+    found = called(files, asked)
+    if len(found) == 1:
+        print("\n".join(shown_definition(files, found[0])))
+        return 0
+    if found:
+        print(f"{asked} is the name of {len(found)} definitions; say which:", file=sys.stderr)
+        print("\n".join(headed(it.full_name, it.words) for it in found), file=sys.stderr)
+    else:
+        near = nearest(files, asked)
+        print(f"no definition is called {asked}{'; the nearest: ' if near else ''}{', '.join(near)}", file=sys.stderr)
+    return 2
+
+
+def counted(files: Files) -> Iterator[Tuple[Statement, int, int, int]]:
+    """Each statement with the number of its definitions, of those that none before it has, and of its lines."""
+    before: Set[str] = set()
+    for statement in STATEMENTS:
+        definitions, _ = rests_on(files, statement, set())
+        new, _ = rests_on(files, statement, before)
+        yield statement, len(definitions), len(new), lines_of(definitions)
+
+
+def table(files: Files) -> str:
+    """The table of statements, as docs/WORDS.md has it."""
+    rows = (f"| `{it.name}` | {it.title} | {it.clauses} | {count} | {new} | {lines} |\n" for it, count, new, lines in counted(files))
+    return TABLE_HEAD + "".join(rows)
+
+
+def with_table(page: str, new: str) -> str:
+    """A page with a new table in the place of its own."""
+    before, head, behind = page.partition(TABLE_HEAD)
+    if not head:
+        raise ValueError(f"{WORDS.name} has no table of statements")
+    return before + new + re.sub(r"\A(?:\|.*\n)*", "", behind)
+
+
+def overview(files: Files) -> Iterator[str]:
+    """The statements, as they are shown to one who asks for nothing."""
+    yield f"\n{'statements':<12} {'definitions':>11} {'lines':>6}"
+    for statement, count, _, lines in counted(files):
+        yield f"{statement.name:<12} {count:>11} {lines:>6}  {statement.title}"
+
+
+def parser() -> argparse.ArgumentParser:
+    """What the command can be asked for."""
+    made = argparse.ArgumentParser(prog="docs/definitions.py", description="Prints a definition, or a statement, and what it rests on.")
+    made.add_argument("name", metavar="NAME", nargs="?", help="a definition, by NAME, FILE.NAME or CRATE/FILE.NAME")
+    others = made.add_mutually_exclusive_group()
+    names = [it.name for it in STATEMENTS]
+    others.add_argument("--statement", metavar="NAME", choices=names, help="a statement, by its name below")
+    others.add_argument("--write", action="store_true", help="write the table of statements in docs/WORDS.md")
+    others.add_argument("--check", action="store_true", help="fail where that table is out of date")
+    return made
+
+
+def main() -> int:
+    """Answers the command line; gives the status."""
+    signal.signal(signal.SIGPIPE, signal.SIG_DFL)
+    sys.stdout.reconfigure(encoding="utf-8")
+    asked, files = parser().parse_args(), dict(all_files())
+    if asked.name:
+        return answer_to(files, asked.name)
+    if asked.statement:
+        print("\n".join(shown_statement(files, next(it for it in STATEMENTS if it.name == asked.statement))))
+        return 0
+    if not (asked.write or asked.check):
+        parser().print_help()
+        print("\n".join(overview(files)))
+        return 0
+    page = WORDS.read_text(encoding="utf-8")
+    due = with_table(page, table(files))
+    if asked.write:
+        WORDS.write_text(due, encoding="utf-8")
+    elif page != due:
+        print(f"docs/{WORDS.name} is out of date")
+        return 1
     return 0
 
 

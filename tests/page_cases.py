@@ -1,8 +1,8 @@
-"""Tries the pages, but for the commands that they show (page_commands.py): each guarantee of README names a call and a clause that the source has, each page that it names is there,
-each crate has a page, and in ARCHITECTURE a row with its files of definitions, each example of the library stands in a test as
-it stands on its page, the pages that are written by docs/definitions.py are up to date, docs/TRUSTED.md lists each definition
-that a clause of its statements names, each place that docs/ROWS.md names is there, and no file that is kept is a log or names a
-folder of one machine.
+"""Tries the pages, but for the commands that they show (page_commands.py): each guarantee of README names a call and a clause that
+the source has, each page that it names is there, each crate has a page, and in ARCHITECTURE a row with its files of definitions,
+each example of the library stands in a test as it stands on its page, the table of statements in docs/WORDS.md is up to date,
+docs/definitions.py prints the definitions that it is asked for and lists each that a clause of a statement names, each place that
+docs/ROWS.md names is there, and no file that is kept is a log or names a folder of one machine.
 
     python3 tests/page_cases.py
 """
@@ -74,14 +74,45 @@ def rests_on(files, statement):
                     yield from named_in(files, body, text)
 
 
+def asked(*words):
+    """What docs/definitions.py gives for some words: its status and its text."""
+    ran = subprocess.run([sys.executable, TOP / "docs/definitions.py", *words], capture_output=True, text=True, encoding="utf-8")
+    return ran.returncode, ran.stdout + ran.stderr
+
+
 def trusted():
-    listed = (TOP / "docs" / "TRUSTED.md").read_text()
+    """Each statement, where the command lists each definition that its clauses name, by its file."""
     files = dict(definitions.all_files())
-    for title, statement, _ in definitions.STATEMENTS:
-        rows = {(it.name, f"| `{it.name}` | `{it.crate}/specs/{it.file}.antt` |") for it in rests_on(files, statement)}
-        missing = sorted(name for name, row in rows if row not in listed)
-        why = f"TRUSTED.md lacks {', '.join(missing)}" if missing else None if rows else "its clauses name no definition"
-        yield f"what is trusted for: {title}", why
+    for statement in definitions.STATEMENTS:
+        lines = "\n".join(definitions.shown_statement(files, statement)).splitlines()
+        rows = {f"{it.name}  crates/{it.crate}/specs/{it.file}.antt" for it in rests_on(files, statement.clauses)}
+        missing = sorted(rows - set(lines))
+        why = f"it lacks {', '.join(missing)}" if missing else None if rows else "its clauses name no definition"
+        yield f"what is trusted for: {statement.title}", why
+
+
+def passage(path, name):
+    """A definition as its file has it: the passage, with no empty line within, in which a line begins with its name."""
+    passages = path.read_text(encoding="utf-8").split("\n\n")
+    return next(it for it in passages if re.search(rf"(?m)^(?:[a-z]+ )*{name} ", it)).strip()
+
+
+def printed():
+    """The command, asked for the first definition of each statement, for names that can't be answered, and for the statements."""
+    for crate, file, name in sorted({it.roots[0] for it in definitions.STATEMENTS}):
+        path = TOP / "crates" / crate / "specs" / f"{file}.antt"
+        status, text = asked(f"{crate}/{file}.{name}")
+        is_whole = f"\n{passage(path, name)}\n" in text and text.startswith(f"{path.relative_to(TOP)}\n")
+        yield f"the definition {crate}/{file}.{name}", None if status == 0 and is_whole else f"status {status}: {text[:200]}"
+    for name, told_of in (("byte_show", "byte_shown"), ("in_flight", "world/World.in_flight")):
+        status, text = asked(name)
+        yield f"no definition for {name}", None if status == 2 and told_of in text else f"status {status}: {text[:200]}"
+    status, text = asked("--statement", "run")
+    title = definitions.STATEMENTS[0].title
+    yield "a statement that is asked for", None if status == 0 and text.startswith(title) else f"status {status}: {text[:200]}"
+    status, text = asked()
+    missing = [it.name for it in definitions.STATEMENTS if not re.search(rf"(?m)^{it.name} +\d+ +\d+  ", text)]
+    yield "the statements that are listed", f"status {status}, without {', '.join(missing)}" if status or missing else None
 
 
 def tables():
@@ -164,11 +195,13 @@ def cases():
     yield from tables()
     yield from examples()
     yield from trusted()
+    yield from printed()
     yield from rows()
     yield from kept()
-    written = subprocess.run([sys.executable, TOP / "docs" / "definitions.py", "--check"], capture_output=True, text=True)
-    why = written.stdout.strip() or written.stderr.strip()[-200:]
-    yield "the pages that docs/definitions.py writes", None if written.returncode == 0 else why
+    lines = len((TOP / "docs/WORDS.md").read_text().splitlines())
+    yield "the page of words is short", None if lines <= 100 else f"it has {lines} lines"
+    status, text = asked("--check")
+    yield "the table of statements in docs/WORDS.md", None if status == 0 else text[-200:]
 
 
 if __name__ == "__main__":
