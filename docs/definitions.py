@@ -437,12 +437,12 @@ def overview(files: Files) -> Iterator[str]:
 def parser() -> argparse.ArgumentParser:
     """What the command can be asked for."""
     made = argparse.ArgumentParser(prog="docs/definitions.py", description="Prints a definition, or a statement, and what it rests on.")
-    made.add_argument("name", metavar="NAME", nargs="?", help="a definition, by NAME, FILE.NAME or CRATE/FILE.NAME")
-    others = made.add_mutually_exclusive_group()
+    one = made.add_mutually_exclusive_group()
+    one.add_argument("name", metavar="NAME", nargs="?", help="a definition, by NAME, FILE.NAME or CRATE/FILE.NAME")
     names = [it.name for it in STATEMENTS]
-    others.add_argument("--statement", metavar="NAME", choices=names, help="a statement, by its name below")
-    others.add_argument("--write", action="store_true", help="write the table of statements in docs/WORDS.md")
-    others.add_argument("--check", action="store_true", help="fail where that table is out of date")
+    one.add_argument("--statement", metavar="NAME", choices=names, help="a statement, by its name below")
+    one.add_argument("--write", action="store_true", help="write the table of statements in docs/WORDS.md")
+    one.add_argument("--check", action="store_true", help="fail where that table is out of date")
     return made
 
 
