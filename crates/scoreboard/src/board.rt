@@ -271,6 +271,7 @@ impl Scoreboard {
         ensures refused { OnErr result (board_of self.new ≡ board_of self.old) }
         ensures grows { OnErr result (is_request seen.now ≡ true) }
         ensures policy { self.new.policy ≡ self.old.policy }
+        ensures unknown { self.new.unknown ≡ self.old.unknown }
         ensures exactly { IfOk result (λ wrong. self.old.policy ≡ AcceptanceOrder → (errors : Errors) (beginning : Beginning) (before : List ObservedBeat) → IsReached AcceptanceOrder (opening_from errors beginning) before (board_of self.old)
             → (wrong ≡ None) ↔ IsRight beginning (before ++ seen.now ∷ [])) }
         ensures memory { self.old.policy ≡ AcceptanceOrder → (errors : Errors) (beginning : Beginning) (before : List ObservedBeat) → IsReached AcceptanceOrder (opening_from errors beginning) before (board_of self.old)
