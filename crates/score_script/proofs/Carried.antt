@@ -19,7 +19,7 @@ none_unanswered settled line (Axi beat) unknown = refl
 none_unanswered settled line Drained unknown = refl
 
 -- what has no answer is told of the score that is left
-left_text : (score : Score) (number : ℕ) (said : Command) → unanswered_by (commanded_score score number said) number said ≡ (finds score number said).unanswered
+pub left_text : (score : Score) (number : ℕ) (said : Command) → unanswered_by (commanded_score score number said) number said ≡ (finds score number said).unanswered
 left_text score number (command.Observed seen) = none_unanswered (settling score) (line_at score number) seen.beat seen.unknown
 left_text score number (command.Unknown port client) = refl
 left_text score number (command.Byte address) = refl

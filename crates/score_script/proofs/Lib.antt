@@ -1,3 +1,4 @@
+mod Observed
 mod FindingLines
 mod FillLaws
 mod UnansweredLines

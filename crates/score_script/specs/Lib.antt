@@ -1,6 +1,7 @@
 pub mod CommandTexts
 pub mod FillLines
 pub mod FindingTexts
+pub mod Observations
 pub mod ObservedLines
 pub mod Profiles
 pub mod ScoreStates

@@ -155,7 +155,7 @@ can_fill_in judge address bytes = can_fill judge.board.memory.faults address (le
 abbrev pub telling_in : PolicyBoard → ObservedBeat → Telling
 telling_in judge seen = telling_of judge.policy judge.board seen
 
--- the board after a beat
+-- with another board, and what nobody knows of the messages that have begun there
 abbrev pub with_unknown : PolicyBoard → UnknownBoard → PolicyBoard
 with_unknown judge after = record judge { board = after.board; unknown = after.lanes }
 

@@ -1,5 +1,5 @@
 -- What each line of an observation does (this project's profile).
-use Rattle.std.specs.Prelude.{ℕ, ◌≡◌, ◌+◌, ◌^◌, ◌-◌, length, Bool, true, false, not, List, [], ◌++◌, min, Option, Some, None, Result, if◌then◌else◌, is_some, nat_lt}
+use Rattle.std.specs.Prelude.{ℕ, ◌≡◌, ◌⊎◌, ◌+◌, ◌^◌, ◌-◌, length, Bool, true, false, not, List, [], ◌++◌, min, Option, Some, None, Result, if◌then◌else◌, is_some, nat_lt}
 use Rattle.std.specs.Option.{option_or}
 use Rattle.score_script.specs.FindingTexts.{last_text, optional_text}
 use Rattle.score_script.specs.UnansweredTexts.{unanswered_text}
@@ -14,6 +14,7 @@ use Rattle.score_script.specs.declared.lines.SeenBeat.{SeenBeat}
 use Rattle.score_script.specs.declared.score.Command.{Command}
 use Rattle.score_script.specs.declared.score.Command.TheVariants as command
 use Rattle.score_script.specs.declared.profiles.Asked.{Asked}
+use Rattle.score_script.specs.declared.score.Counts.{Counts}
 use Rattle.score_script.specs.declared.score.HeldBeat.{HeldBeat}
 use Rattle.burst_plan.specs.declared.Region.{Region}
 use Rattle.scoreboard.specs.Places.{wrong_place}
@@ -137,6 +138,11 @@ settling_held score (Some held) = judging (record score { held = None }) held.li
 abbrev pub settling : Score → Option Finding × Score
 settling score = settling_held score score.held
 
+-- what a beat that is judged at once leaves where memory was refused, beside what was told before: nothing has changed, or the held beat was
+-- judged, and what was found of it is told
+abbrev pub Leaves : Score → Option Finding → Score → Option Finding → Type 0
+Leaves old before new told = ((new ≡ old) × (told ≡ before)) ⊎ ((new ≡ (settling old).1) × (told ≡ (settling old).0))
+
 -- ---- commands
 
 -- what a line finds: of the beat that was held, and of its own; and the lines of what has no answer, where it ends the observation
@@ -221,6 +227,20 @@ finds score number (command.Time time) = record (settled_alone (settling score))
 finds score number command.Reset = reset_behind (settling score)
 finds score number command.End = over (settling score) number
 
+-- ---- commands that are called, and not read: a beat is judged at once, since nobody withdraws it
+
+-- the held beat was judged, and so is this one
+abbrev pub judged_behind : Option Finding × Score → Line → SeenBeat → Finds
+judged_behind settled line seen =
+    let judged = judging settled.1 line seen in
+    record (settled_alone settled) { own = judged.0; after = judged.1 }
+
+abbrev pub finds_at_once : Score → ℕ → Command → Finds
+finds_at_once score number (command.Observed seen) = judged_behind (settling score) (line_at score number) seen
+finds_at_once score number said = finds score number said
+
+-- ---- where a command may stand
+
 -- whether nothing but fillings was said yet, after a command; answers play no part
 abbrev pub begins_after : Bool → Command → Bool
 begins_after begins command.Withdrawal = begins
@@ -253,6 +273,22 @@ FailsBy number None fault = fault ≡ NoMemory
 -- the score after a command
 abbrev pub commanded_score : Score → ℕ → Command → Score
 commanded_score score number said = record (finds score number said).after { begins = begins_after score.begins said }
+
+-- the score after a command that is called
+abbrev pub called_score : Score → ℕ → Command → Score
+called_score score number said = record (finds_at_once score number said).after { begins = begins_after score.begins said }
+
+-- how much was judged and found so far, and what has no answer yet
+abbrev pub counts_of : Score → Counts
+counts_of score =
+    record {
+      judged = score.judged;
+      wrong = score.wrong;
+      told = score.told;
+      compared = score.compared;
+      outstanding = replies_open score.board;
+      open_bursts = bursts_open score.board;
+    }
 
 -- the lines of what a line finds
 abbrev pub finds_text : Finds → List ℕ

@@ -1,5 +1,5 @@
 //! The lines that say what the memory began with.
-ghost use Rattle.std.specs.Prelude.{◌≡◌, ◌++◌, ◌<◌, ◌≤◌, [], ◌∷◌, length};
+ghost use Rattle.std.specs.Prelude.{◌≡◌, ◌⊎◌, ◌++◌, ◌<◌, ◌≤◌, [], ◌∷◌, MatchOption, length};
 ghost use Rattle.line_text.specs.Fields.{Reads, first_wrong, unless_wrong};
 ghost use Rattle.line_text.specs.Words.{hex_at, word_at};
 ghost use Rattle.score_script.specs.FillLines.{fill_byte_field, fill_byte_fields, fill_bytes_in, fill_count, fill_line};
@@ -12,9 +12,9 @@ use std::marker::Model;
 /// The most bytes of a line.
 const MOST: u32 = 32;
 
-/// The bytes of a line.
+/// The bytes of a filling, 1 to 32.
 #[derive(Drop)]
-pub(crate) struct FillBytes {
+pub struct FillBytes {
     bytes: ArrayVec<u8, 32>,
 }
 
@@ -42,6 +42,18 @@ impl FillBytes {
         ensures { self.new ≡ self.old ++ byte ∷ [] }
     {
         self.bytes.push(byte);
+    }
+
+    /// These bytes, where they are 1 to 32.
+    pub fn of(bytes: &[u8]) -> Option<FillBytes>
+        ensures { MatchOption result ((length bytes.now ≡ 0) ⊎ (32 < length bytes.now)) (λ held. (held ≡ bytes.now) × (0 < length bytes.now) × (length bytes.now ≤ 32)) }
+    {
+        if bytes.is_empty() || bytes.len() > 32 {
+            return None;
+        }
+        let mut held = FillBytes::new();
+        held.bytes.try_extend_from_slice(bytes).unwrap();
+        Some(held)
     }
 
     /// All bytes.

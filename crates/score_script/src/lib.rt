@@ -4,10 +4,15 @@
 mod fills;
 mod findings;
 mod lines;
+mod observation;
 mod profiles;
 mod score;
 mod script;
 mod unanswered;
 mod unknown;
 
+pub use fills::FillBytes;
+pub use lines::{Channel, SeenBeat};
+pub use observation::{Observation, SetUp};
+pub use score::{Command, Counts};
 pub use script::score_text;

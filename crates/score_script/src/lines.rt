@@ -16,7 +16,7 @@ use tl_messages::{ABeat, DBeat};
 
 /// A channel on which beats are observed.
 #[derive(Clone, Copy, Debug, PartialEq, Eq)]
-pub(crate) enum Channel {
+pub enum Channel {
     /// TileLink requests.
     A,
     /// TileLink replies.
@@ -53,11 +53,11 @@ impl Channel {
 
 /// A beat that was observed, and the lanes of its payload that nobody knows, bit k for lane k.
 #[derive(Clone, Copy, Debug, PartialEq, Eq)]
-pub(crate) struct SeenBeat {
+pub struct SeenBeat {
     /// The beat, with 0 in the place of each digit that nobody knows.
-    pub(crate) beat: ObservedBeat,
+    pub beat: ObservedBeat,
     /// The lanes.
-    pub(crate) unknown: u8,
+    pub unknown: u8,
 }
 
 impl SeenBeat {

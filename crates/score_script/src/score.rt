@@ -1,14 +1,16 @@
 //! What was found of the beats that were read so far, and what each line finds.
-ghost use Rattle.std.specs.Prelude.{◌≡◌, ◌⊎◌, Err, IfErr, IfOk, IfSome, None, OnOk, Some, if◌then◌else◌, true};
+ghost use Rattle.std.specs.Prelude.{◌≡◌, ◌⊎◌, Err, IfErr, IfOk, IfSome, None, OnErr, OnOk, Some, if◌then◌else◌, true};
 ghost use Rattle.std.specs.Option.{option_or};
 ghost use Rattle.script_text.specs.Stages.{Writes, WritesEnd};
+ghost use Rattle.scoreboard.specs.Observed.{is_request};
 ghost use Rattle.score_setup.specs.ScoreSetups.{lists_of, ranges_of, score_setup_fault};
 ghost use Rattle.setups.specs.declared.SetupFault.TheVariants.{NoMemory};
-ghost use Rattle.score_script.specs.Profiles.{filled_in};
+ghost use Rattle.score_script.specs.Profiles.{byte_in, filled_in};
 ghost use Rattle.score_script.specs.declared.profiles.Asked.{Asked};
-ghost use Rattle.score_script.specs.Scores.{FailsBy, begins_after, commanded, commanded_score, unanswered_by, wrong_command, wrong_fill, beats_judged, client_of, closing, counted, ended_score, finds, judging, line_at, misplaced_in, observing, opening_score, reset_score, settling, unclear, unknown_on, with_more, without_data, wrong_behind};
+ghost use Rattle.score_script.specs.Scores.{FailsBy, Leaves, begins_after, called_score, counts_of, finds_at_once, judged_behind, commanded, commanded_score, unanswered_by, wrong_command, wrong_fill, beats_judged, client_of, closing, counted, ended_score, finds, judging, line_at, misplaced_in, observing, opening_score, reset_score, settling, unclear, unknown_on, with_more, without_data, wrong_behind};
 ghost use Rattle.score_script.specs.ScoreStates.{score_of};
 ghost use Rattle.score_script.specs.FindingTexts.{WritesText};
+ghost use Rattle.score_script.specs.UnansweredTexts.{unanswered_text};
 
 use crate::fills::FillBytes;
 use crate::findings::{
@@ -31,7 +33,7 @@ use tl_messages::ABeat;
 
 /// What a line says that isn't one of the set-up.
 #[derive(Drop)]
-pub(crate) enum Command {
+pub enum Command {
     /// Something was observed.
     Observed(SeenBeat),
     /// A beat of this channel, and of this client, was observed, and nobody knows a field of it but the payload.
@@ -65,9 +67,26 @@ pub(crate) struct HeldBeat {
     pub(crate) unknown: u8,
 }
 
-/// The board, the places of bursts where they are judged, whether nobody need know data but those of replies, whether nothing but fillings was said yet, the time of what is observed,
-/// whether the observation is over, the beat that is held, how many beats were judged, how much was found wrong, and how many bytes
-/// replies told, and were compared.
+/// How much was judged and found so far, and what has no answer yet.
+#[derive(Clone, Copy, Debug, PartialEq, Eq)]
+pub struct Counts {
+    /// Beats that were judged, at most 2^64 - 1.
+    pub judged: u64,
+    /// What was found wrong of them.
+    pub wrong: u64,
+    /// Bytes that replies told.
+    pub told: u64,
+    /// Of these those that were compared.
+    pub compared: u64,
+    /// Accepted requests whose reply isn't over.
+    pub outstanding: u16,
+    /// Bursts that are open on the AXI4 port.
+    pub open_bursts: usize,
+}
+
+/// The board, the places of bursts where they are judged, whether nobody need know data but those of replies, whether nothing but
+/// fillings was said yet, the time of what is observed, whether the observation is over, the beat that is held, how many beats were
+/// judged, how much was found wrong, and how many bytes replies told, and were compared.
 pub(crate) struct Score {
     board: Scoreboard,
     places: Option<AxiPlaces>,
@@ -254,6 +273,9 @@ impl Score {
     ) -> Result<(), AllocError>
         ensures found { OnOk result (finding.new ≡ (judging (score_of self.old) line seen.now).0) }
         ensures state { OnOk result (score_of self.new ≡ (judging (score_of self.old) line seen.now).1) }
+        ensures kept { OnErr result (score_of self.new ≡ score_of self.old) }
+        ensures quiet { OnErr result (finding.new ≡ finding.old) }
+        ensures grows { OnErr result (is_request seen.now.beat ≡ true) }
     {
         let SeenBeat { beat, unknown } = seen;
         let telling = self.board.telling(beat);
@@ -271,10 +293,12 @@ impl Score {
     }
 
     /// Judges the beat that is held, if there is one, and puts what it finds into its place. The one error is that memory was
-    /// refused.
+    /// refused; then nothing has changed.
     fn settle(&mut self, finding: &mut Option<Finding>) -> Result<(), AllocError>
         ensures found { OnOk result (finding.new ≡ (settling (score_of self.old)).0) }
         ensures state { OnOk result (score_of self.new ≡ (settling (score_of self.old)).1) }
+        ensures kept { OnErr result (score_of self.new ≡ score_of self.old) }
+        ensures quiet { OnErr result (finding.new ≡ finding.old) }
     {
         let Some(held) = self.held else {
             *finding = None;
@@ -285,11 +309,15 @@ impl Score {
             beat: ObservedBeat::A(held.client, held.beat),
             unknown: held.unknown,
         };
-        self.judge(held.line, &seen, finding)
+        if let Err(refused) = self.judge(held.line, &seen, finding) {
+            self.held = Some(held);
+            return Err(refused);
+        }
+        Ok(())
     }
 
     /// Holds a beat on channel A, and judges any other, and puts what it finds into its place. The one error is that memory was
-    /// refused.
+    /// refused; then nothing has changed.
     fn observe(
         &mut self,
         line: Line,
@@ -299,20 +327,22 @@ impl Score {
         ensures held { OnOk result (findings.new.held ≡ (observing (settling (score_of self.old)) line seen.now).held) }
         ensures own { OnOk result (findings.new.own ≡ (observing (settling (score_of self.old)) line seen.now).own) }
         ensures state { OnOk result (score_of self.new ≡ (observing (settling (score_of self.old)) line seen.now).after) }
+        ensures kept { OnErr result (score_of self.new ≡ score_of self.old) }
+        ensures quiet { OnErr result (findings.new.held ≡ findings.old.held) }
     {
         self.settle(&mut findings.held)?;
-        if let ObservedBeat::A(client, beat) = seen.beat {
-            let unknown = seen.unknown;
-            self.held = Some(HeldBeat {
-                line,
-                client,
-                beat,
-                unknown,
-            });
-            findings.own = None;
-            return Ok(());
-        }
-        self.judge(line, seen, &mut findings.own)
+        let ObservedBeat::A(client, beat) = seen.beat else {
+            return self.judge(line, seen, &mut findings.own);
+        };
+        let unknown = seen.unknown;
+        self.held = Some(HeldBeat {
+            line,
+            client,
+            beat,
+            unknown,
+        });
+        findings.own = None;
+        Ok(())
     }
 
     /// The held beat is judged, and then one of which nobody knows a field but the payload: nothing changes but the counts. The one
@@ -327,6 +357,8 @@ impl Score {
         ensures held { OnOk result (findings.new.held ≡ (unclear (settling (score_of self.old)) line channel client).held) }
         ensures own { OnOk result (findings.new.own ≡ (unclear (settling (score_of self.old)) line channel client).own) }
         ensures state { OnOk result (score_of self.new ≡ (unclear (settling (score_of self.old)) line channel client).after) }
+        ensures kept { OnErr result (score_of self.new ≡ score_of self.old) }
+        ensures quiet { OnErr result (findings.new.held ≡ findings.old.held) }
     {
         self.settle(&mut findings.held)?;
         let wrong = unknown_on(self.board.clients(), channel, client);
@@ -341,6 +373,8 @@ impl Score {
         ensures held { OnOk result (findings.new.held ≡ (settling (score_of self.old)).0) }
         ensures own { OnOk result (findings.new.own ≡ None) }
         ensures state { OnOk result (score_of self.new ≡ reset_score (settling (score_of self.old)).1) }
+        ensures kept { OnErr result (score_of self.new ≡ score_of self.old) }
+        ensures quiet { OnErr result (findings.new.held ≡ findings.old.held) }
     {
         self.settle(&mut findings.held)?;
         findings.own = None;
@@ -353,6 +387,8 @@ impl Score {
         ensures held { OnOk result (findings.new.held ≡ (settling (score_of self.old)).0) }
         ensures own { OnOk result (findings.new.own ≡ None) }
         ensures state { OnOk result (score_of self.new ≡ ended_score (settling (score_of self.old)).1) }
+        ensures kept { OnErr result (score_of self.new ≡ score_of self.old) }
+        ensures quiet { OnErr result (findings.new.held ≡ findings.old.held) }
     {
         self.settle(&mut findings.held)?;
         findings.own = None;
@@ -387,6 +423,7 @@ impl Score {
     fn fill(&mut self, number: u32, address: u32, bytes: &FillBytes) -> Result<(), ScriptFault>
         ensures done { OnOk result (wrong_fill (score_of self.old) address bytes.now ≡ None) }
         ensures state { OnOk result (score_of self.new ≡ record (score_of self.old) { board = filled_in (score_of self.old).board address bytes.now }) }
+        ensures kept { OnErr result (score_of self.new ≡ score_of self.old) }
         ensures fault { IfErr result (λ fault. FailsBy number (wrong_fill (score_of self.old) address bytes.now) fault) }
     {
         if !self.begins {
@@ -416,6 +453,8 @@ impl Score {
         ensures held { OnOk result (findings.new.held ≡ (finds (score_of self.old) number command.now).held) }
         ensures own { OnOk result (findings.new.own ≡ (finds (score_of self.old) number command.now).own) }
         ensures state { OnOk result (score_of self.new ≡ (finds (score_of self.old) number command.now).after) }
+        ensures kept { OnErr result (score_of self.new ≡ score_of self.old) }
+        ensures quiet { OnErr result (findings.new.held ≡ findings.old.held) }
         ensures fault { IfErr result (λ fault. FailsBy number (wrong_command (score_of self.old) command.now) fault) }
     {
         match command {
@@ -461,7 +500,7 @@ impl Score {
     }
 
     /// The same, and then the line has come.
-    fn take(
+    pub(crate) fn take(
         &mut self,
         number: u32,
         command: &Command,
@@ -471,12 +510,86 @@ impl Score {
         ensures held { OnOk result (findings.new.held ≡ (finds (score_of self.old) number command.now).held) }
         ensures own { OnOk result (findings.new.own ≡ (finds (score_of self.old) number command.now).own) }
         ensures state { OnOk result (score_of self.new ≡ commanded_score (score_of self.old) number command.now) }
+        ensures kept { OnErr result (score_of self.new ≡ score_of self.old) }
+        ensures quiet { OnErr result (findings.new.held ≡ findings.old.held) }
         ensures fault { IfErr result (λ fault. FailsBy number (wrong_command (score_of self.old) command.now) fault) }
     {
         let begins = begins_after(self.begins, command);
         self.find(number, command, findings)?;
         self.begins = begins;
         Ok(())
+    }
+
+    /// The held beat is judged, and then this one, also where it is of channel A. The one error is that memory was refused; the held
+    /// beat may have been judged then, and what was found of it is told.
+    fn judge_at_once(
+        &mut self,
+        line: Line,
+        seen: &SeenBeat,
+        findings: &mut Findings,
+    ) -> Result<(), AllocError>
+        ensures held { OnOk result (findings.new.held ≡ (judged_behind (settling (score_of self.old)) line seen.now).held) }
+        ensures own { OnOk result (findings.new.own ≡ (judged_behind (settling (score_of self.old)) line seen.now).own) }
+        ensures state { OnOk result (score_of self.new ≡ (judged_behind (settling (score_of self.old)) line seen.now).after) }
+        ensures left { OnErr result (Leaves (score_of self.old) findings.old.held (score_of self.new) findings.new.held) }
+    {
+        self.settle(&mut findings.held)?;
+        self.judge(line, seen, &mut findings.own)
+    }
+
+    /// The same as `take` of a command that is called, and not read: nobody withdraws its beat, which is judged at once.
+    pub(crate) fn take_at_once(
+        &mut self,
+        number: u32,
+        command: &Command,
+        findings: &mut Findings,
+    ) -> Result<(), ScriptFault>
+        ensures may { OnOk result (wrong_command (score_of self.old) command.now ≡ None) }
+        ensures held { OnOk result (findings.new.held ≡ (finds_at_once (score_of self.old) number command.now).held) }
+        ensures own { OnOk result (findings.new.own ≡ (finds_at_once (score_of self.old) number command.now).own) }
+        ensures state { OnOk result (score_of self.new ≡ called_score (score_of self.old) number command.now) }
+        ensures left { OnErr result (Leaves (score_of self.old) findings.old.held (score_of self.new) findings.new.held) }
+        ensures fault { IfErr result (λ fault. FailsBy number (wrong_command (score_of self.old) command.now) fault) }
+    {
+        let Command::Observed(seen) = command else {
+            return self.take(number, command, findings);
+        };
+        self.check_open(number)?;
+        self.judge_at_once(self.line_at(number), seen, findings)?;
+        self.begins = false;
+        Ok(())
+    }
+
+    /// Writes the lines of what has no answer at a line at which the observation is over. The answer is whether there was any.
+    pub(crate) fn unanswered_at<W: Write>(
+        &self,
+        number: u32,
+        writer: &mut W,
+    ) -> Result<bool, WriteFault>
+        ensures { WritesText (unanswered_text (line_at (score_of self.now) number) (score_of self.now).board.board) (W.contents writer.old) (W.contents writer.new) result }
+    {
+        unanswered_lines(&self.line_at(number), &self.board, writer)
+    }
+
+    /// How much was judged and found so far, and what has no answer yet.
+    pub(crate) fn counts(&self) -> Counts
+        ensures { result ≡ counts_of (score_of self.now) }
+    {
+        Counts {
+            judged: self.judged,
+            wrong: self.wrong,
+            told: self.told,
+            compared: self.compared,
+            outstanding: self.board.outstanding(),
+            open_bursts: self.board.open_bursts(),
+        }
+    }
+
+    /// The byte at an address of a good page, as the requests that were judged leave it; none outside these pages.
+    pub(crate) fn byte(&self, address: u32) -> Option<u8>
+        ensures { result ≡ byte_in (score_of self.now).board address }
+    {
+        self.board.byte(address)
     }
 
     /// Writes the lines of what has no answer, where a command of this line says that the observation is over. The answer is
@@ -490,7 +603,7 @@ impl Score {
         ensures { WritesText (unanswered_by (score_of self.now) number command.now) (W.contents writer.old) (W.contents writer.new) result }
     {
         match command {
-            Command::End => unanswered_lines(&self.line_at(number), &self.board, writer),
+            Command::End => self.unanswered_at(number, writer),
             _ => Ok(false),
         }
     }

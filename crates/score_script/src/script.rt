@@ -15,7 +15,7 @@ use std::io::{Read, Write};
 
 /// An observation.
 #[derive(Drop)]
-struct ScoreScript;
+pub(crate) struct ScoreScript;
 
 impl Kind for ScoreScript {
     ghost use Rattle.std.specs.Prelude.{true};

@@ -247,3 +247,12 @@ OpensStage opened silent new (Err (SetupRefused fault)) = opened ≡ Err (SetupR
 OpensStage opened silent new (Err Read) = ⊥
 OpensStage opened silent new (Err Write) = ⊥
 OpensStage opened silent new (Err NoMemory) = (silent ≡ true) × IsOk opened
+
+-- what a script's commands work on was given, as `said` says it, or why it wasn't made
+abbrev pub GivesWorld : {V W : Type 0} → (V → W) → Result W ScriptFault → Result V ScriptFault → Type 0
+GivesWorld said opened (Ok world) = opened ≡ Ok (said world)
+GivesWorld said opened (Err (Script line word)) = opened ≡ Err (Script line word)
+GivesWorld said opened (Err (SetupRefused fault)) = opened ≡ Err (SetupRefused fault)
+GivesWorld said opened (Err Read) = ⊥
+GivesWorld said opened (Err Write) = ⊥
+GivesWorld said opened (Err NoMemory) = IsOk opened

@@ -90,9 +90,9 @@ fn take_plain<S: Script, W: Write>(
     script.take_words(alloc, number, &words, writer)
 }
 
-/// Carries out one line, which has no line feed but may end with a carriage return. The answer is whether it wrote
-/// something.
-fn take_line<S: Script, W: Write>(
+/// Carries out one line by its number, as `read_script` does: it has no line feed, but may end with a carriage return. The answer
+/// is whether it wrote something. Behind a fault nothing is promised of the script.
+pub fn take_line<S: Script, W: Write>(
     script: &mut S,
     alloc: Global,
     number: u32,

@@ -10,7 +10,7 @@ mod setup_lines;
 mod setup_parser;
 mod stages;
 
-pub use driver::{Script, read_script};
+pub use driver::{Script, read_script, take_line};
 pub use faults::ScriptFault;
 pub use keywords::Form;
 pub use setup_lines::{ScriptSetup, add_line, is_setup_form, setup_line};

@@ -1,7 +1,7 @@
 //! What every kind of script has in common: a `config` line, other set-up lines, and then commands.
 ghost use Rattle.std.specs.Prelude.{◌≡◌, ◌<◌, [], false, true};
 ghost use Rattle.script_text.specs.Forms.{told_as};
-ghost use Rattle.script_text.specs.Stages.{OpensAs, Opening, OpensStage, TakesLine, Writes, WritesEnd, command_step, early_step, is_misplaced, nothing_written, other_step, reading_of, set_up_with, setup_step, stage_as, stage_ending, told_step, world_at, wrong_first};
+ghost use Rattle.script_text.specs.Stages.{GivesWorld, OpensAs, Opening, OpensStage, TakesLine, Writes, WritesEnd, command_step, early_step, is_misplaced, nothing_written, other_step, reading_of, set_up_with, setup_step, stage_as, stage_ending, told_step, world_at, wrong_first};
 ghost use Rattle.script_text.specs.Steps.{TakesRest, TakesStep};
 
 use crate::driver::Script;
@@ -374,6 +374,22 @@ impl<K: Kind> StagedScript<K> {
             unreachable!();
         };
         self.kind.end(world, writer)
+    }
+}
+
+impl<K: Kind + Drop> StagedScript<K> {
+    /// What the commands of a script work on, for one who carries them out himself, by the number of the line that is next. Where
+    /// no command came it is made.
+    pub fn into_world(self, alloc: Global, number: u32) -> Result<K::World, ScriptFault>
+        ensures { GivesWorld K.said (world_at K.rules (stage_as K.lists K.said self) number) result }
+    {
+        let mut script = self;
+        script.open(alloc, number)?;
+        let StagedScript { kind: _, stage } = script;
+        let Stage::Running(world) = stage else {
+            unreachable!();
+        };
+        Ok(world)
     }
 }
 
