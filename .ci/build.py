@@ -1,4 +1,4 @@
-"""Proves and builds a program and the crates that it stands on, side by side where none stands on another.
+"""Proves and builds a program, or a static library, and the crates that it stands on, side by side where none stands on another.
 
     python3 .ci/build.py PROGRAM
 
@@ -23,13 +23,14 @@ ROOM, LANES, TABLES = Path("out/build"), os.cpu_count() or 1, (Path(".ci/seconds
 class Crate:
     """A crate of this repository, with those that it stands on, the lowest first."""
 
-    def __init__(self, line, below, is_program, seconds):
+    def __init__(self, line, below, is_last, seconds):
         self.line, self.name, self.below, self.seconds, self.began = line, line.split(":")[0].split()[0], below, seconds, None
         self.folder, self.copy, self.stamp = Path("crates", self.name), ROOM / self.name, ROOM / f"{self.name}.sum"
-        self.words = ["rt", "run" if is_program else "lib"]
-        self.result = self.folder / "out" / (self.name if is_program else "rlib")
-        self.made = self.result if is_program else ROOM / f"{self.name}.rlib"
-        self.is_built = not is_program and self.made.exists() and self.stamp.exists() and self.stamp.read_text() == self.sum()
+        is_static = "staticlib" in line.split(":")[0].split()
+        self.words = ["rt", "run" if is_last and not is_static else "lib"]
+        self.result = self.folder / "out" / (f"lib{self.name}.a" if is_static else self.name if is_last else "rlib")
+        self.made = self.result if is_last else ROOM / f"{self.name}.rlib"
+        self.is_built = not is_last and self.made.exists() and self.stamp.exists() and self.stamp.read_text() == self.sum()
 
     def sum(self):
         """The checksum of the sources that it is built from."""

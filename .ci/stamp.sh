@@ -1,12 +1,15 @@
-# What ./tlbridge, ./tlscore and ./test know of a program, by its name: where it stands, and what it was built from. They read
-# this file at the top of the repository.
+# What ./tlbridge, ./tlscore, interfaces/build and ./test know of a program, and of the static library zuldegei, by its name: where it
+# stands, and what it was built from. They read this file at the top of the repository.
 
-# Prints where a program stands.
+# Prints where a program or the library stands.
 program_of() {
-    printf 'crates/%s/out/%s' "$1" "$1"
+    case $1 in
+    zuldegei) printf 'crates/%s/out/lib%s.a' "$1" "$1" ;;
+    *) printf 'crates/%s/out/%s' "$1" "$1" ;;
+    esac
 }
 
-# Prints where it is noted what a program was built from.
+# Prints where it is noted what it was built from.
 stamp_of() {
     printf 'out/%s.stamp' "$1"
 }
@@ -17,14 +20,14 @@ sources() {
         LC_ALL=C sort
 }
 
-# Notes that a program as it stands was built from the sources that are given. They were listed before the build, so where
+# Notes that what stands there was built from the sources that are given. They were listed before the build, so where
 # one was changed since, nothing is noted.
 note_built_from() {
     made=$(cksum "$(program_of "$1")") && [ "$2" = "$(sources)" ] && printf '%s\n' "$2" "$made" >"$(stamp_of "$1")"
 }
 
-# Tells whether a program stands there as it was built from the sources as they are now.
+# Tells whether it stands there as it was built from the sources as they are now.
 is_built() {
-    [ -x "$(program_of "$1")" ] && [ -r "$(stamp_of "$1")" ] &&
+    [ -r "$(program_of "$1")" ] && [ -r "$(stamp_of "$1")" ] &&
         { sources && cksum "$(program_of "$1")"; } | cmp -s - "$(stamp_of "$1")"
 }

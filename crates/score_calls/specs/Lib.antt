@@ -1,0 +1,4 @@
+pub mod Answers
+pub mod CallCommands
+pub mod CallWords
+pub mod Handles

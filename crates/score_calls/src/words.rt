@@ -1,0 +1,152 @@
+//! The words of a call: its head, which says what is called, and those behind it.
+ghost use Rattle.std.specs.Prelude.{◌≡◌, ◌≤◌, ◌%◌, get_or};
+ghost use Rattle.score_calls.specs.CallWords.{byte_in, flag_in, kind_of, line_words, low_in, words_wanted};
+
+/// The most words behind a head: those of a line of 128 bytes.
+pub(crate) const MOST: u32 = 16;
+
+/// What is called.
+#[derive(Clone, Copy, Debug, PartialEq, Eq)]
+pub(crate) enum CallKind {
+    /// A beat on channel A: two words more, the address with the lanes that nobody knows above it, and the payload.
+    A,
+    /// A beat on channel D: a word more, the payload.
+    D,
+    /// A write address: a word more, the address.
+    Aw,
+    /// Write data: a word more, the payload.
+    W,
+    /// A write response.
+    B,
+    /// A read address: a word more, the address.
+    Ar,
+    /// Read data: a word more, the payload.
+    R,
+    /// A beat of which nobody knows a field but the payload.
+    Unknown,
+    /// What the memory began with: the bytes by eights.
+    Fill,
+    /// The time of what comes: a word more.
+    Time,
+    /// AXI4 beats went unseen until no burst was open.
+    Drained,
+    /// The bridge was reset.
+    Reset,
+    /// The observation is over.
+    End,
+    /// A line: its bytes by eights.
+    Line,
+    /// The set-up is whole.
+    Begin,
+    /// All is given back but the handle itself.
+    Close,
+    /// How many bytes the text of what was found last has.
+    TextLength,
+    /// How many bytes the text of the last fault has.
+    FaultLength,
+    /// A byte of the text whose length was asked for last; 0 behind its end.
+    TextByte,
+    /// How many accepted requests have a reply that isn't over.
+    Outstanding,
+    /// How many bursts are open on the AXI4 port.
+    OpenBursts,
+    /// How many beats were judged.
+    Judged,
+    /// How much was found wrong.
+    Wrong,
+    /// How many bytes replies told.
+    Told,
+    /// How many of these were compared.
+    Compared,
+    /// The byte at an address.
+    Byte,
+    /// Nothing that there is.
+    None,
+}
+
+/// What a head says is called: by its lowest byte.
+pub(crate) fn kind_of(head: u64) -> CallKind
+    ensures { result ≡ kind_of head }
+{
+    match head % 256 {
+        0 => CallKind::A,
+        1 => CallKind::D,
+        2 => CallKind::Aw,
+        3 => CallKind::W,
+        4 => CallKind::B,
+        5 => CallKind::Ar,
+        6 => CallKind::R,
+        7 => CallKind::Unknown,
+        8 => CallKind::Fill,
+        9 => CallKind::Time,
+        10 => CallKind::Drained,
+        11 => CallKind::Reset,
+        12 => CallKind::End,
+        13 => CallKind::Line,
+        14 => CallKind::Begin,
+        15 => CallKind::Close,
+        16 => CallKind::TextLength,
+        17 => CallKind::FaultLength,
+        18 => CallKind::TextByte,
+        19 => CallKind::Outstanding,
+        20 => CallKind::OpenBursts,
+        21 => CallKind::Judged,
+        22 => CallKind::Wrong,
+        23 => CallKind::Told,
+        24 => CallKind::Compared,
+        25 => CallKind::Byte,
+        _ => CallKind::None,
+    }
+}
+
+/// A byte: the lowest of a word.
+pub(crate) fn byte_in(word: u64) -> u8
+    ensures { result ≡ byte_in word }
+{
+    (word % 256) as u8
+}
+
+/// A flag: the lowest bit of a word.
+pub(crate) fn flag_in(word: u64) -> bool
+    ensures { result ≡ flag_in word }
+{
+    word % 2 == 1
+}
+
+/// The lower half of a word.
+pub(crate) fn low_in(word: u64) -> u32
+    ensures { result ≡ low_in word }
+{
+    (word % 4_294_967_296) as u32
+}
+
+/// A word by its place; 0 behind the last.
+pub(crate) fn word_at(words: &[u64], place: usize) -> u64
+    ensures { result ≡ get_or words.now place 0 }
+{
+    match words.get(place) {
+        Some(word) => *word,
+        None => 0,
+    }
+}
+
+/// How many words so many bytes are, at most `MOST`.
+fn line_words(length: u8) -> u32
+    ensures value { result ≡ line_words length }
+    ensures most { result ≤ 16 }
+{
+    (u32::from(length % 129) + 7) / 8
+}
+
+/// How many words come behind a head.
+pub(crate) fn words_wanted(head: u64) -> u32
+    ensures value { result ≡ words_wanted head }
+    ensures most { result ≤ 16 }
+{
+    match kind_of(head) {
+        CallKind::A => 2,
+        CallKind::D | CallKind::Aw | CallKind::W | CallKind::Ar | CallKind::R | CallKind::Time => 1,
+        CallKind::Fill | CallKind::Line => line_words(byte_in(head / 256)),
+        _ => 0,
+    }
+}
