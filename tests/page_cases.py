@@ -2,7 +2,8 @@
 the source has, each page that it names is there, each crate has a page, and in ARCHITECTURE a row with its files of definitions,
 each example of the library stands in a test as it stands on its page, the table of statements in docs/WORDS.md is up to date,
 docs/definitions.py prints the definitions that it is asked for and lists each that a clause of a statement names, each place that
-docs/ROWS.md names is there, and no file that is kept is a log or names a folder of one machine.
+docs/ROWS.md names is there, no function asks for what nobody can give, and no file that is kept is a log or names a folder of one
+machine.
 
     python3 tests/page_cases.py
 """
@@ -20,7 +21,7 @@ import definitions  # noqa: E402
 from ends import told  # noqa: E402
 
 NAMED = re.compile(r"`(\w+)::(\w+)`,\s+`(\w+)`")
-PAGE = re.compile(r"`((?:docs|examples|crates|python)/[\w./-]+)`")
+PAGE = re.compile(r"`((?:docs|examples|crates|interfaces|python)/[\w./-]+)`")
 # A row of a table of crates: the crate, and its files of definitions.
 ROW = re.compile(r"(?m)^\| (\w+) \| ((?:\w+, )*\w+) \| ")
 # An example of the library, and the tests that have each as it stands.
@@ -29,6 +30,9 @@ TESTED = TOP / "crates/layer_tests/src/tests/pages.rt"
 # A call that a statement is of, and a clause of a function's head.
 CALL = re.compile(r"`(\w+)::(?:\w+::)*(\w+)`")
 CLAUSE = re.compile(r"(?ms)^ *ensures (?:(\w+) )?{(.*?)}$")
+# A clause that a caller has to meet, and what in one nobody can: no value is of an empty type, and nothing lies at null.
+ASKED = re.compile(r"(?ms)^ *requires\*? (?:\w+ )?{(.*?)}$")
+UNMET = re.compile(r"\bffalse\b|⊥|\bEmpty\b|\bFalse\b|\bfalse ≡ true\b|\btrue ≡ false\b|≡ *\(?null\b|\bnull(?:_mut)?\b *≡")
 NAME = re.compile(r"(?:\b(\w+)\.)?([A-Za-z_]\w*)")
 # A guarantee of the list, from its dash to its end.
 GUARANTEE = re.compile(r"(?m)^- .*(?:\n  .*)*")
@@ -162,6 +166,25 @@ def examples():
             yield name, None if without_space(example) in tested else f"{TESTED.relative_to(TOP)} doesn't have it"
 
 
+def unmet(file):
+    """Each clause of a source that a caller has to meet and can't, with its line. The prover takes such a function: nobody calls it."""
+    text = file.read_text()
+    for clause in ASKED.finditer(text):
+        found = UNMET.search(clause[1])
+        if found:
+            yield f"{file.relative_to(TOP)}:{text.count(chr(10), 0, clause.start()) + 1}: nobody can meet `{found[0]}`"
+
+
+def contracts():
+    """Each source whose functions ask for what nobody can give; then all of them as one case."""
+    sources = sorted(TOP.glob("crates/*/src/**/*.rt"))
+    for file in sources:
+        yield from ((why, "it stands in a `requires`") for why in unmet(file))
+    asked = sum(len(ASKED.findall(it.read_text())) for it in sources)
+    clauses = sum(len(re.findall(r"(?m)^ *requires\b", it.read_text())) for it in sources)
+    yield "what callers have to meet", None if asked == clauses else f"{clauses - asked} of {clauses} clauses weren't read"
+
+
 def kept():
     """Each file that is kept, but where it is neither a log nor names a folder of one machine: then all of them as one case."""
     listed = subprocess.run(["git", "ls-files", "-z"], cwd=TOP, capture_output=True)
@@ -197,6 +220,7 @@ def cases():
     yield from trusted()
     yield from printed()
     yield from rows()
+    yield from contracts()
     yield from kept()
     lines = len((TOP / "docs/WORDS.md").read_text().splitlines())
     yield "the page of words is short", None if lines <= 100 else f"it has {lines} lines"

@@ -1,6 +1,6 @@
-"""Runs the commands that README.md, docs/TESTBENCH.md and python/README.md show, each block of `shell` in turn at the top of the
-repository, and compares what they print, and the last status, with the block of `printed` behind it. A block that needs a program
-which isn't installed is left out, and named.
+"""Runs the commands that README.md, docs/TESTBENCH.md, python/README.md and interfaces/README.md show, each block of `shell` in turn at
+the top of the repository, and compares what they print, and the last status, with the block of `printed` behind it. A block that needs
+a program which isn't installed, or the library where it isn't built, is left out, and named.
 
     python3 tests/page_commands.py TLSCORE
 """
@@ -18,11 +18,12 @@ from typing import Iterator, Optional, Tuple
 from ends import told
 
 TOP = Path(__file__).resolve().parent.parent
-PAGES = ("README.md", "docs/TESTBENCH.md", "python/README.md")
+PAGES = ("README.md", "docs/TESTBENCH.md", "python/README.md", "interfaces/README.md")
 BLOCK = re.compile(r"(?ms)^```shell\n(.*?)^```\n\n```printed (\d+)\n(.*?)^```$")
 SHOWN = re.compile(r"(?m)^```shell$")
 TOOLS = ("waves", "fill", "explain", "wave-of", "regress")
 NEEDED = ("iverilog", "verilator", "fst2vcd", "vcd2fst", "cc", "chromium")  # of Debian, where a block names one
+NEEDS_LIBRARY = re.compile(r"libzuldegei|import .*Scoreboard")
 Case = Tuple[str, Optional[str]]
 
 
@@ -35,6 +36,15 @@ def installed(folder: Path, score: str) -> dict:
         script.chmod(0o755)
     path = f"{folder}:{os.environ['PATH']}"
     return {**os.environ, "PATH": path, "PYTHONPATH": str(TOP / "python"), "PYTHONDONTWRITEBYTECODE": "1", "COLUMNS": "100"}
+
+
+def absent(commands: str) -> Optional[str]:
+    """What commands need that isn't there."""
+    lacking = [it for it in NEEDED if re.search(rf"\b{it}\b", commands) and not shutil.which(it)]
+    if lacking:
+        return f"{' and '.join(lacking)} isn't installed"
+    is_built = all((TOP / f"out/libzuldegei.{kind}").exists() for kind in ("a", "so"))
+    return None if is_built or not NEEDS_LIBRARY.search(commands) else "the library isn't built"
 
 
 def differs(commands: str, status: int, printed: str, environment: dict) -> Optional[str]:
@@ -58,9 +68,11 @@ def cases(score: str) -> Iterator[Case]:
             is_whole = blocks and len(blocks) == len(SHOWN.findall(text))
             yield f"the commands of {page}", None if is_whole else "a block isn't followed by what it prints"
             for number, (commands, status, printed) in enumerate(blocks, 1):
-                lacking = [it for it in NEEDED if re.search(rf"\b{it}\b", commands) and not shutil.which(it)]
+                lacking = absent(commands)
                 if lacking:
-                    print(f"skipped: block {number} of {page} and what rests on it, as {' and '.join(lacking)} isn't installed")
+                    print(f"skipped: block {number} of {page} and what rests on it, as {lacking}")
+                    if NEEDS_LIBRARY.search(commands):
+                        continue  # nothing rests on it
                     break
                 yield f"block {number} of {page}", differs(commands, int(status), printed, environment)
 

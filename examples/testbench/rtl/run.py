@@ -296,8 +296,9 @@ def verdict(variants, is_table):
 def takes_programs(asked):
     """Which programs a call takes."""
     asked.add_argument("--simulator", choices=SIMULATORS, help="the first of these that is there")
-    score = os.environ.get("TLSCORE", HERE.parents[2] / "tlscore")
-    asked.add_argument("--score", type=resolved, default=score, help="the scoreboard (what TLSCORE names, else tlscore at the top)")
+    top = HERE.parents[2] / "tlscore"
+    score = os.environ.get("TLSCORE") or (top if top.exists() else shutil.which("tlscore") or top)
+    asked.add_argument("--score", type=resolved, default=score, help="the scoreboard (what TLSCORE names, else tlscore, at the top or on PATH)")
 
 
 def resolved(path):

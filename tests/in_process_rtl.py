@@ -1,0 +1,170 @@
+"""The scoreboard in the simulator's own process, over the testbench of examples/testbench/rtl under Verilator: the bridge with each of its
+faults stops in the clock of the first beat that tlscore finds wrong of the lines of the same run, by both profiles, or at the run's end
+where nothing but an answer is missing; what it tells is what tlscore tells, line by line; and the right bridge runs on to its end. What
+only an x shows is shown by whatever Verilator has in its place. Then the same under Icarus, which has no DPI: tlscore reads the lines
+from a named pipe while the simulation runs. A simulator that isn't installed is named.
+
+    python3 tests/in_process_rtl.py TLSCORE [--seeds N] [--library FOLDER] [--only BUG]
+"""
+
+import argparse
+import os
+import re
+import shutil
+import subprocess
+import sys
+import tempfile
+from concurrent.futures import ThreadPoolExecutor
+from pathlib import Path
+from typing import Iterator, NamedTuple, Optional, Tuple
+
+from ends import told
+
+TOP = Path(__file__).resolve().parent.parent
+sys.path.append(str(TOP / "examples/testbench/rtl"))
+import run
+
+SYSTEMVERILOG = TOP / "interfaces/systemverilog"
+MODULES = [SYSTEMVERILOG / "zuldegei_pkg.sv", SYSTEMVERILOG / "zuldegei_monitor.sv", SYSTEMVERILOG / "example_bind.sv"]
+UNOPTIMIZED = ["OPT_FAST=-O0", "OPT_GLOBAL=-O0"]
+TOLD = re.compile(r"(?m)(= (?:wrong|judged) .*)$")
+TIMED = re.compile(r"(?m)^\[(\d+)\] %Error: .*zuldegei: (= wrong .*|1 wrong)$")
+PIPED = (run.RIGHT, "REPLY_TWICE", "UNKNOWN_READ")
+Case = Tuple[str, Optional[str]]
+
+
+class Simulated(NamedTuple):
+    """A run: its status, what it printed, and the lines of the monitor that prints them."""
+
+    status: int
+    text: str
+    lines: str
+
+
+def made(bug: str, library: Path, folder: Path, runtime: Optional[Path]) -> Path:
+    """The testbench with a fault, in a folder of its own. Verilator's own objects are those of another one, where there is one."""
+    bench, room = run.Bench("bridge", run.Asked(), bug=bug), folder / bug
+    room.mkdir()
+    x = ["--x-assign", "unique"] if bug in run.SHOWN_BY_X else []
+    words = ["verilator", "--cc", "--exe", "--main", "--timing", "-Wno-fatal", *x, *bench.defines, "--top-module", "testbench"]
+    words += ["-Mdir", str(room), "-o", "bench", *run.FILES, *map(str, MODULES), str(library / "libzuldegei.a")]
+    built(words, run.HERE, bug)
+    for made_before in runtime.glob("verilated*.o") if runtime else ():
+        shutil.copyfile(made_before, room / made_before.name)
+    built(["make", "-s", "-f", "Vtestbench.mk", *UNOPTIMIZED], room, bug)
+    return room / "bench"
+
+
+def built(words: list, folder: Path, bug: str) -> None:
+    ran = subprocess.run(words, cwd=folder, capture_output=True, text=True, check=False)
+    if ran.returncode:
+        raise SystemExit(f"{bug}: {ran.stdout[-1000:]}{ran.stderr[-1000:]}")
+
+
+def simulated(bench: Path, seed: int, setup: Path, *more: str) -> Simulated:
+    seen = bench.parent / f"seen-{setup.stem}-{seed}-{len(more)}.lines"
+    words = [bench, f"+seed={seed}", f"+observed={seen}", f"+zuldegei_setup={setup}", "+zuldegei_end", *more]
+    ran = subprocess.run(words, cwd=bench.parent, stdout=subprocess.PIPE, stderr=subprocess.STDOUT, text=True, timeout=300, check=False)
+    return Simulated(ran.returncode, ran.stdout, seen.read_text(errors="replace"))
+
+
+def whole_wrong(ran: Simulated, judged: str) -> Optional[str]:
+    """How a run that isn't stopped doesn't tell what tlscore tells."""
+    got, due = TOLD.findall(ran.text), TOLD.findall(judged)
+    if got != due:
+        return next((f"it told {it!r}, not {its!r}" for it, its in zip(got, due) if it != its), f"it told {len(got)} of {len(due)} lines")
+    if "Verilog $finish" not in ran.text:
+        return f"it didn't run to its end: {ran.text[-200:]!r}"
+    return None if len(due) > 1 or ran.status == 0 else f"nothing is wrong, and its status is {ran.status}"
+
+
+def stopped_wrong(ran: Simulated, first: run.Wrong, ends_it: bool) -> Optional[str]:
+    """How a run that is to stop with the first wrong beat doesn't: it is told and stops at one time, and nothing comes behind that."""
+    times = [int(it) for it, _ in TIMED.findall(ran.text)]
+    if len(times) != 2 or ran.status == 0 or times[0] != times[1]:
+        return f"told and stopped at {times}, with status {ran.status}, where tlscore has {first.name} at {first.time}"
+    if ends_it:
+        return None if "Verilog $finish" in ran.text and times[0] >= first.time else f"told at {times[0]}, ahead of the run's end"
+    return f"told at {times[0]}, and wrong at {first.time}" if times[0] != first.time or "Verilog $finish" in ran.text else None
+
+
+def tried(bug: str, bench: Path, given: argparse.Namespace) -> Iterator[Case]:
+    """The runs of a testbench."""
+    found = 0
+    for profile in run.PROFILES:
+        asked, setup = run.Asked(profile), bench.parent / f"{profile}.setup"
+        setup.write_text(asked.setup)
+        for seed in range(1, given.seeds + 1):
+            name = f"{bug}, seed {seed}, by profile {profile}"
+            x = [f"+verilator+seed+{seed}", "+verilator+rand+reset+2"] if bug in run.SHOWN_BY_X else []
+            whole = simulated(bench, seed, setup, "+verilator+error+limit+1000000", *x)
+            judged = run.judged(given.score, asked.setup, f"{whole.lines}= end\n")
+            yield f"{name}, whole", whole_wrong(whole, judged)
+            first = run.first_wrong(asked.setup, whole.lines, judged)
+            if first:
+                found += 1
+                stops = simulated(bench, seed, setup, "+zuldegei_stop=1", "+verilator+error+limit+2", *x)
+                yield f"{name}, stopped", stopped_wrong(stops, first, "UNANSWERED" in first.name)
+    yield f"{bug} is found", None if bool(found) == (bug != run.RIGHT) else f"{found} runs are wrong"
+
+
+def in_process(given: argparse.Namespace) -> Iterator[Case]:
+    """Each bridge under Verilator."""
+    if not shutil.which("verilator"):
+        print("skipped: the scoreboard in the simulator, as verilator isn't installed")
+        return
+    library = Path(given.library or TOP / "out").resolve()
+    bugs = [given.only] if given.only else [run.RIGHT, *run.BUGS]
+    with tempfile.TemporaryDirectory() as room, ThreadPoolExecutor(given.jobs) as pool:
+        folder = Path(room)
+        first = made(bugs[0], library, folder, None)
+        benches = [first, *pool.map(lambda bug: made(bug, library, folder, first.parent), bugs[1:])]
+        for found in pool.map(lambda it: [*tried(*it, given)], zip(bugs, benches)):
+            yield from found
+
+
+def piped(words: list, asked: run.Asked, score: Path, folder: Path) -> Tuple[str, str]:
+    """What tlscore tells of the lines of a run that come through a named pipe, and of the same lines from a file."""
+    pipe, seen = folder / "pipe", folder / "seen.lines"
+    os.mkfifo(pipe)
+    (folder / "setup.lines").write_text(asked.setup)
+    command = ["sh", "-c", 'cat setup.lines pipe | "$0"', score]
+    with subprocess.Popen(command, cwd=folder, stdout=subprocess.PIPE, text=True) as judge:
+        run.simulated([*words, "+seed=1", f"+observed={pipe}"])
+        told_by_pipe = judge.communicate(timeout=60)[0]
+    pipe.unlink()
+    run.simulated([*words, "+seed=1", f"+observed={seen}"])
+    return told_by_pipe, run.judged(score, asked.setup, seen.read_text())
+
+
+def by_pipe(given: argparse.Namespace) -> Iterator[Case]:
+    """Bridges under Icarus, whose lines tlscore reads while they come."""
+    if not shutil.which("iverilog"):
+        print("skipped: tlscore behind a pipe from the simulator, as iverilog isn't installed")
+        return
+    for bug in PIPED:
+        with tempfile.TemporaryDirectory() as room:
+            asked = run.Asked("tilelink")
+            words = run.compiled("iverilog", run.Bench("bridge", asked, bug=bug), Path(room))
+            got, due = piped(words, asked, given.score, Path(room))
+            is_told = ("= wrong" in due) == (bug != run.RIGHT)
+            yield f"{bug} by a pipe from Icarus", None if got == due and is_told else f"it told {got[:100]!r}, not {due[:100]!r}"
+
+
+def cases(given: argparse.Namespace) -> Iterator[Case]:
+    yield from in_process(given)
+    yield from by_pipe(given) if not given.only else ()
+
+
+def main() -> int:
+    asked = argparse.ArgumentParser(description=__doc__)
+    asked.add_argument("score", metavar="TLSCORE", type=lambda it: Path(it).resolve())
+    asked.add_argument("--seeds", type=int, default=3, help="how many runs of each, by each profile (3)")
+    asked.add_argument("--library", help="where libzuldegei.a stands (out)")
+    asked.add_argument("--only", help="this fault alone")
+    asked.add_argument("--jobs", type=int, default=os.cpu_count() or 1, help="how many at once (one a processor)")
+    return told(cases(asked.parse_args()))
+
+
+if __name__ == "__main__":
+    sys.exit(main())
