@@ -88,6 +88,7 @@ def interrupted(folder: Path, score: str) -> Optional[str]:
     """Whether a call that is interrupted ends, with its command."""
     words = [sys.executable, "-m", "zuldegei.regress", "--command", "touch began; sleep 60; touch ended", "--score", score]
     environment = {**os.environ, "PYTHONPATH": str(TOP / "python"), "PYTHONDONTWRITEBYTECODE": "1"}
+    signal.signal(signal.SIGINT, signal.default_int_handler)  # a shell has a command in the background ignore it, and what that starts
     with subprocess.Popen(words, cwd=folder, env=environment, stdout=subprocess.DEVNULL, stderr=subprocess.PIPE, text=True) as program:
         while program.poll() is None and not (folder / "began").exists():
             time.sleep(0.1)
