@@ -153,11 +153,15 @@ found_left found (Some told) = record { findings = record { held = Some told; ow
 abbrev pub after_held : Observing → Observing
 after_held seen = record seen { score = (settling seen.score).1; found = found_left seen.found (settling seen.score).0 }
 
--- it is carried out, and its answer is the code of what it finds; or it has a fault, and nothing has changed, or where memory was refused the held beat
--- was judged
+-- what a fault leaves: by a wrong word nothing has changed, and where memory was refused the held beat may have been judged
+abbrev pub CallLeft : Option ℕ → Observing → Observing → Type 0
+CallLeft (Some word) old new = new ≡ old
+CallLeft None old new = (new ≡ old) ⊎ (new ≡ after_held old)
+
+-- it is carried out, and its answer is the code of what it finds; or it has a fault
 abbrev pub CallTold : Observing → Command → Observing → Result ℕ ScriptFault → Type 0
 CallTold old said new (Ok code) = (wrong_command old.score said ≡ None) × (new ≡ after_call old said) × (code ≡ observing_code new)
-CallTold old said new (Err fault) = FailsBy (next_number old.number) (wrong_command old.score said) fault × ((new ≡ old) ⊎ (new ≡ after_held old))
+CallTold old said new (Err fault) = FailsBy (next_number old.number) (wrong_command old.score said) fault × CallLeft (wrong_command old.score said) old new
 
 -- ---- a line of the set-up
 

@@ -143,6 +143,11 @@ settling score = settling_held score score.held
 abbrev pub Leaves : Score → Option Finding → Score → Option Finding → Type 0
 Leaves old before new told = ((new ≡ old) × (told ≡ before)) ⊎ ((new ≡ (settling old).1) × (told ≡ (settling old).0))
 
+-- the same of a command, by its wrong word, if it has one: then nothing has changed
+abbrev pub LeavesBy : Option ℕ → Score → Option Finding → Score → Option Finding → Type 0
+LeavesBy (Some word) old before new told = (new ≡ old) × (told ≡ before)
+LeavesBy None old before new told = Leaves old before new told
+
 -- ---- commands
 
 -- what a line finds: of the beat that was held, and of its own; and the lines of what has no answer, where it ends the observation

@@ -7,7 +7,7 @@ ghost use Rattle.score_setup.specs.ScoreSetups.{lists_of, ranges_of, score_setup
 ghost use Rattle.setups.specs.declared.SetupFault.TheVariants.{NoMemory};
 ghost use Rattle.score_script.specs.Profiles.{byte_in, filled_in};
 ghost use Rattle.score_script.specs.declared.profiles.Asked.{Asked};
-ghost use Rattle.score_script.specs.Scores.{FailsBy, Leaves, begins_after, called_score, counts_of, finds_at_once, judged_behind, commanded, commanded_score, unanswered_by, wrong_command, wrong_fill, beats_judged, client_of, closing, counted, ended_score, finds, judging, line_at, misplaced_in, observing, opening_score, reset_score, settling, unclear, unknown_on, with_more, without_data, wrong_behind};
+ghost use Rattle.score_script.specs.Scores.{FailsBy, Leaves, LeavesBy, begins_after, called_score, counts_of, finds_at_once, judged_behind, commanded, commanded_score, unanswered_by, wrong_command, wrong_fill, beats_judged, client_of, closing, counted, ended_score, finds, judging, line_at, misplaced_in, observing, opening_score, reset_score, settling, unclear, unknown_on, with_more, without_data, wrong_behind};
 ghost use Rattle.score_script.specs.ScoreStates.{score_of};
 ghost use Rattle.score_script.specs.FindingTexts.{WritesText};
 ghost use Rattle.score_script.specs.UnansweredTexts.{unanswered_text};
@@ -548,7 +548,7 @@ impl Score {
         ensures held { OnOk result (findings.new.held ≡ (finds_at_once (score_of self.old) number command.now).held) }
         ensures own { OnOk result (findings.new.own ≡ (finds_at_once (score_of self.old) number command.now).own) }
         ensures state { OnOk result (score_of self.new ≡ called_score (score_of self.old) number command.now) }
-        ensures left { OnErr result (Leaves (score_of self.old) findings.old.held (score_of self.new) findings.new.held) }
+        ensures left { OnErr result (LeavesBy (wrong_command (score_of self.old) command.now) (score_of self.old) findings.old.held (score_of self.new) findings.new.held) }
         ensures fault { IfErr result (λ fault. FailsBy number (wrong_command (score_of self.old) command.now) fault) }
     {
         let Command::Observed(seen) = command else {
