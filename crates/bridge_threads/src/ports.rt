@@ -10,7 +10,7 @@ use tl_checker::{Port, Progress, TlRule};
 use tl_messages::{ABeat, Request, beats_of};
 
 /// How many replies a script gets at most, and how many beats these have.
-#[derive(Clone, Copy, Debug, PartialEq, Eq)]
+#[derive(Clone, Copy)]
 pub(crate) struct Room {
     pub replies: usize,
     pub beats: usize,

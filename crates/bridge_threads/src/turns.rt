@@ -14,7 +14,7 @@ use tl_messages::{ABeat, ReplyBox};
 const MOST_CHOICES: u8 = 16;
 
 /// Why a worker ended before its work was done.
-#[derive(Clone, Copy, Debug, PartialEq, Eq)]
+#[derive(Clone, Copy)]
 pub(crate) enum WorkerFault {
     /// The gate answered false.
     GateShut,
@@ -29,7 +29,7 @@ pub(crate) enum WorkerFault {
 }
 
 /// What a client does in a turn.
-#[derive(Clone, Copy, Debug, PartialEq, Eq)]
+#[derive(Clone, Copy)]
 pub(crate) enum Move {
     /// It ends.
     Ends,
@@ -44,7 +44,7 @@ pub(crate) enum Move {
 }
 
 /// How a turn ended.
-#[derive(Clone, Copy, Debug, PartialEq, Eq)]
+#[derive(Clone, Copy)]
 pub(crate) enum Turn {
     /// The world was changed.
     Moved,

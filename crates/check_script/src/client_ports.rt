@@ -11,7 +11,7 @@ use tl_checker::{Port, Progress, TlRule};
 use tl_messages::ABeat;
 
 /// What is said of a command.
-#[derive(Clone, Copy, Debug, PartialEq, Eq)]
+#[derive(Clone, Copy)]
 pub(crate) enum Verdict {
     /// More beats of the message are to come.
     More,

@@ -7,7 +7,7 @@ use script_text::Form;
 use tl_messages::ABeat;
 
 /// A command.
-#[derive(Clone, Copy, Debug, PartialEq, Eq)]
+#[derive(Clone, Copy)]
 pub(crate) enum CheckCommand {
     /// A client offers a beat.
     Offer(u8, ABeat),

@@ -9,7 +9,7 @@ use script_text::Form;
 use world::Step;
 
 /// A command.
-#[derive(Clone, Copy, Debug, PartialEq, Eq)]
+#[derive(Clone, Copy)]
 pub(crate) enum Command {
     /// One event of the world.
     Event(Step),

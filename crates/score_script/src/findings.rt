@@ -9,7 +9,7 @@ use std::io::Write;
 use tl_messages::d_words;
 
 /// A line of an observation.
-#[derive(Clone, Copy, Debug, PartialEq, Eq)]
+#[derive(Clone, Copy)]
 pub(crate) struct Line {
     /// Its number.
     pub(crate) number: u32,
@@ -18,7 +18,7 @@ pub(crate) struct Line {
 }
 
 /// What a line finds.
-#[derive(Clone, Copy, Debug, PartialEq, Eq)]
+#[derive(Clone, Copy)]
 pub(crate) enum Finding {
     /// A wrong beat: its line, its client, and what is wrong with it.
     Beat(Line, u8, Wrong),
@@ -27,7 +27,7 @@ pub(crate) enum Finding {
 }
 
 /// What a line finds: of the beat that was held, and of its own.
-#[derive(Clone, Copy, Debug, PartialEq, Eq)]
+#[derive(Clone, Copy)]
 pub(crate) struct Findings {
     pub(crate) held: Option<Finding>,
     pub(crate) own: Option<Finding>,

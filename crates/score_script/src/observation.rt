@@ -89,7 +89,7 @@ fn next_number(number: u32) -> u32
 }
 
 /// What the last line or call found.
-#[derive(Clone, Copy, Debug, PartialEq, Eq)]
+#[derive(Clone, Copy)]
 pub(crate) struct Found {
     /// Of the beat that was held, and of its own.
     pub(crate) findings: Findings,

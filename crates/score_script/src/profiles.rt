@@ -8,7 +8,7 @@ use line_text::Words;
 use scoreboard::{Errors, Policy};
 
 /// What the lines of a set-up ask for beside the set-up itself.
-#[derive(Clone, Copy, Debug, PartialEq, Eq)]
+#[derive(Clone, Copy)]
 pub(crate) struct Asked {
     /// The policy of the profile that is named, if one is.
     pub(crate) policy: Option<Policy>,

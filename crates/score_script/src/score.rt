@@ -55,7 +55,7 @@ pub enum Command {
 }
 
 /// A beat on channel A, which the next line may still withdraw.
-#[derive(Clone, Copy, Debug, PartialEq, Eq)]
+#[derive(Clone, Copy)]
 pub(crate) struct HeldBeat {
     /// Its line.
     pub(crate) line: Line,

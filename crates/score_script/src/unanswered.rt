@@ -11,7 +11,7 @@ use scoreboard::Scoreboard;
 use std::io::Write;
 
 /// A side of the AXI4 port.
-#[derive(Clone, Copy, Debug, PartialEq, Eq)]
+#[derive(Clone, Copy)]
 pub(crate) enum Side {
     /// Writes.
     Write,

@@ -26,7 +26,7 @@ type Line = ArrayVec<u8, 129>;
 const LINE_BYTES: usize = 129;
 
 /// What ended a line.
-#[derive(Clone, Copy, Debug, PartialEq, Eq)]
+#[derive(Clone, Copy)]
 pub(crate) enum Ending {
     /// A line feed.
     LineFeed,

@@ -24,7 +24,7 @@ use world::{Answer, Step, World};
 pub(crate) const MOST_CLIENTS: usize = 8;
 
 /// What a replay finds of one client.
-#[derive(Clone, Copy, Debug, PartialEq, Eq)]
+#[derive(Clone, Copy)]
 pub(crate) struct Found {
     /// How many beats it offered as its script has them.
     pub offered: usize,
