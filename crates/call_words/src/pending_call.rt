@@ -3,6 +3,7 @@ ghost use Rattle.std.specs.Prelude.{◌≡◌};
 ghost use Rattle.call_words.specs.PendingCalls.{is_whole, kept_words, no_call, taken};
 
 use arrayvec::ArrayVec;
+use std::marker::Model;
 
 /// One word more of a call, which keeps at most 16.
 fn keep(words: &mut ArrayVec<u64, 16>, word: u64)
