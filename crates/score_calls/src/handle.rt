@@ -9,7 +9,10 @@ ghost use Rattle.score_calls.specs.declared.handle.Stage.TheVariants.{Closed, Se
 use crate::answers::answer_of;
 use crate::calls::command_in;
 use crate::words::{CallKind, kind_of, words_wanted};
-use call_words::{PENDING, PendingCall, WRONG_CALL, byte_answer, byte_in, bytes_of, fault_answer, low_in, text_byte};
+use call_words::{
+    PENDING, PendingCall, WRONG_CALL, byte_answer, byte_in, bytes_of, fault_answer, low_in,
+    text_byte,
+};
 use score_script::{Command, Observation, SetUp};
 use script_text::ScriptFault;
 use std::alloc::Global;
