@@ -2,7 +2,7 @@
 use Rattle.std.specs.Prelude.{ℕ, ◌≡◌, ◌⊎◌, ◌/◌, Bool, true, false, List, get_or, length, Option, Some, None, Result, Ok, Err}
 use Rattle.call_words.specs.Answers.{byte_answer, fault_answer}
 use Rattle.call_words.specs.CallWords.{byte_in, bytes_of, low_in}
-use Rattle.call_words.specs.PendingCalls.{CallState, is_whole, taken}
+use Rattle.call_words.specs.PendingCalls.{is_whole, taken}
 use Rattle.score_calls.specs.Answers.{answer_of}
 use Rattle.score_calls.specs.CallCommands.{command_in}
 use Rattle.score_calls.specs.CallWords.{kind_of, words_wanted}
@@ -125,10 +125,10 @@ abbrev pub Finished : ℕ → List ℕ → Stage → List ℕ → Stage → List
 Finished head words old text new next answer = FinishedBy (command_in head words) head words old text new next answer
 
 -- where words are wanted yet, nothing else changes; else the call is carried out
-abbrev pub CalledBy : Bool → CallState → Handle → Handle → ℕ → Type 0
-CalledBy false call old new answer = (new.stage ≡ old.stage) × (new.text ≡ old.text) × (answer ≡ 17179869184)
-CalledBy true call old new answer = Finished call.head call.words old.stage old.text.items new.stage new.text.items answer
+abbrev pub CalledBy : Bool → Handle → Handle → ℕ → Type 0
+CalledBy false old new answer = (new.stage ≡ old.stage) × (new.text ≡ old.text) × (answer ≡ 17179869184)
+CalledBy true old new answer = Finished new.call.head new.call.words old.stage old.text.items new.stage new.text.items answer
 
 pub record Called (old : Handle) (word : ℕ) (new : Handle) (answer : ℕ) : Type 0 where
   pub call : new.call ≡ taken old.call word (words_wanted word)
-  pub told : CalledBy (is_whole new.call) new.call old new answer
+  pub told : CalledBy (is_whole new.call) old new answer
