@@ -1,1 +1,1 @@
-mod FirstBytes
+mod Fillings

@@ -1,10 +1,11 @@
 -- The commands that the words of a call say (this project's profile).
-use Rattle.std.specs.Prelude.{ℕ, zero, suc, ◌*◌, ◌/◌, ◌%◌, ◌^◌, ◌||◌, ◌==◌, nat_lt, List, [], ◌∷◌, ◌++◌, length, get_or, Option, Some, None, if◌then◌else◌}
+use Rattle.std.specs.Prelude.{ℕ, ◌/◌, ◌||◌, ◌==◌, nat_lt, List, length, get_or, Option, Some, None, if◌then◌else◌}
 use Rattle.axi_beats.specs.declared.Resp.{Resp}
 use Rattle.axi_beats.specs.declared.Resp.TheVariants as resp
 use Rattle.axi_checker.specs.declared.AxiBeat.{AxiBeat}
 use Rattle.axi_checker.specs.declared.AxiBeat.TheVariants as axi
-use Rattle.score_calls.specs.CallWords.{byte_in, flag_in, kind_of, low_in}
+use Rattle.call_words.specs.CallWords.{byte_in, bytes_of, flag_in, low_in}
+use Rattle.score_calls.specs.CallWords.{kind_of}
 use Rattle.score_calls.specs.declared.words.CallKind.{CallKind}
 use Rattle.score_calls.specs.declared.words.CallKind.TheVariants as kind
 use Rattle.score_script.specs.declared.lines.Channel.{Channel}
@@ -99,19 +100,6 @@ channel_by number =
 
 abbrev pub unknown_command : ℕ → Command
 unknown_command head = command.Unknown (channel_by (byte_in (head / 256))) (byte_in (head / 65536))
-
--- the byte of some words at a place, the lowest of each word first
-abbrev pub byte_of : List ℕ → ℕ → ℕ
-byte_of words place = byte_in (get_or words (place / 8) 0 / 2 ^ (place % 8 * 8))
-
--- their first bytes
-abbrev pub first_bytes : List ℕ → ℕ → List ℕ
-first_bytes words zero = []
-first_bytes words (suc place) = first_bytes words place ++ byte_of words place ∷ []
-
--- the bytes of a text of so many
-abbrev pub bytes_of : List ℕ → ℕ → List ℕ
-bytes_of words count = first_bytes words (count % 129)
 
 -- a filling has 1 to 32 bytes
 abbrev pub filling : ℕ → List ℕ → Option Command

@@ -1,5 +1,6 @@
 -- What the words of a call say (this project's profile).
-use Rattle.std.specs.Prelude.{ℕ, ◌+◌, ◌/◌, ◌%◌, Bool, ◌==◌, if◌then◌else◌}
+use Rattle.std.specs.Prelude.{ℕ, ◌/◌, ◌%◌, ◌==◌, if◌then◌else◌}
+use Rattle.call_words.specs.CallWords.{byte_in, line_words}
 use Rattle.score_calls.specs.declared.words.CallKind.{CallKind}
 use Rattle.score_calls.specs.declared.words.CallKind.TheVariants as kind
 
@@ -36,20 +37,6 @@ kind_by number =
 
 abbrev pub kind_of : ℕ → CallKind
 kind_of head = kind_by (head % 256)
-
--- a byte, the lowest of a word; a flag, its lowest bit; and its lower half
-abbrev pub byte_in : ℕ → ℕ
-byte_in word = word % 256
-
-abbrev pub flag_in : ℕ → Bool
-flag_in word = word % 2 == 1
-
-abbrev pub low_in : ℕ → ℕ
-low_in word = word % 4294967296
-
--- how many words so many bytes are
-abbrev pub line_words : ℕ → ℕ
-line_words length = (length % 129 + 7) / 8
 
 -- how many words come behind a head, by what is called
 abbrev pub wanted_by : CallKind → ℕ → ℕ

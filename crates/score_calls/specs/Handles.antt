@@ -1,8 +1,11 @@
 -- What lies behind a handle, and what a call does there (this project's profile).
-use Rattle.std.specs.Prelude.{ℕ, ◌≡◌, ◌⊎◌, ◌-◌, ◌/◌, ◌==◌, Bool, true, false, List, [], ◌∷◌, ◌++◌, get_or, length, Option, Some, None, Result, Ok, Err, if◌then◌else◌, nat_lt}
-use Rattle.score_calls.specs.Answers.{answer_of, byte_answer, fault_answer}
-use Rattle.score_calls.specs.CallCommands.{bytes_of, command_in}
-use Rattle.score_calls.specs.CallWords.{byte_in, kind_of, low_in, words_wanted}
+use Rattle.std.specs.Prelude.{ℕ, ◌≡◌, ◌⊎◌, ◌/◌, Bool, true, false, List, get_or, length, Option, Some, None, Result, Ok, Err}
+use Rattle.call_words.specs.Answers.{byte_answer, fault_answer}
+use Rattle.call_words.specs.CallWords.{byte_in, bytes_of, low_in}
+use Rattle.call_words.specs.PendingCalls.{is_whole, taken}
+use Rattle.score_calls.specs.Answers.{answer_of}
+use Rattle.score_calls.specs.CallCommands.{command_in}
+use Rattle.score_calls.specs.CallWords.{kind_of, words_wanted}
 use Rattle.score_calls.specs.declared.handle.Handle.{Handle}
 use Rattle.score_calls.specs.declared.handle.Stage.{Stage}
 use Rattle.score_calls.specs.declared.handle.Stage.TheVariants.{Closed, Judging, SettingUp}
@@ -24,10 +27,6 @@ no_line = record { stage = Opening; number = 0 }
 -- there is no such call, or not here
 abbrev pub Refused : Stage → Stage → ℕ → Type 0
 Refused old new answer = (new ≡ old) × (answer ≡ 8589934595)
-
--- the words of a call stay
-abbrev pub Keeps : Handle → Handle → Type 0
-Keeps old new = (new.head ≡ old.head) × (new.words.items ≡ old.words.items) × (new.wanted ≡ old.wanted)
 
 -- ---- a command
 
@@ -125,26 +124,11 @@ FinishedBy None head words old text new next answer = OtherDone (kind_of head) h
 abbrev pub Finished : ℕ → List ℕ → Stage → List ℕ → Stage → List ℕ → ℕ → Type 0
 Finished head words old text new next answer = FinishedBy (command_in head words) head words old text new next answer
 
--- the call after a word: its head, the words behind it, and how many it wants yet. A call has at most 16
-abbrev pub head_after : Handle → ℕ → ℕ
-head_after held word = if held.wanted == 0 then word else held.head
-
-abbrev pub kept_words : List ℕ → ℕ → List ℕ
-kept_words words word = if nat_lt (length words) 16 then words ++ word ∷ [] else words
-
-abbrev pub words_after : Handle → ℕ → List ℕ
-words_after held word = if held.wanted == 0 then [] else kept_words held.words.items word
-
-abbrev pub wanted_after : Handle → ℕ → ℕ
-wanted_after held word = if held.wanted == 0 then words_wanted word else held.wanted - 1
-
 -- where words are wanted yet, nothing else changes; else the call is carried out
-abbrev pub CalledBy : Bool → Handle → ℕ → Handle → ℕ → Type 0
-CalledBy true old word new answer = (new.stage ≡ old.stage) × (new.text ≡ old.text) × (answer ≡ 17179869184)
-CalledBy false old word new answer = Finished (head_after old word) (words_after old word) old.stage old.text.items new.stage new.text.items answer
+abbrev pub CalledBy : Bool → Handle → Handle → ℕ → Type 0
+CalledBy false old new answer = (new.stage ≡ old.stage) × (new.text ≡ old.text) × (answer ≡ 17179869184)
+CalledBy true old new answer = Finished new.call.head new.call.words old.stage old.text.items new.stage new.text.items answer
 
 pub record Called (old : Handle) (word : ℕ) (new : Handle) (answer : ℕ) : Type 0 where
-  pub head : new.head ≡ head_after old word
-  pub words : new.words.items ≡ words_after old word
-  pub wanted : new.wanted ≡ wanted_after old word
-  pub told : CalledBy (nat_lt 0 (wanted_after old word)) old word new answer
+  pub call : new.call ≡ taken old.call word (words_wanted word)
+  pub told : CalledBy (is_whole new.call) old new answer

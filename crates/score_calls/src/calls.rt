@@ -1,11 +1,11 @@
 //! The commands that calls say.
-ghost use Rattle.std.specs.Prelude.{◌≡◌, ◌<◌, ◌++◌, [], ◌∷◌, length};
-ghost use Rattle.score_calls.specs.CallCommands.{a_command, ar_command, aw_command, b_command, byte_of, bytes_of, channel_by, command_in, d_command, fill_command, on_axi, r_command, resp_of, unknown_command, w_command};
+ghost use Rattle.std.specs.Prelude.{◌≡◌};
+ghost use Rattle.score_calls.specs.CallCommands.{a_command, ar_command, aw_command, b_command, channel_by, command_in, d_command, fill_command, on_axi, r_command, resp_of, unknown_command, w_command};
 
-use crate::words::{CallKind, byte_in, flag_in, kind_of, low_in, word_at};
-use arrayvec::ArrayVec;
+use crate::words::{CallKind, kind_of};
 use axi_beats::{ArBeat, AwBeat, BBeat, RBeat, Resp, WBeat};
 use axi_checker::AxiBeat;
+use call_words::{byte_in, bytes_of, flag_in, low_in, word_at};
 use score_script::{Channel, Command, FillBytes, SeenBeat};
 use scoreboard::ObservedBeat;
 use tl_messages::{ABeat, DBeat};
@@ -161,33 +161,6 @@ fn unknown_command(head: u64) -> Command
     ensures { result ≡ unknown_command head }
 {
     Command::Unknown(channel_by(byte_in(head / 256)), byte_in(head / 65_536))
-}
-
-/// The byte of some words at a place, the lowest of each word first.
-fn byte_of(words: &[u64], place: u32) -> u8
-    ensures { result ≡ byte_of words.now place }
-{
-    let word = word_at(words, (place / 8) as usize);
-    byte_in(word >> (place % 8 * 8))
-}
-
-/// One byte more.
-fn put(bytes: &mut ArrayVec<u8, 128>, byte: u8)
-    requires { length bytes.old.items < 128 }
-    ensures { bytes.new.items ≡ bytes.old.items ++ byte ∷ [] }
-{
-    bytes.push(byte);
-}
-
-/// The first bytes of some words, at most 128.
-pub(crate) fn bytes_of(words: &[u64], length: u8) -> ArrayVec<u8, 128>
-    ensures { result.items ≡ bytes_of words.now length }
-{
-    let mut bytes = ArrayVec::new();
-    for place in 0..u32::from(length % 129) {
-        put(&mut bytes, byte_of(words, place));
-    }
-    bytes
 }
 
 fn fill_command(head: u64, words: &[u64]) -> Option<Command>

@@ -1,9 +1,8 @@
 //! The words of a call: its head, which says what is called, and those behind it.
-ghost use Rattle.std.specs.Prelude.{◌≡◌, ◌≤◌, ◌%◌, get_or};
-ghost use Rattle.score_calls.specs.CallWords.{byte_in, flag_in, kind_of, line_words, low_in, words_wanted};
+ghost use Rattle.std.specs.Prelude.{◌≡◌, ◌≤◌};
+ghost use Rattle.score_calls.specs.CallWords.{kind_of, words_wanted};
 
-/// The most words behind a head: those of a line of 128 bytes.
-pub(crate) const MOST: u32 = 16;
+use call_words::{byte_in, words_of};
 
 /// What is called.
 #[derive(Clone, Copy, Debug, PartialEq, Eq)]
@@ -99,45 +98,6 @@ pub(crate) fn kind_of(head: u64) -> CallKind
     }
 }
 
-/// A byte: the lowest of a word.
-pub(crate) fn byte_in(word: u64) -> u8
-    ensures { result ≡ byte_in word }
-{
-    (word % 256) as u8
-}
-
-/// A flag: the lowest bit of a word.
-pub(crate) fn flag_in(word: u64) -> bool
-    ensures { result ≡ flag_in word }
-{
-    word % 2 == 1
-}
-
-/// The lower half of a word.
-pub(crate) fn low_in(word: u64) -> u32
-    ensures { result ≡ low_in word }
-{
-    (word % 4_294_967_296) as u32
-}
-
-/// A word by its place; 0 behind the last.
-pub(crate) fn word_at(words: &[u64], place: usize) -> u64
-    ensures { result ≡ get_or words.now place 0 }
-{
-    match words.get(place) {
-        Some(word) => *word,
-        None => 0,
-    }
-}
-
-/// How many words so many bytes are, at most `MOST`.
-fn line_words(length: u8) -> u32
-    ensures value { result ≡ line_words length }
-    ensures most { result ≤ 16 }
-{
-    (u32::from(length % 129) + 7) / 8
-}
-
 /// How many words come behind a head.
 pub(crate) fn words_wanted(head: u64) -> u32
     ensures value { result ≡ words_wanted head }
@@ -146,7 +106,7 @@ pub(crate) fn words_wanted(head: u64) -> u32
     match kind_of(head) {
         CallKind::A => 2,
         CallKind::D | CallKind::Aw | CallKind::W | CallKind::Ar | CallKind::R | CallKind::Time => 1,
-        CallKind::Fill | CallKind::Line => line_words(byte_in(head / 256)),
+        CallKind::Fill | CallKind::Line => words_of(byte_in(head / 256)),
         _ => 0,
     }
 }

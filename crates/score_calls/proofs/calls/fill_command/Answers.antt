@@ -1,7 +1,7 @@
 -- The bytes of a filling are those of its words.
 use Rattle.std.proofs.Common.{ap, ◌∙◌}
-use Rattle.score_calls.proofs.FirstBytes.{fill_told}
-use Rattle.score_calls.specs.CallCommands.{bytes_of}
+use Rattle.score_calls.proofs.Fillings.{fill_told}
+use Rattle.call_words.specs.CallWords.{bytes_of}
 use Rattle.score_calls.proofs.calls.fill_command.Goals as goal
 
 pub returns : goal.returns

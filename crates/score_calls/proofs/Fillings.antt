@@ -1,17 +1,9 @@
--- How many the first bytes of some words are, and when they fill memory.
-use Rattle.std.proofs.Common.{◌≡◌, ◌+◌, ◌<◌, ◌≤◌, ◌/◌, ◌∷◌, [], ℕ, zero, suc, List, Some, length, false, ◌==◌, nat_lt, ap₂, arith, refl, subst, sym, ◌∙◌}
+-- When the bytes of some words fill memory.
+use Rattle.std.proofs.Common.{◌≡◌, ◌<◌, ◌≤◌, ◌/◌, ℕ, List, Some, length, false, ◌==◌, nat_lt, ap₂, arith, refl, subst, sym, ◌∙◌}
 use Rattle.std.proofs.lemmas.Bool.Decides.{nat_tests}
-use Rattle.std.proofs.lemmas.List.{length-append}
-use Rattle.score_calls.specs.CallCommands.{byte_of, bytes_of, fill_command, filling, first_bytes}
-use Rattle.score_calls.specs.CallWords.{byte_in, low_in}
+use Rattle.call_words.specs.CallWords.{byte_in, bytes_of, low_in}
+use Rattle.score_calls.specs.CallCommands.{fill_command, filling}
 use Rattle.score_script.specs.declared.score.Command.TheVariants.{Fill}
-
-pub first_count : (words : List ℕ) (place : ℕ) → length (first_bytes words place) ≡ place
-first_count words zero = refl
-first_count words (suc place) = omega (arith, length-append (first_bytes words place) (byte_of words place ∷ []), first_count words place)
-
-pub first_more : (words : List ℕ) (place : ℕ) → first_bytes words (place + 1) ≡ first_bytes words (suc place)
-first_more words place = let next : place + 1 ≡ suc place = omega arith in rw next refl
 
 pub filling_is : (address : ℕ) (bytes : List ℕ) → 0 < length bytes → length bytes ≤ 32 → filling address bytes ≡ Some (Fill address bytes)
 filling_is address bytes some few =

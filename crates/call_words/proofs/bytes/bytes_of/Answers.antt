@@ -1,7 +1,7 @@
 -- Each byte is the next, and there is room for 128.
 use Rattle.std.proofs.Common.{ℕ, List, ◌++◌, ◌∷◌, [], ◌∙◌, ap, ap₂, arith, length, sym}
-use Rattle.score_calls.proofs.FirstBytes.{first_count, first_more}
-use Rattle.score_calls.proofs.calls.bytes_of.Goals as goal
+use Rattle.call_words.proofs.FirstBytes.{first_count, first_more}
+use Rattle.call_words.proofs.bytes.bytes_of.Goals as goal
 
 pub put-requires : goal.put-requires
 put-requires c = omega (arith, ap length c.loop-place.invariant ∙ first_count c.args.words.now c.loop-place.place, c.loop-place-test.true)
