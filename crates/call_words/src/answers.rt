@@ -1,0 +1,46 @@
+//! Answers as numbers.
+ghost use Rattle.std.specs.Prelude.{◌≡◌, get_or};
+ghost use Rattle.call_words.specs.Answers.{byte_answer, fault_answer};
+
+use script_text::ScriptFault;
+
+/// More words are wanted.
+pub const PENDING: u64 = 17_179_869_184;
+
+/// There is no such call, or not here.
+pub const WRONG_CALL: u64 = 8_589_934_595;
+
+/// No byte is there.
+pub const NO_BYTE: u64 = 4_294_967_296;
+
+/// A fault: 2^32 and the first wrong word, 2^33 where the set-up is refused, and one more where memory is.
+pub fn fault_answer(fault: ScriptFault) -> u64
+    ensures { result ≡ fault_answer fault }
+{
+    match fault {
+        ScriptFault::Script { word, .. } => 4_294_967_296 + u64::from(word),
+        ScriptFault::Setup(_) => 8_589_934_592,
+        ScriptFault::NoMemory => 8_589_934_593,
+        ScriptFault::Read | ScriptFault::Write => 8_589_934_594,
+    }
+}
+
+/// A byte, or that there is none.
+pub fn byte_answer(byte: Option<u8>) -> u64
+    ensures { result ≡ byte_answer byte }
+{
+    match byte {
+        Some(byte) => u64::from(byte),
+        None => NO_BYTE,
+    }
+}
+
+/// The byte of a text at a place; 0 behind its end.
+pub fn text_byte(text: &[u8], place: u32) -> u64
+    ensures { result ≡ get_or text.now place 0 }
+{
+    match text.get(place as usize) {
+        Some(byte) => u64::from(*byte),
+        None => 0,
+    }
+}
