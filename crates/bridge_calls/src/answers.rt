@@ -1,7 +1,7 @@
 //! Answers of the model as numbers.
-ghost use Rattle.std.specs.Prelude.{◌≡◌, slice_get};
+ghost use Rattle.std.specs.Prelude.{◌≡◌, ◌≤◌, slice_get};
 ghost use Rattle.axi_beats.specs.Boxes.{w_beats_of};
-ghost use Rattle.bridge_calls.specs.Answers.{answer_number, answer_payload, burst_address, burst_data, burst_head, burst_strobes, code_of, d_fields, d_payload, flag_number, resp_number, step_head, step_serial};
+ghost use Rattle.bridge_calls.specs.Answers.{address_fields, answer_number, answer_payload, burst_address, burst_head, code_of, d_fields, flag_number, reply_fields, reply_payload, resp_number, step_head, step_serial, w_payload, w_strobes};
 
 use axi_beats::{BurstBox, Resp, WBeat};
 use tl_messages::{DBeat, ReplyBox};
@@ -154,7 +154,7 @@ fn data_beat(burst: &BurstBox, k: u32) -> Option<WBeat>
 
 /// The payload of one of its W beats; 0 where there is none.
 pub(crate) fn burst_data(burst: &BurstBox, k: u32) -> u64
-    ensures { result ≡ burst_data (slice_get (w_beats_of burst.now) k) }
+    ensures { result ≡ w_payload (slice_get (w_beats_of burst.now) k) }
 {
     match data_beat(burst, k) {
         Some(beat) => beat.payload,
@@ -164,7 +164,7 @@ pub(crate) fn burst_data(burst: &BurstBox, k: u32) -> u64
 
 /// Strobes and `last` of one of its W beats; 0 where there is none.
 pub(crate) fn burst_strobes(burst: &BurstBox, k: u32) -> u64
-    ensures { result ≡ burst_strobes (slice_get (w_beats_of burst.now) k) }
+    ensures { result ≡ w_strobes (slice_get (w_beats_of burst.now) k) }
 {
     match data_beat(burst, k) {
         Some(beat) => u64::from(beat.strobes) + 256 * flag_number(beat.last),

@@ -3,11 +3,10 @@ ghost use Rattle.std.specs.Prelude.{◌≡◌, ◌⊎◌, ◌<◌, Some, IfErr, 
 ghost use Rattle.setups.specs.Setups.{lists_of, setup_fault};
 ghost use Rattle.setups.specs.declared.SetupFault.TheVariants.{NoMemory};
 ghost use Rattle.world.specs.Choices.{LeadsTo};
-ghost use Rattle.world.specs.Laws.{IsDrained};
-ghost use Rattle.world.specs.World.{drained, enabled, next};
+ghost use Rattle.world.specs.World.{enabled, next};
 ghost use Rattle.world_run.specs.InOrder.{KeepsOrder};
 ghost use Rattle.world_run.specs.Serial.{Order};
-ghost use Rattle.bridge_calls.specs.Bridges.{Drained, Stepped, asked_of, opening_bridge};
+ghost use Rattle.bridge_calls.specs.Bridges.{AfterDrain, AfterStep, asked_of, opening_bridge};
 
 use crate::answers::{
     answer_number, answer_payload, burst_address, burst_data, burst_head, burst_strobes,
@@ -73,7 +72,7 @@ impl Bridge {
     /// Makes a step.
     pub(crate) fn step(&mut self, step: &Step) -> Answer
         ensures answer { result ≡ (next self.old.world step.now).answer }
-        ensures done { Stepped self.old step.now self.new }
+        ensures done { AfterStep self.old step.now self.new }
     {
         self.last = ordered_step(&mut self.world, step, &mut self.reply);
         self.last
@@ -93,7 +92,7 @@ impl Bridge {
 
     /// Makes the first step that is enabled until there is none, and answers how many steps these were. It takes no reply.
     pub(crate) fn drain(&mut self) -> u64
-        ensures { Drained self.old result self.new }
+        ensures { AfterDrain self.old result self.new }
     {
         let mut made = 0;
         while self.world.choices() > 0 {

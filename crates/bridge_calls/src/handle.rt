@@ -1,8 +1,8 @@
 //! What lies behind a handle: the set-up or the model, and the words of a call that hasn't all of them yet.
 ghost use Rattle.std.specs.Prelude.{◌≡◌, ◌/◌};
+ghost use Rattle.call_words.specs.Answers.{fault_answer};
 ghost use Rattle.call_words.specs.CallWords.{byte_in, bytes_of, low_in};
 ghost use Rattle.call_words.specs.PendingCalls.{no_call};
-ghost use Rattle.world.specs.declared.Step.{Step};
 ghost use Rattle.bridge_calls.specs.Handles.{BeginDone, Called, DrainTold, Finished, LineDone, StepTold, asked_in};
 ghost use Rattle.bridge_calls.specs.SetUps.{no_line};
 ghost use Rattle.bridge_calls.specs.declared.handle.Stage.TheVariants.{Closed, SettingUp};
@@ -57,7 +57,12 @@ impl BridgeHandle {
     }
 
     /// Notes a fault, by which all is given back.
-    fn refuse(&mut self, fault: ScriptFault) -> u64 {
+    fn refuse(&mut self, fault: ScriptFault) -> u64
+        ensures stage { self.new.stage ≡ Closed }
+        ensures answer { result ≡ fault_answer fault }
+        ensures call { self.new.call ≡ self.old.call }
+        ensures text { self.new.text ≡ self.old.text }
+    {
         self.stage = Stage::Closed;
         self.fault = Some(fault);
         fault_answer(fault)

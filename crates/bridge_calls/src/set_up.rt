@@ -1,7 +1,7 @@
 //! The set-up: lines as they stand in a script of `tlbridge run` before its first command.
-ghost use Rattle.std.specs.Prelude.{◌≡◌};
+ghost use Rattle.std.specs.Prelude.{◌≡◌, ◌+◌};
 ghost use Rattle.script_text.specs.Stages.{GivesWorld, Opening, world_at};
-ghost use Rattle.bridge_calls.specs.SetUps.{SetUpTold, set_up_kind};
+ghost use Rattle.bridge_calls.specs.SetUps.{OpensInOrder, SetUpTold, set_up_kind};
 
 use crate::bridge::Bridge;
 use line_text::Words;
@@ -158,7 +158,8 @@ impl SetUp {
 
     /// The model of this set-up.
     pub(crate) fn begin(self, alloc: Global) -> Result<Bridge, ScriptFault>
-        ensures { GivesWorld (λ bridge. bridge) (world_at set_up_kind self.stage (self.number + 1)) result }
+        ensures world { GivesWorld (λ bridge. bridge) (world_at set_up_kind self.stage (self.number + 1)) result }
+        ensures order { OpensInOrder self.stage result }
     {
         let SetUp { script, number } = self;
         script.into_world(alloc, number + 1)

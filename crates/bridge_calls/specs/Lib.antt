@@ -1,0 +1,5 @@
+pub mod Answers
+pub mod Bridges
+pub mod CallKinds
+pub mod Handles
+pub mod SetUps
