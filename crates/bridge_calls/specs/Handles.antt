@@ -9,7 +9,7 @@ use Rattle.call_words.specs.PendingCalls.{CallState, is_whole, taken}
 use Rattle.bridge_calls.specs.Answers.{code_of}
 use Rattle.bridge_calls.specs.Bridges.{AfterDrain, AfterStep, BridgeState, asked_of}
 use Rattle.bridge_calls.specs.CallKinds.{kind_of, step_in, words_wanted}
-use Rattle.bridge_calls.specs.SetUps.{OpensInOrder, SetUpState, SetUpTold, set_up_kind}
+use Rattle.bridge_calls.specs.SetUps.{OpensInOrder, SetUpState, SetUpTold, set_up_kind, stage_in}
 use Rattle.bridge_calls.specs.declared.handle.BridgeHandle.{BridgeHandle}
 use Rattle.bridge_calls.specs.declared.handle.Stage.{Stage}
 use Rattle.bridge_calls.specs.declared.handle.Stage.TheVariants.{Closed, Running, SettingUp}
@@ -67,8 +67,8 @@ BegunLeft (Err fault) new answer = (new ≡ Closed) × (answer ≡ fault_answer 
 -- its world is made, and is in order
 pub record Begun (old : SetUpState) (new : Stage) (answer : ℕ) : Type 0 where
   pub given : Result BridgeState ScriptFault
-  pub made : GivesWorld (λ (bridge : BridgeState). bridge) (world_at set_up_kind old.stage (old.number + 1)) given
-  pub order : OpensInOrder old.stage given
+  pub made : GivesWorld (λ (bridge : BridgeState). bridge) (world_at set_up_kind (stage_in old) (old.number + 1)) given
+  pub order : OpensInOrder (stage_in old) given
   pub left : BegunLeft given new answer
 
 abbrev pub BeginDone : Stage → Stage → ℕ → Type 0

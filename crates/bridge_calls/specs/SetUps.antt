@@ -1,10 +1,11 @@
 -- The set-up: lines as they stand in a script of `tlbridge run` before its first command (this project's profile).
 use Rattle.std.specs.Prelude.{ℕ, ◌≡◌, ◌+◌, Bool, true, false, List, [], None, Result, Ok, Err, ⊤}
 use Rattle.std.specs.Str.Lines.{strip_carriage_return}
-use Rattle.setups.specs.Setups.{SetupLists, faults_of, setup_fault}
+use Rattle.setups.specs.Setups.{SetupLists, faults_of, lists_of, setup_fault}
+use Rattle.setups.specs.declared.Setup.{Setup}
 use Rattle.script_text.specs.Scripts.{LineStep, Reading, line_step}
 use Rattle.script_text.specs.SetupRules.{bridge_rules}
-use Rattle.script_text.specs.Stages.{GivesSome, Kind, Opening, SettingUp, Stage, reading_of, unless_refused}
+use Rattle.script_text.specs.Stages.{Kind, Opening, SettingUp, Stage, reading_of, stage_as, unless_refused}
 use Rattle.script_text.specs.declared.faults.ScriptFault.{ScriptFault}
 use Rattle.world_run.specs.InOrder.{KeepsOrder}
 use Rattle.world_run.specs.Serial.{Order}
@@ -29,14 +30,14 @@ set_up_kind =
 abbrev pub set_up_reading : Reading (Stage SetupLists (Unit {0}) BridgeState) Bool
 set_up_reading = reading_of set_up_kind
 
--- there is no command, so each has text
-pub set_up_gives : GivesSome set_up_kind
-set_up_gives bridge number command given is = absurd (cc (is))
-
 -- what a contract sees of a set-up: how far it has come, and how many lines it has
 pub record SetUpState : Type 0 where
-  pub stage : Stage SetupLists (Unit {0}) BridgeState
+  pub stage : Stage Setup (Unit {0}) BridgeState
   pub number : ℕ
+
+-- how far it has come, as it is said
+abbrev pub stage_in : SetUpState → Stage SetupLists (Unit {0}) BridgeState
+stage_in held = stage_as lists_of (λ (bridge : BridgeState). bridge) held.stage
 
 -- a set-up of no line
 abbrev pub no_line : SetUpState
@@ -44,11 +45,11 @@ no_line = record { stage = Opening; number = 0 }
 
 -- what a line does, as it does where a whole text is read
 abbrev pub line_done : SetUpState → List ℕ → LineStep (Stage SetupLists (Unit {0}) BridgeState)
-line_done held line = line_step set_up_reading held.stage (held.number + 1) (strip_carriage_return line)
+line_done held line = line_step set_up_reading (stage_in held) (held.number + 1) (strip_carriage_return line)
 
 -- it went well, and has no text; or it has a fault
 abbrev pub SetUpTold : SetUpState → List ℕ → SetUpState → Result (Unit {0}) ScriptFault → Type 0
-SetUpTold old line new (Ok done) = (line_done old line ≡ Ok ([], new.stage)) × (new.number ≡ old.number + 1)
+SetUpTold old line new (Ok done) = (line_done old line ≡ Ok ([], stage_in new)) × (new.number ≡ old.number + 1)
 SetUpTold old line new (Err fault) = line_done old line ≡ Err fault
 
 -- the opening world is in order, whatever requests are to come

@@ -1,7 +1,7 @@
 //! The set-up: lines as they stand in a script of `tlbridge run` before its first command.
 ghost use Rattle.std.specs.Prelude.{◌≡◌, ◌+◌};
 ghost use Rattle.script_text.specs.Stages.{GivesWorld, Opening, world_at};
-ghost use Rattle.bridge_calls.specs.SetUps.{OpensInOrder, SetUpTold, set_up_kind};
+ghost use Rattle.bridge_calls.specs.SetUps.{OpensInOrder, SetUpTold, set_up_kind, stage_in};
 
 use crate::bridge::Bridge;
 use line_text::Words;
@@ -22,7 +22,8 @@ impl Kind for SetUpAlone {
     ghost use Rattle.std.specs.Prelude.{false};
     ghost use Rattle.setups.specs.Setups.{SetupLists, lists_of};
     ghost use Rattle.bridge_calls.specs.Bridges.{BridgeState};
-    ghost use Rattle.bridge_calls.specs.SetUps.{set_up_gives, set_up_kind};
+    ghost use Rattle.bridge_calls.specs.CommandTexts.{set_up_gives};
+    ghost use Rattle.bridge_calls.specs.SetUps.{set_up_kind};
 
     type Setup = Setup;
 
@@ -158,8 +159,8 @@ impl SetUp {
 
     /// The model of this set-up.
     pub(crate) fn begin(self, alloc: Global) -> Result<Bridge, ScriptFault>
-        ensures world { GivesWorld (λ bridge. bridge) (world_at set_up_kind self.stage (self.number + 1)) result }
-        ensures order { OpensInOrder self.stage result }
+        ensures world { GivesWorld (λ bridge. bridge) (world_at set_up_kind (stage_in self) (self.number + 1)) result }
+        ensures order { OpensInOrder (stage_in self) result }
     {
         let SetUp { script, number } = self;
         script.into_world(alloc, number + 1)
