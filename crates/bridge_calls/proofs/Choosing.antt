@@ -1,5 +1,5 @@
 -- The steps that bridge and memory can make by themselves: they offer nothing and take nothing.
-use Rattle.std.proofs.Common.{◌≡◌, ◌≤◌, ℕ, zero, suc, Bool, true, false, List, [], ◌∷◌, ◌++◌, length, map, Option, Some, None, arith, refl, rules}
+use Rattle.std.proofs.Common.{◌≡◌, ◌≤◌, ℕ, zero, suc, Bool, true, false, List, [], ◌∷◌, ◌++◌, length, map, Option, Some, None, arith, refl}
 use Rattle.std.specs.List.{list_all}
 use Rattle.std.specs.Prelude.{is_some, slice_get, if◌then◌else◌}
 use Rattle.axi_beats.specs.Bursts.{Burst}
@@ -9,7 +9,7 @@ use Rattle.bridge_core.specs.Bridge.{burst_to_send}
 use Rattle.subordinate.specs.FreeMemory.{FreeMemory, b_of, ids_with_b, ids_with_r, performed, r_of, waiting_beats}
 use Rattle.subordinate.specs.declared.Performed.{Performed}
 use Rattle.subordinate.specs.declared.Performed.TheVariants as perform
-use Rattle.world.specs.World.{WorldState, answered_b, answered_r, enabled, is_reply, next, perform_at, performed_by, pumped}
+use Rattle.world.specs.World.{WorldState, answered_b, answered_r, enabled, is_reply, next, perform_at, performed_by, pumped, pumps_enabled}
 use Rattle.world.specs.declared.Step.{Step}
 use Rattle.world.specs.declared.Step.TheVariants.{AnswerB, AnswerR, Offer, Perform, Pump, Take}
 use Rattle.world_run.specs.InOrder.{IsForeseen}
@@ -55,9 +55,12 @@ pump_own (Some burst) = refl
 
 own_enabled : (state : WorldState) → list_all is_own (enabled state) ≡ true
 own_enabled state =
-    all_append is_own _ _ (pump_own (burst_to_send state.bridge))
-    (all_append is_own _ _ (all_map is_own perform_at (waiting_beats state.memory) (λ place. refl))
-    (all_append is_own _ _ (all_map is_own AnswerB (ids_with_b state.memory) (λ id. refl)) (all_map is_own AnswerR (ids_with_r state.memory) (λ id. refl))))
+    let performs = map perform_at (waiting_beats state.memory) in
+    let bs = map AnswerB (ids_with_b state.memory) in
+    let rs = map AnswerR (ids_with_r state.memory) in
+    all_append is_own (pumps_enabled state) (performs ++ (bs ++ rs)) (pump_own (burst_to_send state.bridge))
+    (all_append is_own performs (bs ++ rs) (all_map is_own perform_at (waiting_beats state.memory) (λ place. refl))
+    (all_append is_own bs rs (all_map is_own AnswerB (ids_with_b state.memory) (λ id. refl)) (all_map is_own AnswerR (ids_with_r state.memory) (λ id. refl))))
 
 pump_quiet : (state : WorldState) (burst : Option Burst) → is_reply (pumped state burst).answer ≡ false
 pump_quiet state None = refl

@@ -1,5 +1,5 @@
 -- What a line of a set-up does: none writes text, and none asks for memory.
-use Rattle.std.proofs.Common.{◌≡◌, ◌≢◌, ◌+◌, ◌++◌, inl, inr, ℕ, List, [], Bool, true, false, Option, None, Some, Result, Ok, Err, refl, sym, subst, ap, ap₂, ◌∙◌, arith, nat_lt, rules}
+use Rattle.std.proofs.Common.{◌≡◌, ◌+◌, ◌++◌, inl, inr, ℕ, List, [], Bool, true, false, Option, None, Some, Result, Ok, Err, refl, sym, subst, ap, ap₂, ◌∙◌, nat_lt}
 use Rattle.std.specs.Prelude.{not, ◌||◌, if◌then◌else◌, ⊤}
 use Rattle.std.specs.Str.Lines.{strip_carriage_return}
 use Rattle.line_text.specs.Words.{is_plain_line, is_skipped, word_at, words_of}
@@ -7,7 +7,7 @@ use Rattle.setups.specs.Setups.{SetupLists, setup_fault}
 use Rattle.setups.specs.declared.SetupFault.{SetupFault}
 use Rattle.script_text.specs.Forms.{form_of}
 use Rattle.script_text.specs.Scripts.{LineStep, line_step}
-use Rattle.script_text.specs.Stages.{GivesWorld, Opening, Running, SettingUp, Stage, added_step, early_step, ending_of, form_step, is_misplaced, is_setup_form, nothing_written, other_step, set_up_as, set_up_with, setup_step, stage_ending, stage_step, unless_refused, world_at}
+use Rattle.script_text.specs.Stages.{GivesWorld, Opening, Running, SettingUp, Stage, added_step, ending_of, form_step, is_misplaced, is_setup_form, nothing_written, other_step, set_up_as, set_up_with, setup_step, stage_ending, stage_step, unless_refused, world_at}
 use Rattle.script_text.specs.Steps.{Goes, TakesStep}
 use Rattle.script_text.specs.declared.faults.ScriptFault.{ScriptFault}
 use Rattle.script_text.specs.declared.faults.ScriptFault.TheVariants.{Script, Setup, Read, Write, NoMemory}
@@ -15,7 +15,7 @@ use Rattle.script_text.specs.declared.keywords.Form.{Form}
 use Rattle.world_run.proofs.OrderOpens.{keeps_opening}
 use Rattle.world_run.specs.InOrder.{KeepsOrder}
 use Rattle.bridge_calls.specs.Bridges.{BridgeState, opening_bridge}
-use Rattle.bridge_calls.specs.SetUps.{OpensInOrder, SetUpState, SetUpTold, line_done, set_up_kind, set_up_reading, stage_in}
+use Rattle.bridge_calls.specs.SetUps.{OpensInOrder, SetUpState, line_done, set_up_kind, set_up_reading, stage_in}
 
 abbrev Stages : Type 0
 Stages = Stage SetupLists (Unit {0}) BridgeState

@@ -26,4 +26,4 @@ returns-clause-reply c =
 pub returns-clause-order : goal.returns-clause-order
 returns-clause-order c =
     λ order keeps. c.ordered_step.ensures.order order (enabled_foreseen order c.self.inside.world 0 c.choose-step.result c.choose-step.ensures)
-        (subst (λ (w : WorldState). KeepsOrder order w) (ap (λ (b : BridgeState). b.world) (sym c.self.view_is)) keeps)
+    (subst (λ (w : WorldState). KeepsOrder order w) (ap (λ (b : BridgeState). b.world) (sym c.self.view_is)) keeps)

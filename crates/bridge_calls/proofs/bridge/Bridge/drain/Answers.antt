@@ -1,7 +1,6 @@
 -- Each step leads on, and where none is enabled all is done.
 use Rattle.std.proofs.Common.{◌≡◌, ◌<◌, ◌≤◌, ◌+◌, ℕ, [], List, ap, arith, length, refl, subst, sym, ◌∙◌}
 use Rattle.tl_messages.specs.declared.DBeat.{DBeat}
-use Rattle.world.specs.Choices.{LeadsTo}
 use Rattle.world.specs.Laws.{IsDrained, IsSoundWorld}
 use Rattle.world.specs.World.{WorldState, drained, enabled}
 use Rattle.world.specs.declared.Answer.{Answer}
