@@ -1,5 +1,5 @@
 -- What lies behind a handle, and what a call does there (this project's profile).
-use Rattle.std.specs.Prelude.{ℕ, ◌≡◌, ◌+◌, ◌/◌, Bool, true, false, List, Option, Some, None, Result, Ok, Err, get_or}
+use Rattle.std.specs.Prelude.{ℕ, ◌≡◌, ◌⊎◌, ◌+◌, ◌/◌, Bool, true, false, List, [], Option, Some, None, Result, Ok, Err, get_or, length}
 use Rattle.script_text.specs.Stages.{GivesWorld, world_at}
 use Rattle.script_text.specs.declared.faults.ScriptFault.{ScriptFault}
 use Rattle.world.specs.declared.Step.{Step}
@@ -81,6 +81,10 @@ abbrev pub asked_in : Stage → CallKind → ℕ → ℕ
 asked_in (Running bridge) called number = asked_of bridge called number
 asked_in _ called number = 8589934595
 
+-- how many bytes the text of the last fault has; or memory was refused
+abbrev pub TextTold : List ℕ → ℕ → Type 0
+TextTold text answer = (answer ≡ length text) ⊎ (answer ≡ 8589934593)
+
 -- ---- a call
 
 -- what one that has all its words does, where it makes no step, to what lies behind the handle and to the text; its answer
@@ -88,8 +92,8 @@ abbrev pub OtherDone : CallKind → CallState → Stage → List ℕ → Stage �
 OtherDone kind.Drain call old text new next answer = DrainTold old new answer × (next ≡ text)
 OtherDone kind.Line call old text new next answer = LineDone old (bytes_of call.words (byte_in (call.head / 256))) new answer × (next ≡ text)
 OtherDone kind.Begin call old text new next answer = BeginDone old new answer × (next ≡ text)
-OtherDone kind.Close call old text new next answer = (new ≡ Closed) × (answer ≡ 0)
-OtherDone kind.FaultLength call old text new next answer = new ≡ old
+OtherDone kind.Close call old text new next answer = (new ≡ Closed) × (next ≡ []) × (answer ≡ 0)
+OtherDone kind.FaultLength call old text new next answer = (new ≡ old) × TextTold next answer
 OtherDone kind.TextByte call old text new next answer = (new ≡ old) × (next ≡ text) × (answer ≡ get_or text (low_in (call.head / 256)) 0)
 OtherDone called call old text new next answer = (new ≡ old) × (next ≡ text) × (answer ≡ asked_in old called (low_in (call.head / 4294967296)))
 

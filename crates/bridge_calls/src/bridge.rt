@@ -74,8 +74,9 @@ impl Bridge {
         ensures answer { result ≡ (next self.old.world step.now).answer }
         ensures done { AfterStep self.old step.now self.new }
     {
-        self.last = ordered_step(&mut self.world, step, &mut self.reply);
-        self.last
+        let answer = ordered_step(&mut self.world, step, &mut self.reply);
+        self.last = answer;
+        answer
     }
 
     /// Makes the first step that is enabled.

@@ -1,9 +1,9 @@
 //! What lies behind a handle: the set-up or the model, and the words of a call that hasn't all of them yet.
-ghost use Rattle.std.specs.Prelude.{◌≡◌, ◌/◌};
+ghost use Rattle.std.specs.Prelude.{◌≡◌, ◌/◌, []};
 ghost use Rattle.call_words.specs.Answers.{fault_answer};
 ghost use Rattle.call_words.specs.CallWords.{byte_in, bytes_of, low_in};
 ghost use Rattle.call_words.specs.PendingCalls.{no_call};
-ghost use Rattle.bridge_calls.specs.Handles.{BeginDone, Called, DrainTold, Finished, LineDone, StepTold, asked_in};
+ghost use Rattle.bridge_calls.specs.Handles.{BeginDone, Called, DrainTold, Finished, LineDone, StepTold, TextTold, asked_in};
 ghost use Rattle.bridge_calls.specs.SetUps.{no_line};
 ghost use Rattle.bridge_calls.specs.declared.handle.Stage.TheVariants.{Closed, SettingUp};
 
@@ -46,6 +46,7 @@ impl BridgeHandle {
     pub fn new(alloc: Global) -> BridgeHandle
         ensures stage { result.stage ≡ SettingUp no_line }
         ensures call { result.call ≡ no_call }
+        ensures text { result.text.items ≡ [] }
     {
         BridgeHandle {
             alloc,
@@ -133,6 +134,7 @@ impl BridgeHandle {
     fn close(&mut self) -> u64
         ensures stage { self.new.stage ≡ Closed }
         ensures answer { result ≡ 0 }
+        ensures text { self.new.text.items ≡ [] }
         ensures call { self.new.call ≡ self.old.call }
     {
         self.stage = Stage::Closed;
@@ -143,6 +145,7 @@ impl BridgeHandle {
     /// Writes the text of the last fault, and tells how many bytes it has.
     fn fault_length(&mut self) -> u64
         ensures stage { self.new.stage ≡ self.old.stage }
+        ensures told { TextTold self.new.text.items result }
         ensures call { self.new.call ≡ self.old.call }
     {
         self.text.clear();
