@@ -1,40 +1,5 @@
-//! The scoreboard for C: `tlscore_open` makes one, and `tlscore_call` takes the words of calls, which interfaces/c/zuldegei.c puts
-//! together.
+//! The scoreboard and the model of the bridge for C, as a static library.
 #![tactic(auto)]
 
-ghost use Rattle.std.specs.Borrow.{full_share, sem};
-ghost use Rattle.std.specs.Ptr.{lies_at};
-ghost use base.Fml.{fex};
-ghost use Rattle.score_calls.specs.Handles.{Called};
-ghost use Rattle.score_calls.specs.contracts.handle.Handle.{the_row};
-ghost use Rattle.score_calls.specs.declared.handle.Handle as declared;
-
-use score_calls::Handle;
-use std::alloc::Global;
-
-/// Makes a scoreboard without a set-up, and hands out where it lies. The answer is whether there was memory.
-#[unsafe(no_mangle)]
-pub extern "C" fn tlscore_open(alloc: Global, out: &mut *mut u8) -> bool {
-    let Ok(handle) = Box::new(alloc, Handle::new(alloc)) else {
-        return false;
-    };
-    *out = Box::into_raw(handle) as *mut u8;
-    true
-}
-
-/// Takes a word of a call.
-fn called(handle: &mut Handle, word: u64) -> u64
-    ensures { Called handle.old word handle.new result }
-{
-    handle.call(word)
-}
-
-/// Takes a word of a call to the scoreboard that lies there. The answer to all but a call's last word is that more are wanted.
-#[unsafe(no_mangle)]
-pub unsafe extern "C" fn tlscore_call(at: *mut u8, word: u64) -> u64
-    ghost old: { declared.Handle }
-    requires* { sem 𝓛 (lies_at the_row full_share at old) }
-    ensures* { sem 𝓛 (fex declared.Handle (λ new. fex (Called old word new result) (λ done. lies_at the_row full_share at new))) }
-{
-    called(&mut *(at as *mut Handle), word)
-}
+mod bridge_exports;
+mod score_exports;

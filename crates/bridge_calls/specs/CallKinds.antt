@@ -1,0 +1,84 @@
+-- What the words of a call say: which call it is, how many words it wants, and the step that it makes (this project's profile).
+use Rattle.std.specs.Prelude.{ℕ, ◌/◌, ◌%◌, ◌==◌, List, Option, Some, None, get_or, if◌then◌else◌}
+use Rattle.tl_messages.specs.declared.ABeat.{ABeat}
+use Rattle.world.specs.declared.Step.{Step}
+use Rattle.world.specs.declared.Step.TheVariants as step
+use Rattle.call_words.specs.CallWords.{byte_in, flag_in, line_words, low_in}
+use Rattle.bridge_calls.specs.declared.kinds.CallKind.{CallKind}
+use Rattle.bridge_calls.specs.declared.kinds.CallKind.TheVariants as kind
+
+-- what is called, by the lowest byte of the head
+abbrev pub kind_by : ℕ → CallKind
+kind_by number =
+    if number == 0 then kind.Offer
+    else (if number == 1 then kind.Pump
+    else (if number == 2 then kind.Perform
+    else (if number == 3 then kind.AnswerB
+    else (if number == 4 then kind.AnswerR
+    else (if number == 5 then kind.Take
+    else (if number == 6 then kind.Drain
+    else (if number == 7 then kind.Line
+    else (if number == 8 then kind.Begin
+    else (if number == 9 then kind.Close
+    else (if number == 10 then kind.FaultLength
+    else (if number == 11 then kind.TextByte
+    else (if number == 12 then kind.AnswerNumber
+    else (if number == 13 then kind.AnswerPayload
+    else (if number == 14 then kind.Choices
+    else (if number == 15 then kind.Choice
+    else (if number == 16 then kind.ChoiceSerial
+    else (if number == 17 then kind.Byte
+    else (if number == 18 then kind.Work
+    else (if number == 19 then kind.InFlight
+    else (if number == 20 then kind.Burst
+    else (if number == 21 then kind.BurstAddress
+    else (if number == 22 then kind.BurstData
+    else (if number == 23 then kind.BurstStrobes
+    else (if number == 24 then kind.ReplyBeats
+    else (if number == 25 then kind.ReplyFields
+    else (if number == 26 then kind.ReplyPayload
+    else kind.None))))))))))))))))))))))))))
+
+abbrev pub kind_of : ℕ → CallKind
+kind_of head = kind_by (head % 256)
+
+-- how many words come behind a head, by what is called
+abbrev pub wanted_by : CallKind → ℕ → ℕ
+wanted_by kind.Offer head = 2
+wanted_by kind.Perform head = 1
+wanted_by kind.Line head = line_words (byte_in (head / 256))
+wanted_by _ head = 0
+
+abbrev pub words_wanted : ℕ → ℕ
+words_wanted head = wanted_by (kind_of head) head
+
+-- the two lowest bytes of a word
+abbrev pub short_in : ℕ → ℕ
+short_in word = word % 65536
+
+-- the beat that an offer says
+abbrev pub offer_beat : ℕ → ℕ → ℕ → ABeat
+offer_beat head address payload =
+    record {
+      opcode = byte_in (head / 65536);
+      param = byte_in (head / 16777216);
+      size = byte_in (head / 4294967296);
+      source = byte_in (head / 1099511627776);
+      address = low_in address;
+      mask = byte_in (head / 281474976710656);
+      corrupt = flag_in (head / 72057594037927936);
+      payload = payload;
+    }
+
+-- the step that a call makes, if it makes one
+abbrev pub step_by : CallKind → ℕ → List ℕ → Option Step
+step_by kind.Offer head words = Some (step.Offer (byte_in (head / 256)) (offer_beat head (get_or words 0 0) (get_or words 1 0)))
+step_by kind.Pump head words = Some step.Pump
+step_by kind.Perform head words = Some (step.Perform (get_or words 0 0) (short_in (head / 256)))
+step_by kind.AnswerB head words = Some (step.AnswerB (byte_in (head / 256)))
+step_by kind.AnswerR head words = Some (step.AnswerR (byte_in (head / 256)))
+step_by kind.Take head words = Some (step.Take (byte_in (head / 256)))
+step_by _ head words = None
+
+abbrev pub step_in : ℕ → List ℕ → Option Step
+step_in head words = step_by (kind_of head) head words
