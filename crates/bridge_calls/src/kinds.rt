@@ -7,7 +7,7 @@ use tl_messages::ABeat;
 use world_run::Step;
 
 /// What is called.
-#[derive(Clone, Copy, Debug, PartialEq, Eq)]
+#[derive(Clone, Copy)]
 pub(crate) enum CallKind {
     /// A client offers a beat: two words more, the address and the payload.
     Offer,

@@ -5,7 +5,7 @@ ghost use Rattle.score_calls.specs.CallWords.{kind_of, words_wanted};
 use call_words::{byte_in, words_of};
 
 /// What is called.
-#[derive(Clone, Copy, Debug, PartialEq, Eq)]
+#[derive(Clone, Copy)]
 pub(crate) enum CallKind {
     /// A beat on channel A: two words more, the address with the lanes that nobody knows above it, and the payload.
     A,
