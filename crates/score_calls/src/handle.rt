@@ -1,9 +1,9 @@
 //! What lies behind a handle: the set-up or the observation, and the words of a call that hasn't all of them yet.
-ghost use Rattle.std.specs.Prelude.{◌≡◌, ◌/◌};
+ghost use Rattle.std.specs.Prelude.{◌≡◌, ◌/◌, []};
 ghost use Rattle.call_words.specs.CallWords.{byte_in, bytes_of};
 ghost use Rattle.call_words.specs.PendingCalls.{no_call};
 ghost use Rattle.score_calls.specs.Answers.{answer_of};
-ghost use Rattle.score_calls.specs.Handles.{BeginDone, Called, CommandTold, Finished, LineDone, TextTold, asked_in, no_line};
+ghost use Rattle.score_calls.specs.Handles.{BeginDone, Called, CommandTold, FaultTold, Finished, LineDone, TextTold, asked_in, no_line};
 ghost use Rattle.score_calls.specs.declared.handle.Stage.TheVariants.{Closed, SettingUp};
 
 use crate::answers::answer_of;
@@ -45,6 +45,7 @@ impl Handle {
     pub fn new(alloc: Global) -> Handle
         ensures stage { result.stage ≡ SettingUp no_line }
         ensures call { result.call ≡ no_call }
+        ensures text { result.text.items ≡ [] }
     {
         Handle {
             alloc,
@@ -125,6 +126,7 @@ impl Handle {
     fn close(&mut self) -> u64
         ensures stage { self.new.stage ≡ Closed }
         ensures answer { result ≡ 0 }
+        ensures text { self.new.text.items ≡ [] }
         ensures call { self.new.call ≡ self.old.call }
     {
         self.stage = Stage::Closed;
@@ -151,6 +153,7 @@ impl Handle {
     /// The same of the last fault.
     fn fault_length(&mut self) -> u64
         ensures stage { self.new.stage ≡ self.old.stage }
+        ensures told { FaultTold self.new.text.items result }
         ensures call { self.new.call ≡ self.old.call }
     {
         self.text.clear();
