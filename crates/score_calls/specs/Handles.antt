@@ -1,6 +1,6 @@
 -- What lies behind a handle, and what a call does there (this project's profile).
 use Rattle.std.specs.Prelude.{ℕ, ◌≡◌, ◌⊎◌, ◌/◌, Bool, true, false, List, [], get_or, length, Option, Some, None, Result, Ok, Err}
-use Rattle.call_words.specs.Answers.{byte_answer, fault_answer}
+use Rattle.call_words.specs.Answers.{FaultTold, byte_answer, fault_answer}
 use Rattle.call_words.specs.CallWords.{byte_in, bytes_of, low_in}
 use Rattle.call_words.specs.PendingCalls.{is_whole, taken}
 use Rattle.score_calls.specs.Answers.{answer_of}
@@ -104,10 +104,6 @@ abbrev pub TextTold : Stage → List ℕ → ℕ → Type 0
 TextTold (Judging seen) text answer =
     ((text ≡ observing_text (observing_of seen)) × (answer ≡ length text)) ⊎ (answer ≡ 8589934593)
 TextTold _ text answer = (text ≡ []) × (answer ≡ 8589934595)
-
--- how many bytes the text of the last fault has; or memory was refused
-abbrev pub FaultTold : List ℕ → ℕ → Type 0
-FaultTold text answer = (answer ≡ length text) ⊎ (answer ≡ 8589934593)
 
 -- ---- a call
 

@@ -1,22 +1,22 @@
 //! What lies behind a handle: the set-up or the observation, and the words of a call that hasn't all of them yet.
 ghost use Rattle.std.specs.Prelude.{◌≡◌, ◌/◌, []};
+ghost use Rattle.call_words.specs.Answers.{FaultTold};
 ghost use Rattle.call_words.specs.CallWords.{byte_in, bytes_of};
 ghost use Rattle.call_words.specs.PendingCalls.{no_call};
 ghost use Rattle.score_calls.specs.Answers.{answer_of};
-ghost use Rattle.score_calls.specs.Handles.{BeginDone, Called, CommandTold, FaultTold, Finished, LineDone, TextTold, asked_in, no_line};
+ghost use Rattle.score_calls.specs.Handles.{BeginDone, Called, CommandTold, Finished, LineDone, TextTold, asked_in, no_line};
 ghost use Rattle.score_calls.specs.declared.handle.Stage.TheVariants.{Closed, SettingUp};
 
 use crate::answers::answer_of;
 use crate::calls::command_in;
 use crate::words::{CallKind, kind_of, words_wanted};
 use call_words::{
-    PENDING, PendingCall, WRONG_CALL, byte_answer, byte_in, bytes_of, fault_answer, low_in,
-    text_byte,
+    PENDING, PendingCall, WRONG_CALL, byte_answer, byte_in, bytes_of, fault_answer, fault_length,
+    low_in, text_byte,
 };
 use score_script::{Command, Observation, SetUp};
 use script_text::ScriptFault;
 use std::alloc::Global;
-use std::io::Write;
 use std::mem;
 
 /// How far it has come.
@@ -156,14 +156,7 @@ impl Handle {
         ensures told { FaultTold self.new.text.items result }
         ensures call { self.new.call ≡ self.old.call }
     {
-        self.text.clear();
-        let Some(fault) = self.fault else {
-            return 0;
-        };
-        match write!(self.text, "{fault}") {
-            Ok(()) => self.text.len() as u64,
-            Err(_) => fault_answer(ScriptFault::NoMemory),
-        }
+        fault_length(&mut self.text, self.fault)
     }
 
     /// What is asked of the observation.
