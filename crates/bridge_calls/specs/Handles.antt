@@ -1,9 +1,9 @@
 -- What lies behind a handle, and what a call does there (this project's profile).
-use Rattle.std.specs.Prelude.{ℕ, ◌≡◌, ◌⊎◌, ◌+◌, ◌/◌, Bool, true, false, List, [], Option, Some, None, Result, Ok, Err, get_or, length}
+use Rattle.std.specs.Prelude.{ℕ, ◌≡◌, ◌+◌, ◌/◌, Bool, true, false, List, [], Option, Some, None, Result, Ok, Err, get_or}
 use Rattle.script_text.specs.Stages.{GivesWorld, world_at}
 use Rattle.script_text.specs.declared.faults.ScriptFault.{ScriptFault}
 use Rattle.world.specs.declared.Step.{Step}
-use Rattle.call_words.specs.Answers.{fault_answer}
+use Rattle.call_words.specs.Answers.{FaultTold, fault_answer}
 use Rattle.call_words.specs.CallWords.{byte_in, bytes_of, low_in}
 use Rattle.call_words.specs.PendingCalls.{CallState, is_whole, taken}
 use Rattle.bridge_calls.specs.Answers.{code_of}
@@ -81,10 +81,6 @@ abbrev pub asked_in : Stage → CallKind → ℕ → ℕ
 asked_in (Running bridge) called number = asked_of bridge called number
 asked_in _ called number = 8589934595
 
--- how many bytes the text of the last fault has; or memory was refused
-abbrev pub TextTold : List ℕ → ℕ → Type 0
-TextTold text answer = (answer ≡ length text) ⊎ (answer ≡ 8589934593)
-
 -- ---- a call
 
 -- what one that has all its words does, where it makes no step, to what lies behind the handle and to the text; its answer
@@ -93,7 +89,7 @@ OtherDone kind.Drain call old text new next answer = DrainTold old new answer ×
 OtherDone kind.Line call old text new next answer = LineDone old (bytes_of call.words (byte_in (call.head / 256))) new answer × (next ≡ text)
 OtherDone kind.Begin call old text new next answer = BeginDone old new answer × (next ≡ text)
 OtherDone kind.Close call old text new next answer = (new ≡ Closed) × (next ≡ []) × (answer ≡ 0)
-OtherDone kind.FaultLength call old text new next answer = (new ≡ old) × TextTold next answer
+OtherDone kind.FaultLength call old text new next answer = (new ≡ old) × FaultTold next answer
 OtherDone kind.TextByte call old text new next answer = (new ≡ old) × (next ≡ text) × (answer ≡ get_or text (low_in (call.head / 256)) 0)
 OtherDone called call old text new next answer = (new ≡ old) × (next ≡ text) × (answer ≡ asked_in old called (low_in (call.head / 4294967296)))
 

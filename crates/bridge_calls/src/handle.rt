@@ -1,9 +1,9 @@
 //! What lies behind a handle: the set-up or the model, and the words of a call that hasn't all of them yet.
 ghost use Rattle.std.specs.Prelude.{◌≡◌, ◌/◌, []};
-ghost use Rattle.call_words.specs.Answers.{fault_answer};
+ghost use Rattle.call_words.specs.Answers.{FaultTold, fault_answer};
 ghost use Rattle.call_words.specs.CallWords.{byte_in, bytes_of, low_in};
 ghost use Rattle.call_words.specs.PendingCalls.{no_call};
-ghost use Rattle.bridge_calls.specs.Handles.{BeginDone, Called, DrainTold, Finished, LineDone, StepTold, TextTold, asked_in};
+ghost use Rattle.bridge_calls.specs.Handles.{BeginDone, Called, DrainTold, Finished, LineDone, StepTold, asked_in};
 ghost use Rattle.bridge_calls.specs.SetUps.{no_line};
 ghost use Rattle.bridge_calls.specs.declared.handle.Stage.TheVariants.{Closed, SettingUp};
 
@@ -12,11 +12,11 @@ use crate::bridge::Bridge;
 use crate::kinds::{CallKind, kind_of, step_in, words_wanted};
 use crate::set_up::SetUp;
 use call_words::{
-    PENDING, PendingCall, WRONG_CALL, byte_in, bytes_of, fault_answer, low_in, text_byte,
+    PENDING, PendingCall, WRONG_CALL, byte_in, bytes_of, fault_answer, fault_length, low_in,
+    text_byte,
 };
 use script_text::ScriptFault;
 use std::alloc::Global;
-use std::io::Write;
 use std::mem;
 use world_run::Step;
 
@@ -145,17 +145,10 @@ impl BridgeHandle {
     /// Writes the text of the last fault, and tells how many bytes it has.
     fn fault_length(&mut self) -> u64
         ensures stage { self.new.stage ≡ self.old.stage }
-        ensures told { TextTold self.new.text.items result }
+        ensures told { FaultTold self.new.text.items result }
         ensures call { self.new.call ≡ self.old.call }
     {
-        self.text.clear();
-        let Some(fault) = self.fault else {
-            return 0;
-        };
-        match write!(self.text, "{fault}") {
-            Ok(()) => self.text.len() as u64,
-            Err(_) => fault_answer(ScriptFault::NoMemory),
-        }
+        fault_length(&mut self.text, self.fault)
     }
 
     /// What is asked of the model.

@@ -1,5 +1,5 @@
 -- Answers as numbers (this project's profile).
-use Rattle.std.specs.Prelude.{ℕ, ◌+◌, Option, Some, None}
+use Rattle.std.specs.Prelude.{ℕ, ◌≡◌, ◌⊎◌, ◌+◌, List, length, Option, Some, None}
 use Rattle.script_text.specs.declared.faults.ScriptFault.{ScriptFault}
 use Rattle.script_text.specs.declared.faults.ScriptFault.TheVariants.{Script, Setup, Read, Write, NoMemory}
 
@@ -15,3 +15,7 @@ fault_answer Write = 8589934594
 abbrev pub byte_answer : Option ℕ → ℕ
 byte_answer (Some byte) = byte
 byte_answer None = 4294967296
+
+-- of the text of a fault, how many bytes it has; or memory was refused
+abbrev pub FaultTold : List ℕ → ℕ → Type 0
+FaultTold text answer = (answer ≡ length text) ⊎ (answer ≡ 8589934593)

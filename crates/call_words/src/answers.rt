@@ -1,8 +1,9 @@
 //! Answers as numbers.
 ghost use Rattle.std.specs.Prelude.{◌≡◌, get_or};
-ghost use Rattle.call_words.specs.Answers.{byte_answer, fault_answer};
+ghost use Rattle.call_words.specs.Answers.{FaultTold, byte_answer, fault_answer};
 
 use script_text::ScriptFault;
+use std::io::Write;
 
 /// More words are wanted.
 pub const PENDING: u64 = 17_179_869_184;
@@ -32,6 +33,20 @@ pub fn byte_answer(byte: Option<u8>) -> u64
     match byte {
         Some(byte) => u64::from(byte),
         None => NO_BYTE,
+    }
+}
+
+/// Writes the text of a fault, as far as there is one, and tells how many bytes it has.
+pub fn fault_length(text: &mut Vec<u8>, fault: Option<ScriptFault>) -> u64
+    ensures { FaultTold text.new.items result }
+{
+    text.clear();
+    let Some(fault) = fault else {
+        return 0;
+    };
+    match write!(text, "{fault}") {
+        Ok(()) => text.len() as u64,
+        Err(_) => fault_answer(ScriptFault::NoMemory),
     }
 }
 

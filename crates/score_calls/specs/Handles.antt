@@ -1,6 +1,6 @@
 -- What lies behind a handle, and what a call does there (this project's profile).
-use Rattle.std.specs.Prelude.{ℕ, ◌≡◌, ◌⊎◌, ◌/◌, Bool, true, false, List, get_or, length, Option, Some, None, Result, Ok, Err}
-use Rattle.call_words.specs.Answers.{byte_answer, fault_answer}
+use Rattle.std.specs.Prelude.{ℕ, ◌≡◌, ◌⊎◌, ◌/◌, Bool, true, false, List, [], get_or, length, Option, Some, None, Result, Ok, Err}
+use Rattle.call_words.specs.Answers.{FaultTold, byte_answer, fault_answer}
 use Rattle.call_words.specs.CallWords.{byte_in, bytes_of, low_in}
 use Rattle.call_words.specs.PendingCalls.{is_whole, taken}
 use Rattle.score_calls.specs.Answers.{answer_of}
@@ -103,7 +103,7 @@ asked_in _ called head = 8589934595
 abbrev pub TextTold : Stage → List ℕ → ℕ → Type 0
 TextTold (Judging seen) text answer =
     ((text ≡ observing_text (observing_of seen)) × (answer ≡ length text)) ⊎ (answer ≡ 8589934593)
-TextTold _ text answer = answer ≡ 8589934595
+TextTold _ text answer = (text ≡ []) × (answer ≡ 8589934595)
 
 -- ---- a call
 
@@ -111,9 +111,9 @@ TextTold _ text answer = answer ≡ 8589934595
 abbrev pub OtherDone : CallKind → ℕ → List ℕ → Stage → List ℕ → Stage → List ℕ → ℕ → Type 0
 OtherDone kind.Line head words old text new next answer = LineDone old (bytes_of words (byte_in (head / 256))) new answer × (next ≡ text)
 OtherDone kind.Begin head words old text new next answer = BeginDone old new answer × (next ≡ text)
-OtherDone kind.Close head words old text new next answer = (new ≡ Closed) × (answer ≡ 0)
+OtherDone kind.Close head words old text new next answer = (new ≡ Closed) × (next ≡ []) × (answer ≡ 0)
 OtherDone kind.TextLength head words old text new next answer = (new ≡ old) × TextTold old next answer
-OtherDone kind.FaultLength head words old text new next answer = new ≡ old
+OtherDone kind.FaultLength head words old text new next answer = (new ≡ old) × FaultTold next answer
 OtherDone kind.TextByte head words old text new next answer = (new ≡ old) × (next ≡ text) × (answer ≡ get_or text (low_in (head / 256)) 0)
 OtherDone called head words old text new next answer = (new ≡ old) × (next ≡ text) × (answer ≡ asked_in old called head)
 

@@ -1,5 +1,6 @@
 //! What lies behind a handle: the set-up or the observation, and the words of a call that hasn't all of them yet.
-ghost use Rattle.std.specs.Prelude.{◌≡◌, ◌/◌};
+ghost use Rattle.std.specs.Prelude.{◌≡◌, ◌/◌, []};
+ghost use Rattle.call_words.specs.Answers.{FaultTold};
 ghost use Rattle.call_words.specs.CallWords.{byte_in, bytes_of};
 ghost use Rattle.call_words.specs.PendingCalls.{no_call};
 ghost use Rattle.score_calls.specs.Answers.{answer_of};
@@ -10,13 +11,12 @@ use crate::answers::answer_of;
 use crate::calls::command_in;
 use crate::words::{CallKind, kind_of, words_wanted};
 use call_words::{
-    PENDING, PendingCall, WRONG_CALL, byte_answer, byte_in, bytes_of, fault_answer, low_in,
-    text_byte,
+    PENDING, PendingCall, WRONG_CALL, byte_answer, byte_in, bytes_of, fault_answer, fault_length,
+    low_in, text_byte,
 };
 use score_script::{Command, Observation, SetUp};
 use script_text::ScriptFault;
 use std::alloc::Global;
-use std::io::Write;
 use std::mem;
 
 /// How far it has come.
@@ -45,6 +45,7 @@ impl Handle {
     pub fn new(alloc: Global) -> Handle
         ensures stage { result.stage ≡ SettingUp no_line }
         ensures call { result.call ≡ no_call }
+        ensures text { result.text.items ≡ [] }
     {
         Handle {
             alloc,
@@ -125,6 +126,7 @@ impl Handle {
     fn close(&mut self) -> u64
         ensures stage { self.new.stage ≡ Closed }
         ensures answer { result ≡ 0 }
+        ensures text { self.new.text.items ≡ [] }
         ensures call { self.new.call ≡ self.old.call }
     {
         self.stage = Stage::Closed;
@@ -151,16 +153,10 @@ impl Handle {
     /// The same of the last fault.
     fn fault_length(&mut self) -> u64
         ensures stage { self.new.stage ≡ self.old.stage }
+        ensures told { FaultTold self.new.text.items result }
         ensures call { self.new.call ≡ self.old.call }
     {
-        self.text.clear();
-        let Some(fault) = self.fault else {
-            return 0;
-        };
-        match write!(self.text, "{fault}") {
-            Ok(()) => self.text.len() as u64,
-            Err(_) => fault_answer(ScriptFault::NoMemory),
-        }
+        fault_length(&mut self.text, self.fault)
     }
 
     /// What is asked of the observation.
