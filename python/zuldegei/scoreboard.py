@@ -141,7 +141,7 @@ class Scoreboard:
         self._board: Optional[int] = None
         self._library = library or load()
         status, fault = c_int(), create_string_buffer(256)
-        self._board = self._library.tlscore_new(_bytes_of(setup), byref(status), fault, len(fault))
+        self._board = self._library.tlscore_new(bytes_of(setup), byref(status), fault, len(fault))
         if not self._board:
             raise ScoreboardError(status.value, fault.value.decode())
 
@@ -188,12 +188,12 @@ class Scoreboard:
     def a(self, client: int, opcode: int, size: int, source: int, address: int, mask: int, data: int = 0, param: int = 0,
           corrupt: bool = False, unknown: int = 0) -> Found:  # fmt: skip
         """A beat on channel A; `unknown` has a bit for each lane of the payload that nobody knows."""
-        return self._judged("a", client, opcode, param, size, source, address, mask, _lanes(data), LANES, unknown, corrupt)
+        return self._judged("a", client, opcode, param, size, source, address, mask, lanes_of(data), LANES, unknown, corrupt)
 
     def d(self, client: int, opcode: int, size: int, source: int, data: int = 0, param: int = 0, denied: bool = False,
           corrupt: bool = False, unknown: int = 0) -> Found:  # fmt: skip
         """A beat on channel D."""
-        return self._judged("d", client, opcode, param, size, source, denied, _lanes(data), LANES, unknown, corrupt)
+        return self._judged("d", client, opcode, param, size, source, denied, lanes_of(data), LANES, unknown, corrupt)
 
     def aw(self, id: int, address: int, len: int, size: int, burst: int = 1) -> Found:
         """A write address."""
@@ -201,7 +201,7 @@ class Scoreboard:
 
     def w(self, data: int, strobes: int, last: bool, unknown: int = 0) -> Found:
         """Write data."""
-        return self._judged("w", _lanes(data), LANES, unknown, strobes, last)
+        return self._judged("w", lanes_of(data), LANES, unknown, strobes, last)
 
     def b(self, id: int, resp: int = Response.OKAY) -> Found:
         """A write response."""
@@ -213,7 +213,7 @@ class Scoreboard:
 
     def r(self, id: int, data: int, last: bool, resp: int = Response.OKAY, unknown: int = 0) -> Found:
         """Read data."""
-        return self._judged("r", id, _lanes(data), LANES, unknown, resp, last)
+        return self._judged("r", id, lanes_of(data), LANES, unknown, resp, last)
 
     def unknown(self, channel: int, client: int = 0) -> Found:
         """A beat of which a field other than the payload is x or z."""
@@ -243,7 +243,7 @@ class Scoreboard:
 
     def line(self, line: Text) -> Found:
         """A line as tlscore reads it, without its line feed."""
-        return self._judged("line", _bytes_of(line))
+        return self._judged("line", bytes_of(line))
 
     def byte(self, address: int) -> Optional[int]:
         """The byte at an address of a good page, as the requests that were judged leave it; None outside these pages."""
@@ -261,13 +261,13 @@ class Scoreboard:
         return Judged(judged.value, wrong.value, *due, compared.value, told.value)
 
 
-def _lanes(data: int) -> bytes:
+def lanes_of(data: int) -> bytes:
     """A payload as bytes, the lowest lane first."""
     if data >> 8 * LANES:
         raise ScoreboardError(Error.RANGE)
     return data.to_bytes(LANES, "little")
 
 
-def _bytes_of(text: Text) -> bytes:
+def bytes_of(text: Text) -> bytes:
     """A text for C, where a zero byte would end it: one that no line may have stands for it."""
     return (text if isinstance(text, bytes) else text.encode()).replace(b"\0", b"\1")
