@@ -16,7 +16,7 @@ from typing import Dict, List, Optional, Sequence, Tuple, Union
 
 from . import scoreboard
 from .client import ABeat, BBeat, Burst, DBeat, Offered, RBeat, Reply, WBeat
-from .scoreboard import Error, ScoreboardError, Text, bytes_of, lanes_of
+from .scoreboard import LANES, Error, ScoreboardError, Text, bytes_of
 
 # What a step gave, as zuldegei.h has it, by the words of docs/SCRIPT.md.
 ANSWERS = ("more", "accepted", "notready", "exhausted", "refused", "noclient", "sent", "idle", "done", "nosuch", "already", "b", "r",
@@ -139,8 +139,9 @@ class Bridge:
         _fit(2**32, client, it.opcode, it.param, it.size, it.source, it.address)
         _fit(2**8, it.mask)
         _fit(2, it.corrupt)
-        data = lanes_of(it.payload)
-        answer = self._made("offer", client, it.opcode, it.param, it.size, it.source, it.address, it.mask, data, 8, bool(it.corrupt), number)
+        _fit(2**64, it.payload)
+        data = it.payload.to_bytes(LANES, "little")
+        answer = self._made("offer", client, it.opcode, it.param, it.size, it.source, it.address, it.mask, data, LANES, bool(it.corrupt), number)
         if self.script is not None:
             self._note("a", client, it.opcode, it.param, it.size, it.source, f"{it.address:x} {it.mask:x} {it.payload:x} {int(it.corrupt)}")
         if answer == 1:

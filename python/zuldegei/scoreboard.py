@@ -188,12 +188,12 @@ class Scoreboard:
     def a(self, client: int, opcode: int, size: int, source: int, address: int, mask: int, data: int = 0, param: int = 0,
           corrupt: bool = False, unknown: int = 0) -> Found:  # fmt: skip
         """A beat on channel A; `unknown` has a bit for each lane of the payload that nobody knows."""
-        return self._judged("a", client, opcode, param, size, source, address, mask, lanes_of(data), LANES, unknown, corrupt)
+        return self._judged("a", client, opcode, param, size, source, address, mask, _lanes(data), LANES, unknown, corrupt)
 
     def d(self, client: int, opcode: int, size: int, source: int, data: int = 0, param: int = 0, denied: bool = False,
           corrupt: bool = False, unknown: int = 0) -> Found:  # fmt: skip
         """A beat on channel D."""
-        return self._judged("d", client, opcode, param, size, source, denied, lanes_of(data), LANES, unknown, corrupt)
+        return self._judged("d", client, opcode, param, size, source, denied, _lanes(data), LANES, unknown, corrupt)
 
     def aw(self, id: int, address: int, len: int, size: int, burst: int = 1) -> Found:
         """A write address."""
@@ -201,7 +201,7 @@ class Scoreboard:
 
     def w(self, data: int, strobes: int, last: bool, unknown: int = 0) -> Found:
         """Write data."""
-        return self._judged("w", lanes_of(data), LANES, unknown, strobes, last)
+        return self._judged("w", _lanes(data), LANES, unknown, strobes, last)
 
     def b(self, id: int, resp: int = Response.OKAY) -> Found:
         """A write response."""
@@ -213,7 +213,7 @@ class Scoreboard:
 
     def r(self, id: int, data: int, last: bool, resp: int = Response.OKAY, unknown: int = 0) -> Found:
         """Read data."""
-        return self._judged("r", id, lanes_of(data), LANES, unknown, resp, last)
+        return self._judged("r", id, _lanes(data), LANES, unknown, resp, last)
 
     def unknown(self, channel: int, client: int = 0) -> Found:
         """A beat of which a field other than the payload is x or z."""
@@ -261,7 +261,7 @@ class Scoreboard:
         return Judged(judged.value, wrong.value, *due, compared.value, told.value)
 
 
-def lanes_of(data: int) -> bytes:
+def _lanes(data: int) -> bytes:
     """A payload as bytes, the lowest lane first."""
     if data >> 8 * LANES:
         raise ScoreboardError(Error.RANGE)
