@@ -158,7 +158,8 @@ static void pump(tlbridge *bridge) {
         printf("= %s\n", ANSWERS[answer]);
         return;
     }
-    printf("= sent %" PRIu64 "\n%s %u %08" PRIx64 " %u %u %u\n", it.serial, it.is_write ? "AW" : "AR", it.id, it.address, it.len, it.size, it.burst);
+    printf("= sent %" PRIu64 "\n%s %u ", it.serial, it.is_write ? "AW" : "AR", it.id);
+    printf("%08" PRIx64 " %u %u %u\n", it.address, it.len, it.size, it.burst);
     for (unsigned k = 0; k < it.w_beats; k++) {
         sure(tlbridge_sent_w(bridge, k, &beat) == TLBRIDGE_OK, "a W beat isn't there");
         printf("W %016" PRIx64 " %02x %u\n", payload_of(beat.data), beat.strobes, beat.last);

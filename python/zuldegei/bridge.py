@@ -140,13 +140,14 @@ class Bridge:
         _fit(2**8, it.mask)
         _fit(2, it.corrupt)
         _fit(2**64, it.payload)
+        fields = client, it.opcode, it.param, it.size, it.source
         data = it.payload.to_bytes(LANES, "little")
-        answer = self._made("offer", client, it.opcode, it.param, it.size, it.source, it.address, it.mask, data, LANES, bool(it.corrupt), number)
+        answer = ANSWERS[self._made("offer", *fields, it.address, it.mask, data, LANES, bool(it.corrupt), number)]
         if self.script is not None:
-            self._note("a", client, it.opcode, it.param, it.size, it.source, f"{it.address:x} {it.mask:x} {it.payload:x} {int(it.corrupt)}")
-        if answer == 1:
-            return Offered("accepted", number=number.value)
-        return Offered("refused", rule=RULES[number.value]) if answer == 4 else Offered(ANSWERS[answer])
+            self._note("a", *fields, f"{it.address:x} {it.mask:x} {it.payload:x} {int(it.corrupt)}")
+        if answer == "accepted":
+            return Offered(answer, number=number.value)
+        return Offered(answer, rule=RULES[number.value]) if answer == "refused" else Offered(answer)
 
     def pump(self) -> Optional[Burst]:
         """The burst that the bridge sends, or None."""
