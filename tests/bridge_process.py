@@ -188,6 +188,18 @@ def watched(folder, library):
             yield f"{name}, under AddressSanitizer", started([program, "choices"], given).wrong(*wanted)
 
 
+def example(folder, library):
+    """The example as C and as C++, which ends as interfaces/README.md shows (tests/page_commands.py)."""
+    for name, compiler, standard, flags in (("C", c_compiler(), "-std=c99", []), ("C++", "c++", "-std=c++11", ["-x", "c++"])):
+        if not shutil.which(compiler):
+            print(f"skipped: the example of the model as {name}, as there is no compiler of it")
+            continue
+        built, why = compile_c(f"example-{name}", C / "example_bridge.c", "-Wpedantic", *flags, folder=folder, library=library,
+                               compiler=compiler, standard=standard)
+        ran = None if why else started([built], b"")
+        yield f"the example as {name}", why or (None if ran.status == 0 and b"11 22 33 44 55 66 77 88\n" in ran.text else f"{ran}")
+
+
 def cases(asked):
     if not c_compiler():
         print("skipped: the model in the process of a test, as there is no C compiler")
@@ -201,6 +213,7 @@ def cases(asked):
     library = scoreboard.load(folder / "libzuldegei.so")
     with tempfile.TemporaryDirectory() as room:
         program = compiled("bridge_process", TOP / "tests/bridge_process.c", folder=Path(room), library=folder)
+        yield from example(Path(room), folder)
         yield from carried_out(program)
         yield from wrong_calls(Path(room), folder)
         yield from watched(Path(room), folder)
