@@ -107,6 +107,8 @@ def tried(bench: Bench, program: Path, given: argparse.Namespace) -> Iterator[Ca
             if bench.predicts and asked.profile == "bridge":
                 yield f"{bench.name}, seed {seed}, predicted", predicted_wrong(bench, program, seed, text, judged)
     for profile, count in wrong.items():
+        if bench.bug in HIDDEN:
+            print(f"{bench.name}, by profile {profile}: {count} of {given.seeds} runs are wrong", flush=True)
         is_right = bench.bug == run.RIGHT or bench.order == 0 or bench.bug in BY_ORDER_ALONE and profile == "tilelink"
         yield f"{bench.name}, by profile {profile}", None if bool(count) != is_right else f"{count} of {given.seeds} runs are wrong"
 
