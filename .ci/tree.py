@@ -61,7 +61,7 @@ pythondir=${{prefix}}/share/zuldegei/python
 examplesdir=${{prefix}}/share/doc/zuldegei/examples
 
 Name: zuldegei
-Description: The scoreboard of tlscore in the process of a test, for the ports of a TileLink to AXI4 bridge
+Description: The scoreboard and the model of a TileLink to AXI4 bridge, in the process of a test
 Version: {version}
 Libs: -L${{libdir}} -lzuldegei
 Cflags: -I${{includedir}}

@@ -151,7 +151,7 @@ def example(folder, library):
         if not shutil.which(compiler):
             print(f"skipped: the example as {name}, as there is no compiler of it")
             continue
-        for source in (C / "zuldegei.h", C / "zuldegei.c"):
+        for source in (*C.glob("*.h"), C / "zuldegei.c", C / "tlbridge.c"):
             words = [compiler, standard, *STRICT, "-Wpedantic", *(flags or ["-x", "c"]), "-c", str(source), "-o", os.devnull]
             ran = subprocess.run(words, capture_output=True, text=True, check=False)
             yield f"{source.name} as {name}", ran.stderr[-500:] or None
@@ -170,7 +170,7 @@ def example(folder, library):
 
 def declared():
     """The calls that zuldegei.h declares."""
-    return set(re.findall(r"(?m)^\w[\w *]*?\b(tlscore_\w+)\(", (C / "zuldegei.h").read_text()))
+    return set(re.findall(r"(?m)^\w[\w *]*?\b(tl(?:score|bridge)_\w+)\(", (C / "zuldegei.h").read_text()))
 
 
 def shown(library):

@@ -296,7 +296,7 @@ def answers(program, commands):
 
 def bench(program, seed, steps):
     with client.Interactive([program, "run"]) as bridge:
-        return random_bench.tried(bridge, seed, steps)
+        return random_bench.tried(random_bench.Bench(bridge, seed), steps)
 
 
 def of_pipes(program):

@@ -1,6 +1,6 @@
 /* Plays an observation, as tlscore reads it, at the ports of the monitor of interfaces/systemc, and prints what it reports: the beats
-   behind a line `time T` pass in the clock at T ns, and behind `= reset` reset is high for a clock. Lines `= end` end it. For
-   tests/systemc.py. */
+   behind a line `time T` pass in the clock at T ns, and behind `= reset` reset is high for a clock. Lines `= end` end it. With the word
+   `predicts` the predictor has the wires in place of the monitor. For tests/systemc.py. */
 #include "zuldegei_systemc.h"
 
 #include <iostream>
@@ -34,7 +34,7 @@ struct Wires {
     }
 };
 
-static void bind(zuldegei::Monitor &to, Wires &wires) {
+static void bind_tilelink(zuldegei::TileLink &to, Wires &wires) {
     to.clock(wires.bit("clock")), to.reset(wires.bit("reset"));
     for (unsigned i = 0; i < CLIENTS; i++) {
         const std::string a = "A" + std::to_string(i), d = "D" + std::to_string(i);
@@ -46,6 +46,10 @@ static void bind(zuldegei::Monitor &to, Wires &wires) {
         to.d_param[i](wires.word(d + "param")), to.d_size[i](wires.word(d + "size")), to.d_source[i](wires.word(d + "source"));
         to.d_denied[i](wires.bit(d + "denied")), to.d_data[i](wires.payload(d)), to.d_corrupt[i](wires.bit(d + "corrupt"));
     }
+}
+
+static void bind(zuldegei::Monitor &to, Wires &wires) {
+    bind_tilelink(to, wires);
     to.aw_valid(wires.bit("AW")), to.aw_ready(wires.bit("high")), to.aw_id(wires.word("AWid")), to.aw_addr(wires.word("AWaddr"));
     to.aw_len(wires.word("AWlen")), to.aw_size(wires.word("AWsize")), to.aw_burst(wires.word("AWburst"));
     to.w_valid(wires.bit("W")), to.w_ready(wires.bit("high")), to.w_data(wires.payload("W")), to.w_strb(wires.word("Wstrb"));
@@ -66,11 +70,12 @@ static uint64_t number(std::istringstream &words, int base) {
     return std::stoull(word, nullptr, base);
 }
 
-/* Puts a beat on its wires, and its valid high. */
+/* Puts a beat on its wires, and its valid high; where the port isn't there, nothing. */
 static void put(Wires &wires, std::string channel, std::istringstream &words) {
     auto word = [&](const char *field, int base = 10) { wires.word(channel + field).write(uint32_t(number(words, base))); };
     auto payload = [&] { wires.payload(channel).write(number(words, 16)); };
     auto bit = [&](const char *field) { wires.bit(channel + field).write(number(words, 10) != 0); };
+    if (!wires.bits.count(channel == "A" || channel == "D" ? channel + "0" : channel)) return;
     if (channel == "A" || channel == "D") {
         channel += std::to_string(number(words, 10));
         word("opcode"), word("param"), word("size"), word("source");
@@ -114,20 +119,34 @@ static bool play(Wires &wires, std::string line) {
     return false;
 }
 
-int sc_main(int count, char **) {
+/* Plays all behind a reset, and tells how much was judged and how much was wrong. */
+static void run(Wires &wires, const std::string &setup, const std::string &line, bool predicts) {
+    wires.bit("high").write(true);
+    wires.bit("reset").write(true);
+    if (predicts) {
+        zuldegei::Predictor predictor("predictor", CLIENTS, setup);
+        bind_tilelink(predictor, wires);
+        edge(wires, 2);
+        if (play(wires, line)) predictor.finish();
+        std::cout << "compared " << predictor.compared() << " wrong " << predictor.wrong() << "\n";
+        return;
+    }
+    zuldegei::Monitor monitor("monitor", CLIENTS, setup);
+    bind(monitor, wires);
+    edge(wires, 2);
+    if (play(wires, line)) monitor.finish();
+    std::cout << "judged " << monitor.judged() << " wrong " << monitor.wrong() << "\n";
+}
+
+int sc_main(int count, char **given) {
+    const std::string word = count > 1 ? given[1] : "";
     sc_set_time_resolution(1, SC_NS);
-    if (count == 1) sc_report_handler::set_actions("zuldegei", SC_ERROR, SC_DISPLAY);
+    if (word != "stops") sc_report_handler::set_actions("zuldegei", SC_ERROR, SC_DISPLAY);
     std::string setup, line;
     while (std::getline(std::cin, line) && line.compare(0, 5, "time ") != 0) setup += line + "\n";
     Wires wires;
     try {
-        zuldegei::Monitor monitor("monitor", CLIENTS, setup);
-        bind(monitor, wires);
-        wires.bit("high").write(true);
-        wires.bit("reset").write(true);
-        edge(wires, 2);
-        if (play(wires, line)) monitor.finish();
-        std::cout << "judged " << monitor.judged() << " wrong " << monitor.wrong() << "\n";
+        run(wires, setup, line, word == "predicts");
     } catch (const sc_report &report) {
         std::cout << "stopped: " << report.get_msg() << "\n";
         return 1;

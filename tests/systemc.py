@@ -1,6 +1,7 @@
-"""The monitor in SystemC, interfaces/systemc, beside tlscore: stored runs of examples/testbench/rtl, by both profiles, and some
-more are played at its ports. What it reports, and when it stops, has to be what tlscore finds wrong of the same lines. The
-example has to end as its page says. Where SystemC isn't installed that is said, and nothing is tried.
+"""The monitor and the predictor in SystemC, interfaces/systemc, beside tlscore: stored runs of examples/testbench/rtl, by both profiles,
+and some more are played at their ports. What the monitor reports, and when it stops, has to be what tlscore finds wrong of the same
+lines; the predictor has to find the first wrong reply of them at its time. The example has to end as its page says. Where SystemC isn't
+installed that is said, and nothing is tried.
 
     python3 tests/systemc.py TLSCORE LIBRARY
 """
@@ -18,6 +19,9 @@ from ends import told
 TOP = Path(__file__).resolve().parent.parent
 RUNS = TOP / "examples/testbench/rtl/runs"
 REPORTED = re.compile(r"(?m)^Error: (?:\(\w+\) )?zuldegei: (= wrong .*(?:\n= wrong .*)*)$")
+FORETOLD = re.compile(r"(?m)^Error: (?:\(\w+\) )?zuldegei: D .*\nIn file: .*\nIn process: .* @ (\d+) ns$")
+# A reply that is wrong by itself; one that stops short or is missing shows only at the end.
+REPLY = re.compile(r"(?m)^= wrong \d+ reply [13-8] .* at (\d+)$")
 COUNTED = re.compile(r"(?m)^judged (\d+) wrong (\d+)$")
 SETUP = "config 2 4 16 2 16 12 hh\nregion 0 4 10 gpah\npage 10 4 good\n"
 PUT, AW, W = "A 0 0 0 3 5 00000008 ff 1122334455667788 0\n", "AW 0 00010008 0 3 1\n", "W 1122334455667788 ff 1\n"
@@ -81,6 +85,16 @@ def difference(program: Path, tlscore: str, given: str, lines: str) -> Optional[
     return None
 
 
+def foretold(program: Path, told_of: str, lines: str) -> Optional[str]:
+    """How the predictor doesn't find the first wrong reply of an observation, by profile bridge, at its time."""
+    given = re.sub(r"(?m)^(profile|axi|errors) .*\n", "", in_turn(lines))
+    ran = subprocess.run([program, "predicts"], input=given, capture_output=True, text=True, check=False)
+    got, due = FORETOLD.findall(ran.stdout), REPLY.findall(told_of)
+    if "compared " not in ran.stdout:
+        return f"it ends with {ran.stdout[-200:]!r}"
+    return None if got[:1] == due[:1] else f"the first wrong reply is at {got[:1]}, and not at {due[:1]}"
+
+
 def in_turn(lines: str) -> str:
     """An observation in order of time: its lines have a W beat that came before its AW behind that, with the beat's own time."""
     setup, *clocks = re.split(r"(?m)^(?=time )", lines.replace(END, ""))
@@ -114,7 +128,7 @@ def runs() -> Iterator[Tuple[str, str, str]]:
 
 def cases(tlscore: str, library: Path) -> Iterator[Case]:
     if not shutil.which("g++") or not Path("/usr/include/systemc").exists():
-        print("skipped: the monitor in SystemC, as libsystemc-dev isn't installed")
+        print("skipped: the monitor and the predictor in SystemC, as libsystemc-dev isn't installed")
         return
     if not (library / "libzuldegei.a").is_file():
         yield "the library", f"{library} has no libzuldegei.a; interfaces/build makes it"
@@ -127,6 +141,9 @@ def cases(tlscore: str, library: Path) -> Iterator[Case]:
         for name, given, lines in (*runs(), *by_hand):
             yield name, difference(player, tlscore, given, lines)
             found += bool(judged(tlscore, lines)[0])
+        for name, _, lines in runs():
+            if name.endswith("profile bridge"):
+                yield f"{name}, predicted", foretold(player, "\n".join(judged(tlscore, lines)[0]), lines)
         yield "most runs are wrong", None if found > 20 else f"{found} are"
         for words, (status, text) in EXAMPLE.items():
             ran = subprocess.run([example, *words], capture_output=True, text=True, check=False)

@@ -1,7 +1,9 @@
 """Two clients with a random schedule. Each reply, and the memory at the end, is compared with a plain model, which carries
 out the requests whole, one at a time, in the order in which they were accepted.
 
-    python3 examples/testbench/random_bench.py [--steps N] [SEED]
+    python3 examples/testbench/random_bench.py [--steps N] [--in-process] [SEED]
+
+With --in-process the model is that of the library (interfaces/README.md), and else the program's. Both give the same.
 """
 
 import argparse
@@ -109,7 +111,7 @@ class Bench:
     """What the two sides of the bridge know: the requests under way, and the beats of bursts that are still to be performed."""
 
     def __init__(self, bridge, seed):
-        self.bridge, self.rng, self.model = bridge, random.Random(seed), Model()
+        self.bridge, self.seed, self.rng, self.model = bridge, seed, random.Random(seed), Model()
         self.offered = [[] for _ in range(CLIENTS)]  # the beats of a client's request, and how many of them were taken
         self.taken = [0] * CLIENTS
         self.wanted = {}  # the replies that are still to come, by number
@@ -193,14 +195,23 @@ def check(is_well, why):
         raise Wrong(why)
 
 
-def tried(bridge, seed, steps):
-    """Runs the bench, and tells in one line what was wrong, or nothing."""
-    bench = Bench(bridge, seed)
+def tried(bench, steps):
+    """Runs a bench, and tells in one line what was wrong, or nothing."""
     try:
         bench.run(steps)
     except (Wrong, Ended, TimeoutError) as why:
-        return f"seed {seed}, line {len(bridge.script)}, `{bridge.script[-1]}`: {why}"
-    return None if bench.replied else f"seed {seed}: no request had a reply"
+        script = bench.bridge.script
+        return f"seed {bench.seed}{f', line {len(script)}, `{script[-1]}`' if script else ''}: {why}"
+    return None if bench.replied else f"seed {bench.seed}: no request had a reply"
+
+
+def bridge_of(given):
+    """A bridge without a set-up, which keeps its script."""
+    if given.in_process:
+        from zuldegei import Bridge
+
+        return Bridge(keeps=True)
+    return Interactive([given.program, "run"])
 
 
 def main():
@@ -208,14 +219,15 @@ def main():
     words.add_argument("seed", nargs="?", type=int, default=0)
     words.add_argument("--steps", type=int, default=1_000)
     words.add_argument("--program", default="./tlbridge")
+    words.add_argument("--in-process", action="store_true", help="the model of the library, in this process")
     given = words.parse_args()
-    with Interactive([given.program, "run"]) as bridge:
-        why = tried(bridge, given.seed, given.steps)
+    with bridge_of(given) as bridge:
+        bench = Bench(bridge, given.seed)
+        why = tried(bench, given.steps)
         if why:
             print("\n".join(bridge.script))
             sys.exit(why)
-        replies = sum(it.startswith("= reply") for it in bridge.trace)
-    print(f"seed {given.seed}: {len(bridge.script)} lines, {replies} replies and {ROOM} bytes, all as the model has them")
+    print(f"seed {given.seed}: {len(bridge.script)} lines, {bench.replied} replies and {ROOM} bytes, all as the model has them")
 
 
 if __name__ == "__main__":

@@ -1,9 +1,6 @@
 /* The calls of zuldegei.h, each as the words of calls that the proved library takes: crates/score_calls has what they mean. It keeps
    nothing of its own: a board is where the library's own value lies. */
-#include "zuldegei.h"
-
-#include <stdlib.h>
-#include <string.h>
+#include "calls.h"
 
 /* The proved library. */
 #ifdef __cplusplus
@@ -21,32 +18,10 @@ enum {
     JUDGED, WRONG, TOLD, COMPARED, BYTE
 };
 
-/* The most bytes of a line, and of a filling. */
-enum { LINE_BYTES = 128, FILL_BYTES = 32 };
+/* The most bytes of a filling. */
+enum { FILL_BYTES = 32 };
 
-/* Its answers that are no verdicts. */
-static const uint64_t WORD_FAULT = UINT64_C(1) << 32, REFUSED = UINT64_C(1) << 33;
-
-static int status_of(uint64_t answer) {
-    if (answer < WORD_FAULT) return (int)answer;
-    if (answer < REFUSED) return TLSCORE_WORD - (int)(answer - WORD_FAULT);
-    if (answer == REFUSED) return TLSCORE_SETUP;
-    return answer == REFUSED + 1 ? TLSCORE_MEMORY : TLSCORE_RANGE;
-}
-
-/* Eight bytes from a place on, the first the lowest, with zeros behind the last. */
-static uint64_t word_of(const void *bytes, size_t length, size_t place) {
-    const uint8_t *from = (const uint8_t *)bytes;
-    uint64_t word = 0;
-    for (size_t k = 0; k < 8 && place + k < length; k++) word |= (uint64_t)from[place + k] << 8 * k;
-    return word;
-}
-
-/* A number that is known to fit, as the byte of a head at a place. */
-static uint64_t byte_at(unsigned place, uint64_t number) { return number << 8 * place; }
-
-/* Whether all are bytes. */
-static bool are_bytes(unsigned a, unsigned b, unsigned c, unsigned d, unsigned e) { return (a | b | c | d | e) < 256; }
+static const handle_calls BOARD = {tlscore_open, tlscore_call, LINE, BEGIN, CLOSE, FAULT_LENGTH, TEXT_BYTE};
 
 /* A call of a head alone. */
 static int alone(tlscore *board, uint64_t head) { return board ? status_of(tlscore_call(board, head)) : TLSCORE_NULL; }
@@ -57,35 +32,10 @@ static int with_word(tlscore *board, uint64_t head, uint64_t word) {
     return status_of(tlscore_call(board, word));
 }
 
-/* A call of a head and bytes by eights. */
-static int with_bytes(tlscore *board, uint64_t head, const void *bytes, size_t length) {
-    uint64_t answer = tlscore_call(board, head | byte_at(1, length));
-    for (size_t place = 0; place < length; place += 8) answer = tlscore_call(board, word_of(bytes, length, place));
-    return status_of(answer);
-}
-
-/* A line of a length. One that is too long has no words, as one with a byte that no line may have. */
-static int with_line(tlscore *board, const char *line, size_t length) {
-    if (length == LINE_BYTES + 1 && line[length - 1] == '\r' && line[length - 2] != '\r') length--;
-    return length > LINE_BYTES ? with_bytes(board, LINE, "\001", 1) : with_bytes(board, LINE, line, length);
-}
-
 /* What is wrong with a call that has a payload, of which so many bytes may be given. LANES has the lanes that it names. */
 static int wrong_data(const tlscore *board, const uint8_t *data, size_t length, bool may, uint64_t lanes) {
     if (!board || (!data && length)) return TLSCORE_NULL;
     return (length != 8 && !may) || lanes >> length ? TLSCORE_RANGE : 0;
-}
-
-/* A text of the board, by the call that makes it. */
-static int64_t text_by(tlscore *board, uint64_t head, char *text, size_t room) {
-    if (!board || (!text && room)) return TLSCORE_NULL;
-    if (room) text[0] = 0;
-    uint64_t length = tlscore_call(board, head);
-    if (length >= WORD_FAULT) return status_of(length);
-    size_t shown = length < room ? (size_t)length : room ? room - 1 : 0;
-    for (size_t place = 0; place < shown; place++) text[place] = (char)(tlscore_call(board, TEXT_BYTE | byte_at(1, place)) & 255);
-    if (room) text[shown] = 0;
-    return (int64_t)length;
 }
 
 /* A number that is asked for. */
@@ -104,42 +54,11 @@ static int counts_of(tlscore *board, uint64_t head, uint64_t *first, uint64_t ot
 
 const char *tlscore_version(void) { return ZULDEGEI_VERSION; }
 
-/* Each line of a set-up, and then its end. */
-static int set_up(tlscore *board, const char *setup) {
-    while (*setup) {
-        size_t length = strcspn(setup, "\n");
-        int status = with_line(board, setup, length);
-        if (status) return status;
-        setup += length + (setup[length] == '\n');
-    }
-    return alone(board, BEGIN);
-}
-
-/* What tlscore prints of a set-up that ended so. It is told without the library where memory was refused. */
-static void tell_fault(tlscore *board, int ended, char *fault, size_t room) {
-    static const char no_memory[] = "out of memory";
-    fault[0] = 0;
-    if (ended == TLSCORE_MEMORY) strncat(fault, no_memory, room - 1);
-    else if (ended && board) tlscore_fault(board, fault, room);
-}
-
 tlscore *tlscore_new(const char *setup, int *status, char *fault, size_t room) {
-    void *at = NULL;
-    int ended = !setup || (room && !fault) ? TLSCORE_NULL : tlscore_open(&at) ? 0 : TLSCORE_MEMORY;
-    tlscore *board = (tlscore *)at;
-    if (board) ended = set_up(board, setup);
-    if (status) *status = ended;
-    if (room && fault) tell_fault(board, ended, fault, room);
-    if (!ended) return board;
-    tlscore_free(board);
-    return NULL;
+    return (tlscore *)opened(&BOARD, setup, status, fault, room);
 }
 
-void tlscore_free(tlscore *board) {
-    if (!board) return;
-    tlscore_call(board, CLOSE);
-    free(board); /* the library took it by malloc, and holds nothing of it any more */
-}
+void tlscore_free(tlscore *board) { give_back(&BOARD, board); }
 
 int tlscore_a(tlscore *board, unsigned client, unsigned opcode, unsigned param, unsigned size, unsigned source, uint64_t address,
               uint64_t mask, const uint8_t *data, size_t length, uint64_t unknown, bool corrupt) {
@@ -203,17 +122,20 @@ int tlscore_unknown(tlscore *board, unsigned channel, unsigned client) {
 int tlscore_fill(tlscore *board, uint64_t address, const uint8_t *bytes, size_t length) {
     if (!board || !bytes) return TLSCORE_NULL;
     if (!length || length > FILL_BYTES || address > UINT32_MAX) return TLSCORE_RANGE;
-    return with_bytes(board, FILL | address << 32, bytes, length);
+    return with_bytes(&BOARD, board, FILL | address << 32, bytes, length);
 }
 
 int tlscore_time(tlscore *board, uint64_t time) { return board ? with_word(board, TIME, time) : TLSCORE_NULL; }
 int tlscore_drained(tlscore *board) { return alone(board, DRAINED); }
 int tlscore_reset(tlscore *board) { return alone(board, RESET); }
 int tlscore_end(tlscore *board) { return alone(board, END); }
-int tlscore_line(tlscore *board, const char *line) { return board && line ? with_line(board, line, strlen(line)) : TLSCORE_NULL; }
 
-int64_t tlscore_text(tlscore *board, char *text, size_t room) { return text_by(board, TEXT_LENGTH, text, room); }
-int64_t tlscore_fault(tlscore *board, char *text, size_t room) { return text_by(board, FAULT_LENGTH, text, room); }
+int tlscore_line(tlscore *board, const char *line) {
+    return board && line ? with_line(&BOARD, board, line, strlen(line)) : TLSCORE_NULL;
+}
+
+int64_t tlscore_text(tlscore *board, char *text, size_t room) { return text_by(&BOARD, board, TEXT_LENGTH, text, room); }
+int64_t tlscore_fault(tlscore *board, char *text, size_t room) { return text_by(&BOARD, board, FAULT_LENGTH, text, room); }
 int64_t tlscore_outstanding(tlscore *board) { return count_of(board, OUTSTANDING); }
 int64_t tlscore_open_bursts(tlscore *board) { return count_of(board, OPEN_BURSTS); }
 

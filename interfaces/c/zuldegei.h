@@ -1,5 +1,7 @@
-/* The scoreboard of tlscore in the process of a test: what was observed at the ports of a bridge goes in beat by beat, and each
-   call answers at once whether its beat can be right. docs/SCOREBOARD.md says what is judged, and what the verdicts mean.
+/* Two parts of zuldegei in the process of a test: the scoreboard of tlscore, and behind it ("The model") the model of tlbridge.
+
+   The scoreboard: what was observed at the ports of a bridge goes in beat by beat, and each call answers at once whether its beat can be
+   right. docs/SCOREBOARD.md says what is judged, and what the verdicts mean.
 
    The answer of a call that judges is TLSCORE_OK where nothing is wrong; above 0 what was found (enum tlscore_verdict); and below 0
    why nothing was done (enum tlscore_error), which is no verdict. Where a call finds more than one thing, the answer is the first, and
@@ -9,10 +11,10 @@
    TLSCORE_MEMORY of tlscore_a the beat on channel A that an earlier tlscore_line holds may have been judged; then tlscore_judged counts
    it, and tlscore_text has what was found of it.
 
-   Nothing checks what the caller has to keep:
-   - A board is what tlscore_new gave, and tlscore_free wasn't given it yet.
-   - One thread at a time uses a board, also to ask: no call leaves it untouched, so none takes it as const. Different boards may be used
-     by different threads at the same time; there may be any number of boards, and they share nothing.
+   Nothing checks what the caller has to keep, here and of the model:
+   - A board is what tlscore_new gave, and tlscore_free wasn't given it yet; a bridge is what tlbridge_new gave, in the same way.
+   - One thread at a time uses a board or a bridge, also to ask: no call leaves it untouched, so none takes it as const. Different ones
+     may be used by different threads at the same time; there may be any number of them, and they share nothing.
    - No call is made from a signal handler, nor in the forked child of a process with threads.
    - A text ends in a zero byte; an array is as long as is said with it, and none that is written overlaps another.
    - malloc, realloc and free are those of one allocator.
@@ -133,6 +135,131 @@ int tlscore_compared(tlscore *board, uint64_t *compared, uint64_t *told);
 
 /* The byte at an address, as the requests that were judged leave it, or TLSCORE_NO_BYTE. */
 int tlscore_byte(tlscore *board, uint64_t address);
+
+/* ==== The model: a bridge and the memory behind it, one step at a time, as `tlbridge run` carries out a script (docs/SCRIPT.md,
+   "Commands of run"). The caller plays the clients, and says when the bridge sends a burst and when and in which order the memory
+   performs and answers it; or has that done by tlbridge_drain. Whatever it says, replies and memory are those of the accepted requests
+   carried out one at a time, in order of acceptance (docs/ORDERING.md). There is no limit of steps.
+
+   The answer of a call that makes a step is what the step gave (enum tlbridge_answer), and below 0 why none was made (enum
+   tlbridge_error), which changes nothing. What else a step gives it writes through pointers: each of them may be null, and nothing is
+   written where the answer isn't the one that it belongs to. Behind tlbridge_new no call takes memory. */
+
+/* A bridge, the memory behind it, and all that is under way between them. */
+typedef struct tlbridge tlbridge;
+
+/* What a step gave. */
+enum tlbridge_answer {
+    TLBRIDGE_MORE,      /* the beat was taken, and more beats of its message are to come */
+    TLBRIDGE_ACCEPTED,  /* it was the last: its request is accepted under a number, counted from 0 over all clients */
+    TLBRIDGE_NOT_READY, /* it would complete a request, and the client has its quota of live ones: it may be offered again */
+    TLBRIDGE_EXHAUSTED, /* it would complete a request, and 2^48 were accepted */
+    TLBRIDGE_REFUSED,   /* it breaks a rule of channel A, from 1 OPCODE to 10 BURST_CONTROL (docs/RULES.md), and isn't taken */
+    TLBRIDGE_NO_CLIENT, /* there is no such client */
+    TLBRIDGE_SENT,      /* a burst was sent */
+    TLBRIDGE_IDLE,      /* no request is ready to send a burst */
+    TLBRIDGE_DONE,      /* the beat was performed */
+    TLBRIDGE_NO_SUCH,   /* no open burst has that serial and beat */
+    TLBRIDGE_ALREADY,   /* the beat was performed before */
+    TLBRIDGE_B,         /* the B of a write was given */
+    TLBRIDGE_R,         /* an R was given */
+    TLBRIDGE_NOTHING,   /* the ID may give no answer now; or none of the client's requests is done */
+    TLBRIDGE_REPLY      /* the client took a reply */
+};
+
+/* Why a call did nothing; and TLBRIDGE_OK of a call that makes no step. */
+enum tlbridge_error {
+    TLBRIDGE_OK = 0,       /* it has done what it is for */
+    TLBRIDGE_NULL = -1,    /* a pointer is null that may not be */
+    TLBRIDGE_RANGE = -2,   /* a field is out of its range, or there is no such beat or step */
+    TLBRIDGE_MEMORY = -3,  /* memory was refused */
+    TLBRIDGE_SETUP = -4,   /* the set-up is refused as a whole */
+    TLBRIDGE_NO_BYTE = -5, /* the address lies on no good page */
+    TLBRIDGE_WORD = -1000  /* a line of the set-up is at fault: this less the number of its first wrong word, 0 being the line as a whole */
+};
+
+/* A burst that the bridge sent: its serial, counted from 0, and its address beat. A write has LEN + 1 beats of W data, a read has none. */
+struct tlbridge_burst {
+    uint64_t serial, address;
+    uint32_t is_write, id, len, size, burst, w_beats;
+};
+
+/* A beat of W data, lane 0 first. */
+struct tlbridge_w {
+    uint8_t data[8];
+    uint32_t strobes, last;
+};
+
+/* A beat of a reply. */
+struct tlbridge_d {
+    uint8_t data[8];
+    uint32_t opcode, param, size, source, denied, corrupt;
+};
+
+/* A step of bridge or memory. PLACE is the beat that is performed, or the ID that answers, or 0; SERIAL is that of the burst whose beat is
+   performed, or 0. */
+struct tlbridge_step {
+    uint64_t serial;
+    uint32_t kind, place;
+};
+
+/* Kinds of these steps. */
+enum tlbridge_kind { TLBRIDGE_PUMP = 1, TLBRIDGE_PERFORM, TLBRIDGE_ANSWER_B, TLBRIDGE_ANSWER_R };
+
+/* A bridge and a memory of zeros. SETUP has the lines of a script of `tlbridge run` that stand ahead of the first command (docs/SCRIPT.md,
+   "Set-up lines"); any other line is at fault at its word 1. All else is as for tlscore_new. */
+tlbridge *tlbridge_new(const char *setup, int *status, char *fault, size_t room);
+
+/* Gives a bridge back, and all that it holds. Of null it does nothing. */
+void tlbridge_free(tlbridge *bridge);
+
+/* ---- The clients. Fields are as on the wires, and an ADDRESS is below 2^32, each other number below 256; else TLBRIDGE_RANGE. DATA are
+   the LENGTH bytes of a payload, lane 0 first: 8, or where the message carries none (opcodes 4 and above) also 0, and DATA may be null. */
+
+/* A client offers a beat on channel A. *NUMBER is that of the request, where it is accepted; and that of the rule, where it is refused. */
+int tlbridge_offer(tlbridge *bridge, unsigned client, unsigned opcode, unsigned param, unsigned size, unsigned source, uint64_t address,
+                   uint64_t mask, const uint8_t *data, size_t length, bool corrupt, uint64_t *number);
+
+/* A client takes a reply: *NUMBER is that of its request, and *BEATS says how many D beats it has. */
+int tlbridge_take(tlbridge *bridge, unsigned client, uint64_t *number, unsigned *beats);
+
+/* D beat K, from 0, of the reply that was taken last, until another is taken. */
+int tlbridge_reply_d(tlbridge *bridge, unsigned k, struct tlbridge_d *beat);
+
+/* ---- Bridge and memory. */
+
+/* The bridge sends a burst, the first of those that are ready. */
+int tlbridge_pump(tlbridge *bridge, struct tlbridge_burst *burst);
+
+/* W beat K, from 0, of the burst that the last step sent; of any other step there is none. */
+int tlbridge_sent_w(tlbridge *bridge, unsigned k, struct tlbridge_w *beat);
+
+/* The memory performs a beat, from 0 to 65,535, of the burst with that serial: it is written, or read. */
+int tlbridge_perform(tlbridge *bridge, uint64_t serial, unsigned beat);
+
+/* The memory gives the B, or the next R, that the ID may give. */
+int tlbridge_answer_b(tlbridge *bridge, unsigned id, unsigned *resp);
+int tlbridge_answer_r(tlbridge *bridge, unsigned id, uint8_t *data, unsigned *resp, bool *last);
+
+/* Bridge and memory make steps while they can without the clients. The answer is how many, or an error. */
+int64_t tlbridge_drain(tlbridge *bridge);
+
+/* How many different steps bridge and memory can make now, without the clients; and step K of these, from 0: the Pump where a request is
+   ready, then beats to perform by rising serial and beat, B by rising ID, and R by rising ID. */
+int64_t tlbridge_choices(tlbridge *bridge);
+int tlbridge_choose(tlbridge *bridge, uint64_t k, struct tlbridge_step *step);
+
+/* Makes such a step. Who wants to know what it gave besides its answer makes it by the call of its kind. */
+int tlbridge_make(tlbridge *bridge, const struct tlbridge_step *step);
+
+/* ---- What can be asked. */
+
+/* The byte of the memory at an AXI address, or TLBRIDGE_NO_BYTE. */
+int tlbridge_byte(tlbridge *bridge, uint64_t address);
+
+/* How many steps of a drain are left, and how many accepted requests aren't done. */
+int64_t tlbridge_work(tlbridge *bridge);
+int64_t tlbridge_in_flight(tlbridge *bridge);
 
 #ifdef __cplusplus
 }

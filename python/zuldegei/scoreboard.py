@@ -141,7 +141,7 @@ class Scoreboard:
         self._board: Optional[int] = None
         self._library = library or load()
         status, fault = c_int(), create_string_buffer(256)
-        self._board = self._library.tlscore_new(_bytes_of(setup), byref(status), fault, len(fault))
+        self._board = self._library.tlscore_new(bytes_of(setup), byref(status), fault, len(fault))
         if not self._board:
             raise ScoreboardError(status.value, fault.value.decode())
 
@@ -243,7 +243,7 @@ class Scoreboard:
 
     def line(self, line: Text) -> Found:
         """A line as tlscore reads it, without its line feed."""
-        return self._judged("line", _bytes_of(line))
+        return self._judged("line", bytes_of(line))
 
     def byte(self, address: int) -> Optional[int]:
         """The byte at an address of a good page, as the requests that were judged leave it; None outside these pages."""
@@ -268,6 +268,6 @@ def _lanes(data: int) -> bytes:
     return data.to_bytes(LANES, "little")
 
 
-def _bytes_of(text: Text) -> bytes:
+def bytes_of(text: Text) -> bytes:
     """A text for C, where a zero byte would end it: one that no line may have stands for it."""
     return (text if isinstance(text, bytes) else text.encode()).replace(b"\0", b"\1")

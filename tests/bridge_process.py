@@ -1,0 +1,238 @@
+"""The model in the process of a test, beside the program: what tests/bridge_process.c carries out through interfaces/c/zuldegei.h.
+
+Each script of `run` that is kept gives its trace and its fault, made by the calls of each step and by choice; so do scripts by lot, of
+which many lines are refused. There the class of python/zuldegei/bridge.py, given the same calls, gives what the client of the program
+gave; and so it does in the random testbench, which goes on in the process for many requests. Wrong calls get their errors and change
+nothing. Each growth of memory that is refused is told, and behind the set-up there is none. Under valgrind and AddressSanitizer nothing
+is lost, no access is bad, and no thread steps on another. The library is built first, where it isn't there as its sources are; what isn't
+installed is named.
+
+    python3 tests/bridge_process.py TLBRIDGE [SCRIPTS] [--requests N] [--seed WORD] [--library FOLDER]
+"""
+
+import argparse
+import random
+import secrets
+import shutil
+import subprocess
+import sys
+import tempfile
+from itertools import zip_longest
+from pathlib import Path
+
+import script_cases
+from ends import started, told
+from in_process import C, TOP, VALGRIND, WATCHED, c_compiler, compile_c, compiled, silent
+from run_traces import SECONDS, Hostile, Interactive
+
+import random_bench
+from zuldegei import ABeat, Bridge, BridgeError, Error, scoreboard
+
+WAYS = ("calls", "choices")
+SOURCES = [str(C / "zuldegei.c"), str(C / "tlbridge.c")]
+PIPED_STEPS = 2_000  # of the random testbench over pipes
+STEPS_A_REQUEST = 26  # of the random testbench, at most
+SETUP = script_cases.SETUP
+GET = ABeat(opcode=4, param=0, size=3, source=0, address=0x10)
+
+# Calls that aren't carried out, by the status and the text of each.
+RANGE_TEXT = "a field is out of its range"
+REFUSED = {
+    "a client over its range": (lambda it: it.offer(256, GET), Error.RANGE, RANGE_TEXT),
+    "a client below 0": (lambda it: it.take(-1), Error.RANGE, RANGE_TEXT),
+    "a client of 2^32": (lambda it: it.take(2**32), Error.RANGE, RANGE_TEXT),
+    "a source of 256": (lambda it: it.offer(0, ABeat(4, 0, 3, 256, 0)), Error.RANGE, RANGE_TEXT),
+    "an address of 2^32": (lambda it: it.offer(0, ABeat(4, 0, 3, 0, 2**32)), Error.RANGE, RANGE_TEXT),
+    "a mask of 256": (lambda it: it.offer(0, ABeat(4, 0, 3, 0, 0, 256)), Error.RANGE, RANGE_TEXT),
+    "a payload of 65 bits": (lambda it: it.offer(0, ABeat(0, 0, 3, 0, 0, 255, 2**64)), Error.RANGE, RANGE_TEXT),
+    "a corrupt of 2": (lambda it: it.offer(0, ABeat(0, 0, 3, 0, 0, 255, 0, 2)), Error.RANGE, RANGE_TEXT),
+    "a serial of 2^64": (lambda it: it.perform(2**64, 0), Error.RANGE, RANGE_TEXT),
+    "a beat of 65,536": (lambda it: it.perform(0, 65_536), Error.RANGE, RANGE_TEXT),
+    "an ID of 256": (lambda it: it.answer_r(256), Error.RANGE, RANGE_TEXT),
+    "an ID of 2^32": (lambda it: it.answer_b(2**32), Error.RANGE, RANGE_TEXT),
+    "a byte at 2^32": (lambda it: it.byte(2**32), Error.RANGE, RANGE_TEXT),
+    "a choice that isn't there": (lambda it: it.choose(0), Error.RANGE, RANGE_TEXT),
+    "a second set-up": (lambda it: it.setup("1 1 1 1 1 12 h"), Error.SETUP, "there is a set-up already"),
+    "no set-up": (lambda it: Bridge("", it._library), Error.WORD - 1, "script fault: line 1, word 1"),
+    "a zero byte in the set-up": (lambda it: Bridge("#\0", it._library), Error.WORD, "script fault: line 1, word 0"),
+    "a set-up that is refused": (lambda it: Bridge("config 2 4 99 2 16 12 hh", it._library), Error.SETUP, "set-up fault: BadConfig 0"),
+}
+
+
+class Recorded:
+    """A bridge, and what each call of it was and gave."""
+
+    def __init__(self, bridge):
+        self.bridge, self.calls = bridge, []
+
+    def __getattr__(self, name):
+        found = getattr(self.bridge, name)
+        if not callable(found):
+            return found
+
+        def call(*given, **named):
+            gave = found(*given, **named)
+            self.calls.append((name, given, named, gave))
+            return gave
+
+        return call
+
+
+def other_call(wanted, got):
+    """The first call that gave something else, or nothing."""
+    for number, (it, other) in enumerate(zip_longest(wanted, got), 1):
+        if it != other:
+            return f"call {number} is {other!r}, not {it!r}"
+    return None
+
+
+def stored():
+    """Each script of `run` that is kept: its name, what is given, and how it ends."""
+    for script in (*sorted(TOP.glob("examples/**/*.script")), *sorted(TOP.glob("tests/rows/**/*.script"))):
+        if not script.stem.startswith(("check", "threads")):
+            fault = script.with_suffix(".fault")
+            line = fault.read_bytes() if fault.exists() else b""
+            yield str(script.relative_to(TOP)), script.read_bytes(), (2 if line else 0, script.with_suffix(".trace").read_bytes(), line)
+    for name, word, given, *wanted in script_cases.cases():
+        if word == "run":
+            yield name, given, wanted
+
+
+def carried_out(program):
+    """Each script that is kept, by the calls of each step and by choice."""
+    for name, given, wanted in stored():
+        for way in WAYS:
+            yield f"{name}, by {way}", started([program, way], given).wrong(*wanted)
+
+
+def by_lot(program, tlbridge, library, rng, scripts):
+    """Scripts by lot: in C the trace of the program, and in Python what its client gave."""
+    for number in range(1, scripts + 1):
+        with Interactive([tlbridge, "run"], SECONDS) as bridge:
+            seen = Recorded(bridge)
+            Hostile(seen, rng).run()
+        given, wanted = ("\n".join(it) + "\n" for it in (bridge.script, bridge.trace))
+        why = [started([program, way], given.encode()).wrong(0, wanted.encode(), b"") for way in WAYS]
+        with Bridge(library=library) as inside:
+            made = [(name, given, named, getattr(inside, name)(*given, **named)) for name, given, named, _ in seen.calls]
+        yield f"script {number} by lot", next(filter(None, [*why, other_call(seen.calls, made)]), None)
+
+
+def benches(tlbridge, library, rng, requests):
+    """The random testbench over pipes and in the process, call by call; and in the process alone for many requests."""
+    for seed in (rng.getrandbits(32) for _ in range(5)):
+        calls = []
+        for opened in (lambda: Interactive([tlbridge, "run"], SECONDS), lambda: Bridge(library=library, keeps=True)):
+            with opened() as bridge:
+                bench = random_bench.Bench(Recorded(bridge), seed)
+                why = random_bench.tried(bench, PIPED_STEPS)
+                calls.append([*bench.bridge.calls, tuple(bridge.script)])
+            yield f"the random testbench, seed {seed}", why
+        yield f"the random testbench by both ways, seed {seed}", other_call(*calls)
+    seed = rng.getrandbits(32)
+    with Bridge(library=library) as bridge:
+        bench = random_bench.Bench(bridge, seed)
+        yield f"the random testbench, seed {seed}, in the process", random_bench.tried(bench, STEPS_A_REQUEST * requests)
+    yield f"{requests} requests", None if bench.accepted >= requests else f"only {bench.accepted} were accepted"
+
+
+def in_python(library):
+    """Wrong calls of the class, and what the program has no command for."""
+    for name, (call, status, text) in REFUSED.items():
+        with Bridge(SETUP, library) as bridge:
+            try:
+                why = f"it gave {call(bridge)!r}"
+            except BridgeError as got:
+                why = None if (got.status, str(got)) == (status, text) else f"{got.status}, {got}"
+            yield name, why or (None if bridge.work() == 0 and bridge.choices() == 0 else "the bridge has changed")
+    try:
+        yield "a bridge that was closed", f"it gave {bridge.drain()!r}"
+    except BridgeError as got:
+        yield "a bridge that was closed", None if got.status == Error.NULL else str(got)
+    with Bridge(SETUP, library, keeps=True) as bridge:
+        bridge.offer(0, GET)
+        steps = [bridge.choose(0), bridge.make(bridge.choose(0)).address, bridge.choose(0), bridge.make(bridge.choose(0)), bridge.choose(0)]
+        steps += [bridge.make(bridge.choose(0)).last, bridge.in_flight(), bridge.choices()]
+        wanted = [("pump",), 0x10010, ("do", 0, 0), "done", ("r", 0), 1, 0, 0]
+        yield "steps by choice", None if steps == wanted else f"{steps}, not {wanted}"
+        wanted = [*SETUP.splitlines(), "a 0 4 0 3 0 10 ff 0 0", "pump", "do 0 0", "r 0"]
+        yield "the script that it keeps", None if bridge.script == wanted else f"{bridge.script}"
+
+
+def wrong_calls(folder, library):
+    """Wrong calls and refused memory, alone and under valgrind."""
+    calls = compiled("bridge-calls", TOP / "tests/bridge_process_calls.c", "-pthread", folder=folder, library=library)
+    wrap = "-Wl,--wrap=malloc,--wrap=realloc"
+    refused = compiled("bridge-refused", TOP / "tests/bridge_process_refused.c", wrap, folder=folder, library=library)
+    yield silent("wrong calls", calls)
+    yield silent("each malloc and realloc refused in turn", refused)
+    if not shutil.which("valgrind"):
+        print("skipped: the calls of the model under valgrind, as it isn't installed")
+        return
+    yield silent("wrong calls under valgrind", *VALGRIND, calls)
+    yield silent("refused memory under valgrind", *VALGRIND, refused)
+    yield silent("bridges in threads under valgrind", "valgrind", "-q", "--tool=helgrind", "--error-exitcode=99", calls)
+
+
+def watched(folder, library):
+    """What C there is, under AddressSanitizer and with undefined behaviour watched: wrong calls, and each example and row."""
+    flags = [*WATCHED, *SOURCES, "-pthread"]
+    calls, why = compile_c("watched-calls", TOP / "tests/bridge_process_calls.c", *flags, folder=folder, library=library)
+    if why:
+        print(f"skipped: the model under AddressSanitizer, as it wasn't compiled: {why.splitlines()[-1]}")
+        return
+    yield silent("wrong calls under AddressSanitizer", calls)
+    program = compiled("watched", TOP / "tests/bridge_process.c", *flags, folder=folder, library=library)
+    for name, given, wanted in stored():
+        if name.endswith(".script"):
+            yield f"{name}, under AddressSanitizer", started([program, "choices"], given).wrong(*wanted)
+
+
+def example(folder, library):
+    """The example as C and as C++, which ends as interfaces/README.md shows (tests/page_commands.py)."""
+    for name, compiler, standard, flags in (("C", c_compiler(), "-std=c99", []), ("C++", "c++", "-std=c++11", ["-x", "c++"])):
+        if not shutil.which(compiler):
+            print(f"skipped: the example of the model as {name}, as there is no compiler of it")
+            continue
+        built, why = compile_c(f"example-{name}", C / "example_bridge.c", "-Wpedantic", *flags, folder=folder, library=library,
+                               compiler=compiler, standard=standard)
+        ran = None if why else started([built], b"")
+        yield f"the example as {name}", why or (None if ran.status == 0 and b"11 22 33 44 55 66 77 88\n" in ran.text else f"{ran}")
+
+
+def cases(asked):
+    if not c_compiler():
+        print("skipped: the model in the process of a test, as there is no C compiler")
+        return
+    folder = Path(asked.library or TOP / "out").resolve()
+    ran = None if asked.library else subprocess.run([TOP / "interfaces/build"], capture_output=True, text=True, check=False)
+    if ran and ran.returncode or not all((folder / f"libzuldegei.{kind}").exists() for kind in ("a", "so")):
+        yield "the library", ran.stderr[-500:] if ran else f"it isn't in {folder}"
+        return
+    tlbridge, rng = str(Path(asked.tlbridge).resolve()), random.Random(asked.seed)
+    library = scoreboard.load(folder / "libzuldegei.so")
+    with tempfile.TemporaryDirectory() as room:
+        program = compiled("bridge_process", TOP / "tests/bridge_process.c", folder=Path(room), library=folder)
+        yield from example(Path(room), folder)
+        yield from carried_out(program)
+        yield from wrong_calls(Path(room), folder)
+        yield from watched(Path(room), folder)
+        yield from in_python(library)
+        yield from by_lot(program, tlbridge, library, rng, asked.scripts)
+        yield from benches(tlbridge, library, rng, asked.requests)
+
+
+def main():
+    asked = argparse.ArgumentParser(description=__doc__)
+    asked.add_argument("tlbridge")
+    asked.add_argument("scripts", nargs="?", type=int, default=200, help="how many scripts by lot (200)")
+    asked.add_argument("--requests", type=int, default=50_000, help="how many requests in the process (50,000)")
+    asked.add_argument("--seed", default=secrets.token_hex(4))
+    asked.add_argument("--library", help="where libzuldegei.a and libzuldegei.so stand (out, where they are built)")
+    given = asked.parse_args()
+    print(f"seed {given.seed}")
+    return told(cases(given))
+
+
+if __name__ == "__main__":
+    sys.exit(main())

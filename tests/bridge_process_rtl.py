@@ -1,0 +1,148 @@
+"""The free memory and the predictor of interfaces/systemverilog, over the testbench of examples/testbench/rtl under Verilator. In front of
+the memory the right bridges aren't blamed, by what each promises; and there are faults that are told in front of it, and hidden where it
+keeps all in order. The predictor finds nothing wrong of the right bridge, and a fault at the time at which tlscore finds the first wrong
+reply of the same run, where it also stops. Each call of the model by DPI-C gives what it should. Without Verilator that is said, and
+nothing is tried.
+
+    python3 tests/bridge_process_rtl.py TLSCORE [--seeds N] [--library FOLDER] [--jobs N]
+"""
+
+import argparse
+import os
+import re
+import shutil
+import subprocess
+import sys
+import tempfile
+from concurrent.futures import ThreadPoolExecutor
+from pathlib import Path
+from typing import Iterator, List, NamedTuple, Optional, Tuple
+
+from ends import told
+from in_process_rtl import SYSTEMVERILOG, TOP, UNOPTIMIZED, built, run
+
+MEMORY, PREDICTOR = SYSTEMVERILOG / "zuldegei_axi_memory.sv", SYSTEMVERILOG / "zuldegei_predictor.sv"
+PACKAGE, BIND = SYSTEMVERILOG / "zuldegei_pkg.sv", SYSTEMVERILOG / "example_predictor_bind.sv"
+# Faults that a memory which answers in order hides; by `profile tilelink` the first is none.
+HIDDEN = ("UNGUARDED", "READS_MIXED", "WRITES_MIXED")
+BY_ORDER_ALONE = ("UNGUARDED",)
+PREDICTED = ("LANE_SWAPPED", "OTHER_SOURCE")  # faults that the predictor has to find
+TOLD = re.compile(r"(?m)^\[(\d+)\] %Error: .*zuldegei: (.*)$")
+ENDED = re.compile(r"(?m)^zuldegei: = predicted (\d+) wrong (\d+)$")
+REPLY = re.compile(r"(?m)^= wrong \d+ reply (?!9 ).* at (\d+)$")
+MANY = "+verilator+error+limit+1000000"
+Case = Tuple[str, Optional[str]]
+
+
+class Bench(NamedTuple):
+    """A bridge in front of the free memory, and what is asked of it."""
+
+    bug: str = run.RIGHT
+    bridge: str = "bridge"
+    habit: str = "EARLY"
+    order: int = 1  # what the memory keeps in order: 0 all, 1 what AXI4 promises, 2 answers alone
+    predicts: bool = False
+
+    @property
+    def name(self) -> str:
+        return f"{run.Bench(self.bridge, run.Asked(), habit=self.habit).device if self.bug == run.RIGHT else self.bug}, ORDER {self.order}"
+
+    @property
+    def profiles(self) -> List[run.Asked]:
+        if self.bridge != "bridge":
+            return [run.Asked("tilelink", "any")]
+        return [run.Asked(it) for it in run.PROFILES]
+
+
+BENCHES = [Bench(predicts=True), Bench(order=2), Bench(order=0)]
+BENCHES += [Bench(bridge="streaming_bridge"), Bench(bridge="streaming_bridge", habit="QUIET", order=2)]
+BENCHES += [Bench(it, order=order) for it in HIDDEN for order in (1, 0)] + [Bench(it, predicts=True) for it in PREDICTED]
+
+
+def made(bench: Bench, library: Path, folder: Path) -> Path:
+    """The testbench, in a folder of its own."""
+    room = Path(tempfile.mkdtemp(dir=folder))
+    files = [it for it in run.FILES if it != "memory.sv"] + [str(MEMORY)]
+    files += [str(it) for it in (PACKAGE, PREDICTOR, BIND, library / "libzuldegei.a")] if bench.predicts else []
+    words = ["verilator", "--cc", "--exe", "--main", "--timing", "-Wno-fatal", f"-DFREE_MEMORY={bench.order}"]
+    words += run.Bench(bench.bridge, run.Asked(), bug=bench.bug, habit=bench.habit).defines
+    built([*words, "--top-module", "testbench", "-Mdir", str(room), "-o", "bench", *files], run.HERE, bench.name)
+    built(["make", "-s", "-f", "Vtestbench.mk", *UNOPTIMIZED], room, bench.name)
+    return room / "bench"
+
+
+def simulated(bench: Path, seed: int, *more: str) -> Tuple[int, str, str]:
+    """The status of a run, what it printed, and the lines of the monitor that prints them."""
+    seen = bench.parent / "seen.lines"
+    words = [bench, f"+seed={seed}", f"+zuldegei_seed={seed}", f"+observed={seen}", f"+zuldegei_setup={run.HERE / 'setup.lines'}", *more]
+    ran = subprocess.run(words, cwd=bench.parent, stdout=subprocess.PIPE, stderr=subprocess.STDOUT, text=True, timeout=300, check=False)
+    return ran.returncode, ran.stdout, f"{seen.read_text()}= end\n"
+
+
+def predicted_wrong(bench: Bench, program: Path, seed: int, text: str, judged: str) -> Optional[str]:
+    """How the predictor doesn't tell what tlscore tells of replies in order of acceptance, and stop there."""
+    ended, times = ENDED.search(text), [int(time) for time, _ in TOLD.findall(text)]
+    first = REPLY.search(judged)
+    if not ended or int(ended[1]) < 100 or int(ended[2]) != len(times):
+        return f"it ends with {text[-200:]!r}"
+    if not first:
+        return f"it tells {TOLD.findall(text)[:1]}" if times else None
+    if not times or times[0] != int(first[1]):
+        return f"it tells {TOLD.findall(text)[:1]} first, where tlscore has {first[0]!r}"
+    status, text, _ = simulated(program, seed, "+zuldegei_stop=1", "+verilator+error+limit+2")
+    stopped = [int(time) for time, _ in TOLD.findall(text)]
+    return None if status and stopped == [times[0], times[0]] else f"it stops with status {status} at {stopped}"
+
+
+def tried(bench: Bench, program: Path, given: argparse.Namespace) -> Iterator[Case]:
+    """The runs of a testbench."""
+    wrong = {asked.profile: 0 for asked in bench.profiles}
+    for seed in range(1, given.seeds + 1):
+        status, text, lines = simulated(program, seed, *(["+zuldegei_end", MANY] if bench.predicts else []))
+        if "Verilog $finish" not in text:
+            yield f"{bench.name}, seed {seed}", f"it ends with status {status}: {text[-200:]!r}"
+        for asked in bench.profiles:
+            judged = run.judged(given.score, asked.setup, lines)
+            wrong[asked.profile] += "= wrong" in judged
+            if bench.predicts and asked.profile == "bridge":
+                yield f"{bench.name}, seed {seed}, predicted", predicted_wrong(bench, program, seed, text, judged)
+    for profile, count in wrong.items():
+        if bench.bug in HIDDEN:
+            print(f"{bench.name}, by profile {profile}: {count} of {given.seeds} runs are wrong", flush=True)
+        is_right = bench.bug == run.RIGHT or bench.order == 0 or bench.bug in BY_ORDER_ALONE and profile == "tilelink"
+        yield f"{bench.name}, by profile {profile}", None if bool(count) != is_right else f"{count} of {given.seeds} runs are wrong"
+
+
+def calls(library: Path, folder: Path) -> Iterator[Case]:
+    """The calls by DPI-C."""
+    room = Path(tempfile.mkdtemp(dir=folder))
+    words = ["verilator", "--binary", "--timing", "-Wno-fatal", "--top-module", "bridge_process", "-Mdir", str(room), "-o", "bench"]
+    built([*words, str(PACKAGE), str(TOP / "tests/bridge_process.sv"), str(library / "libzuldegei.a")], room, "the calls")
+    ran = subprocess.run([room / "bench"], stdout=subprocess.PIPE, text=True, timeout=60, check=False)
+    lines = [it for it in ran.stdout.splitlines() if not it.startswith("- ")]
+    yield "the calls by DPI-C", None if lines == ["looked at 44"] and ran.returncode == 0 else f"status {ran.returncode}: {lines[:3]}"
+
+
+def cases(given: argparse.Namespace) -> Iterator[Case]:
+    if not shutil.which("verilator"):
+        print("skipped: the free memory and the predictor in the simulator, as verilator isn't installed")
+        return
+    with tempfile.TemporaryDirectory() as room, ThreadPoolExecutor(given.jobs) as pool:
+        folder, library = Path(room), Path(given.library or TOP / "out").resolve()
+        yield from calls(library, folder)
+        programs = pool.map(lambda it: made(it, library, folder), BENCHES)
+        for found in pool.map(lambda it: [*tried(*it, given)], zip(BENCHES, programs)):
+            yield from found
+
+
+def main() -> int:
+    asked = argparse.ArgumentParser(description=__doc__)
+    asked.add_argument("score", metavar="TLSCORE", type=lambda it: Path(it).resolve())
+    asked.add_argument("--seeds", type=int, default=10, help="how many runs of each (10)")
+    asked.add_argument("--library", help="where libzuldegei.a stands (out)")
+    asked.add_argument("--jobs", type=int, default=os.cpu_count() or 1, help="how many at once (one a processor)")
+    return told(cases(asked.parse_args()))
+
+
+if __name__ == "__main__":
+    sys.exit(main())
