@@ -225,7 +225,7 @@ def cases(asked):
 def main():
     asked = argparse.ArgumentParser(description=__doc__)
     asked.add_argument("tlbridge")
-    asked.add_argument("scripts", nargs="?", type=int, default=200, help="how many scripts by lot (200)")
+    asked.add_argument("scripts", nargs="?", type=int, default=500, help="how many scripts by lot (500)")
     asked.add_argument("--requests", type=int, default=50_000, help="how many requests in the process (50,000)")
     asked.add_argument("--seed", default=secrets.token_hex(4))
     asked.add_argument("--library", help="where libzuldegei.a and libzuldegei.so stand (out, where they are built)")
