@@ -11,6 +11,7 @@ installed is named.
 """
 
 import argparse
+import os
 import random
 import secrets
 import shutil
@@ -21,7 +22,7 @@ from itertools import zip_longest
 from pathlib import Path
 
 import script_cases
-from ends import started, told
+from ends import Ended, started, told
 from in_process import C, TOP, VALGRIND, WATCHED, c_compiler, compile_c, compiled, silent
 from run_traces import SECONDS, Hostile, Interactive
 
@@ -136,6 +137,16 @@ def benches(tlbridge, library, rng, requests):
     yield f"{requests} requests", None if bench.accepted >= requests else f"only {bench.accepted} were accepted"
 
 
+def by_words(tlbridge, library):
+    """The random testbench by its words, over the program and in the process: it prints the same."""
+    told_by = []
+    for words in (["--program", tlbridge], ["--in-process"]):
+        command = [sys.executable, "examples/testbench/random_bench.py", "7", *words]
+        environment = {**os.environ, "ZULDEGEI_LIBRARY": str(library / "libzuldegei.so")}
+        told_by.append(Ended.of(subprocess.run(command, cwd=TOP, env=environment, capture_output=True, check=False)))
+    yield "the random testbench by its words", told_by[1].wrong(0, told_by[0].text, b"")
+
+
 def in_python(library):
     """Wrong calls of the class, and what the program has no command for."""
     for name, (call, status, text) in REFUSED.items():
@@ -218,6 +229,7 @@ def cases(asked):
         yield from wrong_calls(Path(room), folder)
         yield from watched(Path(room), folder)
         yield from in_python(library)
+        yield from by_words(tlbridge, folder)
         yield from by_lot(program, tlbridge, library, rng, asked.scripts)
         yield from benches(tlbridge, library, rng, asked.requests)
 
@@ -225,8 +237,8 @@ def cases(asked):
 def main():
     asked = argparse.ArgumentParser(description=__doc__)
     asked.add_argument("tlbridge")
-    asked.add_argument("scripts", nargs="?", type=int, default=500, help="how many scripts by lot (500)")
-    asked.add_argument("--requests", type=int, default=50_000, help="how many requests in the process (50,000)")
+    asked.add_argument("scripts", nargs="?", type=int, default=1_000, help="how many scripts by lot (1,000)")
+    asked.add_argument("--requests", type=int, default=100_000, help="how many requests in the process (100,000)")
     asked.add_argument("--seed", default=secrets.token_hex(4))
     asked.add_argument("--library", help="where libzuldegei.a and libzuldegei.so stand (out, where they are built)")
     given = asked.parse_args()
