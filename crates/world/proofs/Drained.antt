@@ -80,7 +80,10 @@ led_ends n old new led sound none =
     }
 
 -- and where no step is made any more, that is all
-pub led_done : (made more : ℕ) (old now new : WorldState) → LeadsTo old made now → LeadsTo now more new → more ≡ 0 → IsSoundWorld new → enabled new ≡ [] → IsDrained old made new
-led_done made more old now new led rest none sound ends =
+pub led_last : (made more : ℕ) (old now new : WorldState) → LeadsTo old made now → LeadsTo now more new → more ≡ 0 → LeadsTo old made new
+led_last made more old now new led rest none =
     let all : made + more ≡ made = omega (arith, none) in
-    led_ends made old new (subst (λ (k : ℕ). LeadsTo old k new) all (led_on made more old now new led rest)) sound ends
+    subst (λ (k : ℕ). LeadsTo old k new) all (led_on made more old now new led rest)
+
+pub led_done : (made more : ℕ) (old now new : WorldState) → LeadsTo old made now → LeadsTo now more new → more ≡ 0 → IsSoundWorld new → enabled new ≡ [] → IsDrained old made new
+led_done made more old now new led rest none sound ends = led_ends made old new (led_last made more old now new led rest none) sound ends

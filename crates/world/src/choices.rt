@@ -52,6 +52,10 @@ impl World {
 
         // Then nothing is enabled, no work is left and all that was accepted is done.
         ensures drains { IsDrained self.old result self.new }
+
+        // Each of these steps is the first that is enabled in a world that keeps the laws.
+        ensures leads { LeadsTo self.old result self.new }
+        ensures laws { IsSoundWorld self.new }
     {
         let mut made = 0;
         loop {

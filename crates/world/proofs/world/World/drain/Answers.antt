@@ -2,7 +2,7 @@
 use Rattle.std.proofs.Common.{◌+◌, ℕ, refl, ap, arith, sym}
 use Rattle.world.specs.Laws.{IsDrained}
 use Rattle.world.specs.World.{WorldState}
-use Rattle.world.proofs.Drained.{drained_is, led_done, led_few, led_less, led_on}
+use Rattle.world.proofs.Drained.{drained_is, led_done, led_few, led_last, led_less, led_on}
 use Rattle.world.proofs.world.World.drain.Goals as goal
 
 pub loop-made-init : goal.loop-made-init
@@ -32,3 +32,10 @@ returns-then-more-eq0-clause-answer c = ap (λ (drained : ℕ × WorldState). dr
 
 pub returns-then-more-eq0-clause-state : goal.returns-then-more-eq0-clause-state
 returns-then-more-eq0-clause-state c = ap (λ (drained : ℕ × WorldState). drained.1) (sym (drained_is c.args.self.now c.make_round-more.new.self c.loop-made.made (done c)))
+
+pub returns-then-more-eq0-clause-leads : goal.returns-then-more-eq0-clause-leads
+returns-then-more-eq0-clause-leads c =
+    led_last c.loop-made.made c.make_round-more.result c.args.self.now c.loop-made.self c.make_round-more.new.self c.loop-made.invariant c.make_round-more.ensures.leads c.if-more-eq0.true
+
+pub returns-then-more-eq0-clause-laws : goal.returns-then-more-eq0-clause-laws
+returns-then-more-eq0-clause-laws c = c.make_round-more.ensures.laws
