@@ -1,18 +1,17 @@
--- The steps that bridge and memory can make by themselves: they offer nothing and take nothing.
-use Rattle.std.proofs.Common.{◌≡◌, ◌≤◌, ℕ, zero, suc, Bool, true, false, List, [], ◌∷◌, ◌++◌, length, map, Option, Some, None, arith, refl}
+-- The steps that bridge and memory can make by themselves offer nothing and take nothing, so they keep the order of acceptance.
+use Rattle.std.proofs.Common.{◌≡◌, ◌≤◌, ℕ, zero, suc, Bool, true, false, List, [], ◌∷◌, ◌++◌, length, map, Option, Some, None, arith, refl, subst, sym}
 use Rattle.std.specs.List.{list_all}
 use Rattle.std.specs.Prelude.{is_some, slice_get, if◌then◌else◌}
 use Rattle.axi_beats.specs.Bursts.{Burst}
-use Rattle.axi_beats.specs.declared.BBeat.{BBeat}
-use Rattle.axi_beats.specs.declared.RBeat.{RBeat}
 use Rattle.bridge_core.specs.Bridge.{burst_to_send}
-use Rattle.subordinate.specs.FreeMemory.{FreeMemory, b_of, ids_with_b, ids_with_r, performed, r_of, waiting_beats}
-use Rattle.subordinate.specs.declared.Performed.{Performed}
-use Rattle.subordinate.specs.declared.Performed.TheVariants as perform
-use Rattle.world.specs.World.{WorldState, answered_b, answered_r, enabled, is_reply, next, perform_at, performed_by, pumped, pumps_enabled}
+use Rattle.subordinate.specs.FreeMemory.{ids_with_b, ids_with_r, waiting_beats}
+use Rattle.world.specs.Choices.{LeadsTo}
+use Rattle.world.specs.Laws.{IsSoundWorld}
+use Rattle.world.specs.World.{WorldState, enabled, next, perform_at, pumps_enabled}
 use Rattle.world.specs.declared.Step.{Step}
 use Rattle.world.specs.declared.Step.TheVariants.{AnswerB, AnswerR, Offer, Perform, Pump, Take}
-use Rattle.world_run.specs.InOrder.{IsForeseen}
+use Rattle.world_run.proofs.OrderSteps.{keeps_next}
+use Rattle.world_run.specs.InOrder.{IsForeseen, KeepsOrder}
 use Rattle.world_run.specs.Serial.{Order}
 
 -- ---- lists
@@ -21,10 +20,6 @@ pub none_past : {X : Type 0} (xs : List X) (k : ℕ) → length xs ≤ k → sli
 none_past [] k past = refl
 none_past (x ∷ xs) zero past = absurd (omega (arith, past))
 none_past (x ∷ xs) (suc k) past = none_past xs k (omega (arith, past))
-
-pub none_left : {X : Type 0} (xs : List X) → length xs ≤ 0 → xs ≡ []
-none_left [] none = refl
-none_left (x ∷ xs) none = absurd (omega (arith, none))
 
 all_append : {X : Type 0} (p : X → Bool) (xs ys : List X) → list_all p xs ≡ true → list_all p ys ≡ true → list_all p (xs ++ ys) ≡ true
 all_append p [] ys here there = there
@@ -62,31 +57,6 @@ own_enabled state =
     (all_append is_own performs (bs ++ rs) (all_map is_own perform_at (waiting_beats state.memory) (λ place. refl))
     (all_append is_own bs rs (all_map is_own AnswerB (ids_with_b state.memory) (λ id. refl)) (all_map is_own AnswerR (ids_with_r state.memory) (λ id. refl))))
 
-pump_quiet : (state : WorldState) (burst : Option Burst) → is_reply (pumped state burst).answer ≡ false
-pump_quiet state None = refl
-pump_quiet state (Some burst) = refl
-
-perform_quiet : (state : WorldState) (made : FreeMemory × Performed) → is_reply (performed_by state made).answer ≡ false
-perform_quiet state (memory, perform.NoSuch) = refl
-perform_quiet state (memory, perform.Already) = refl
-perform_quiet state (memory, perform.Done) = refl
-
-b_quiet : (state : WorldState) (id : ℕ) (beat : Option BBeat) → is_reply (answered_b state id beat).answer ≡ false
-b_quiet state id None = refl
-b_quiet state id (Some beat) = refl
-
-r_quiet : (state : WorldState) (id : ℕ) (beat : Option RBeat) → is_reply (answered_r state id beat).answer ≡ false
-r_quiet state id None = refl
-r_quiet state id (Some beat) = refl
-
-own_quiet : (state : WorldState) (step : Step) → is_own step ≡ true → is_reply (next state step).answer ≡ false
-own_quiet state (Offer client beat) own = absurd (cc (own))
-own_quiet state Pump own = pump_quiet state (burst_to_send state.bridge)
-own_quiet state (Perform serial beat) own = perform_quiet state (performed state.memory serial beat)
-own_quiet state (AnswerB id) own = b_quiet state id (b_of state.memory id)
-own_quiet state (AnswerR id) own = r_quiet state id (r_of state.memory id)
-own_quiet state (Take client) own = absurd (cc (own))
-
 own_foreseen : (order : Order) (state : WorldState) (step : Step) → is_own step ≡ true → IsForeseen order state step
 own_foreseen order state (Offer client beat) own = absurd (cc (own))
 own_foreseen order state Pump own = tt
@@ -95,9 +65,18 @@ own_foreseen order state (AnswerB id) own = tt
 own_foreseen order state (AnswerR id) own = tt
 own_foreseen order state (Take client) own = absurd (cc (own))
 
--- one that is enabled hands out no reply, and nothing is asked of it to keep the order
-pub enabled_quiet : (state : WorldState) (k : ℕ) (step : Step) → slice_get (enabled state) k ≡ Some step → is_reply (next state step).answer ≡ false
-enabled_quiet state k step there = own_quiet state step (all_at is_own (enabled state) k step (own_enabled state) there)
+enabled_foreseen : (order : Order) (state : WorldState) (step : Step) → slice_get (enabled state) 0 ≡ Some step → IsForeseen order state step
+enabled_foreseen order state step first = own_foreseen order state step (all_at is_own (enabled state) 0 step (own_enabled state) first)
 
-pub enabled_foreseen : (order : Order) (state : WorldState) (k : ℕ) (step : Step) → slice_get (enabled state) k ≡ Some step → IsForeseen order state step
-enabled_foreseen order state k step there = own_foreseen order state step (all_at is_own (enabled state) k step (own_enabled state) there)
+-- the world that steps begin with keeps the laws, where that keeps them which they lead to
+begins_sound : (n : ℕ) (old new : WorldState) → LeadsTo old n new → IsSoundWorld new → IsSoundWorld old
+begins_sound zero old new same sound = subst IsSoundWorld same sound
+begins_sound (suc n) old new (step, sound_old, first, rest) sound = sound_old
+
+-- steps that are enabled keep the order, since nothing has to be foreseen of them
+pub led_keeps : (order : Order) (n : ℕ) (old new : WorldState) → LeadsTo old n new → IsSoundWorld new → KeepsOrder order old → KeepsOrder order new
+led_keeps order zero old new same sound keeps = subst (λ (state : WorldState). KeepsOrder order state) (sym same) keeps
+led_keeps order (suc n) old new (step, sound_old, first, rest) sound keeps =
+    let after = (next old step).state in
+    let kept = keeps_next order old step sound_old (begins_sound n after new rest sound) (enabled_foreseen order old step first) keeps in
+    led_keeps order n after new rest sound kept

@@ -1,11 +1,8 @@
 //! The model as it runs: a world, the reply that was taken last, and the last step's answer.
-ghost use Rattle.std.specs.Prelude.{◌≡◌, ◌⊎◌, ◌<◌, Some, IfErr, IfOk, IfSome, length, slice_get};
+ghost use Rattle.std.specs.Prelude.{◌≡◌, ◌⊎◌, Some, IfErr, IfOk, IfSome, slice_get};
 ghost use Rattle.setups.specs.Setups.{lists_of, setup_fault};
 ghost use Rattle.setups.specs.declared.SetupFault.TheVariants.{NoMemory};
-ghost use Rattle.world.specs.Choices.{LeadsTo};
 ghost use Rattle.world.specs.World.{enabled, next};
-ghost use Rattle.world_run.specs.InOrder.{KeepsOrder};
-ghost use Rattle.world_run.specs.Serial.{Order};
 ghost use Rattle.bridge_calls.specs.Bridges.{AfterDrain, AfterStep, asked_of, opening_bridge};
 
 use crate::answers::{
@@ -79,28 +76,11 @@ impl Bridge {
         answer
     }
 
-    /// Makes the first step that is enabled.
-    fn advance(&mut self)
-        requires { 0 < length (enabled self.old.world) }
-        ensures leads { LeadsTo self.old.world 1 self.new.world }
-        ensures reply { self.new.reply ≡ self.old.reply }
-        ensures last { self.new.last ≡ self.old.last }
-        ensures order { (order : Order) → KeepsOrder order self.old.world → KeepsOrder order self.new.world }
-    {
-        let step = self.world.choose(0);
-        ordered_step(&mut self.world, &step, &mut self.reply);
-    }
-
     /// Makes the first step that is enabled until there is none, and answers how many steps these were. It takes no reply.
     pub(crate) fn drain(&mut self) -> u64
         ensures { AfterDrain self.old result self.new }
     {
-        let mut made = 0;
-        while self.world.choices() > 0 {
-            self.advance();
-            made += 1;
-        }
-        made
+        self.world.drain()
     }
 
     /// One of the steps that are enabled.
