@@ -93,7 +93,8 @@ impl BridgeHandle {
         bridge.drain()
     }
 
-    /// Takes a line.
+    /// Takes a line. This and what else a set-up or an end needs stands apart, so that a step has a small frame.
+    #[inline(never)]
     fn line(&mut self) -> u64
         ensures told { LineDone self.old.stage (bytes_of self.old.call.words (byte_in (self.old.call.head / 256))) self.new.stage result }
         ensures call { self.new.call ≡ self.old.call }
@@ -110,6 +111,7 @@ impl BridgeHandle {
     }
 
     /// Makes the world of the set-up.
+    #[inline(never)]
     fn begin(&mut self) -> u64
         ensures told { BeginDone self.old.stage self.new.stage result }
         ensures call { self.new.call ≡ self.old.call }
@@ -131,6 +133,7 @@ impl BridgeHandle {
     }
 
     /// Gives all back but the handle itself.
+    #[inline(never)]
     fn close(&mut self) -> u64
         ensures stage { self.new.stage ≡ Closed }
         ensures answer { result ≡ 0 }
@@ -143,6 +146,7 @@ impl BridgeHandle {
     }
 
     /// Writes the text of the last fault, and tells how many bytes it has.
+    #[inline(never)]
     fn fault_length(&mut self) -> u64
         ensures stage { self.new.stage ≡ self.old.stage }
         ensures told { FaultTold self.new.text.items result }
