@@ -94,9 +94,10 @@ def told_alike(program, tlscore):
 def by_lot(program, tlscore, rng, beats):
     """Beats by lot, by both profiles, beside tlscore."""
     lot = Lot(rng)
-    drawn = [lot.draw() for _ in range(beats)]
+    for _ in range(beats):
+        lot.draw()
     for profile in PROFILES:
-        given = "\n".join([*lot.lines, f"profile {profile}", *drawn, ""]).encode()
+        given = "\n".join([*lot.set_up, f"profile {profile}", *lot.drawn, ""]).encode()
         wanted = started([tlscore], given, 1200)
         for way in WAYS:
             ended = started([program, way], given, 1200)

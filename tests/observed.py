@@ -52,7 +52,7 @@ class Told:
 def is_shown(due, beat, hidden):
     """Whether a beat is the one that is due, but for these lanes of its payload."""
     bits = sum(0xFF << 8 * lane for lane in hidden)
-    return replace(due, payload=due.payload & ~bits) == replace(beat, payload=beat.payload & ~bits)
+    return (due.payload ^ beat.payload) & ~bits == 0 and replace(due, payload=beat.payload) == beat
 
 
 @dataclass
@@ -167,7 +167,7 @@ class Observation:
             number = len(self.replies)
             self.accept(client, message, it.unknown)
             it.message, it.unknown = (), ()
-            it.readings = frozenset(replace(told, due=told.due | {number}) for told in it.readings)
+            it.readings = frozenset(Told(told.due | {number}, told.begun, told.came) for told in it.readings)
         return True, given_lanes(beat.opcode, beat.mask)
 
     def accept(self, client, message, lanes):
@@ -183,7 +183,7 @@ class Observation:
         self.looked.append([lanes_at(due, k, set(span) - unknown, span) for k, due in enumerate(reply)])
         self.writes_at.append(set() if reads_alone else set(span))
         given = set() if reads_alone else {x for x in span if not is_put or message[x // 8 - span[0] // 8].mask >> x % 8 & 1}
-        self.doubts = self.doubts | given if unknown else self.doubts - given
+        (self.doubts.update if unknown else self.doubts.difference_update)(given)
         if span:
             self.doubts |= {(at & ~7) + 8 * k + lane for k, unsure in enumerate(doubted(message, lanes)) for lane in unsure}
 
@@ -243,7 +243,8 @@ def lanes_at(due, k, told, span):
     """The lanes of beat k of a reply that tell these bytes."""
     if due.opcode != 1 or due.corrupt:
         return set()
-    return {x % 8 for x in told if x // 8 - span[0] // 8 == k}
+    first = span[0] // 8 * 8 + 8 * k if told else 0
+    return {lane for lane in range(8) if first + lane in told}
 
 
 def is_spelled(message, level, largest):

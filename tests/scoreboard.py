@@ -89,36 +89,52 @@ def counts_in(lines, wrong):
     return Counts(lines, "\n".join(f"= wrong {number} {kind} {rule}" for number, kind, rule in names))
 
 
-def judged(lines):
-    """Which lines are wrong and of which kind, and the counts of the last line."""
-    setup, levels, first = setup_of(lines)
-    board, wrong, held = Observation(setup, levels), [], None
+class Judging:
+    """Takes the lines behind a set-up one after another, and keeps which of them are wrong and of which kind."""
 
-    def take(number, words):
-        if not taken(board, words):
-            wrong.append((number, *kind_of(board, words)))
+    def __init__(self, lines):
+        setup, levels, self.first = setup_of(lines)
+        self.board, self.wrong, self.held = Observation(setup, levels), [], None
 
-    for number, line in enumerate(lines[first:], first + 1):
-        words = line.split()
-        if not words or words[0].startswith("#"):
-            continue
+    def take(self, number, words):
+        """A line that isn't empty, and no comment."""
         answer = words[1] if words[0] == "=" else None
         # Only the line straight behind an A line may withdraw it, and any other settles it.
-        if held and answer not in WITHDRAWN:
-            take(*held)
-        held = None
+        if answer in WITHDRAWN:
+            self.held = None
+        self.settle()
         if answer == "drained":
-            board.drained()
+            self.board.drained()
         elif answer == "reset":
-            board.reset()
-        elif words[0] == "A" and not is_unclear(words):
-            held = number, words
+            self.board.reset()
         elif words[0] in KINDS:
-            take(number, words)
-    if held:
-        take(*held)
-    counts = counts_in(lines, wrong)
-    return wrong, (board.taken, len(wrong), board.outstanding(), board.open(), counts.compared, counts.told)
+            self.held = number, words
+            if words[0] != "A" or is_unclear(words):
+                self.settle()
+
+    def settle(self):
+        """The beat that was held came."""
+        if self.held:
+            number, words = self.held
+            self.held = None
+            if not taken(self.board, words):
+                self.wrong.append((number, *kind_of(self.board, words)))
+
+    def ended(self, lines):
+        """Which lines are wrong and of which kind, and the counts of the last line."""
+        self.settle()
+        counts, board = counts_in(lines, self.wrong), self.board
+        return self.wrong, (board.taken, len(self.wrong), board.outstanding(), board.open(), counts.compared, counts.told)
+
+
+def judged(lines):
+    """The same, of all lines of an input."""
+    judging = Judging(lines)
+    for number, line in enumerate(lines[judging.first :], judging.first + 1):
+        words = line.split()
+        if words and not words[0].startswith("#"):
+            judging.take(number, words)
+    return judging.ended(lines)
 
 
 WRONG = re.compile(r"= wrong (\d+) (request|reply|axi|client) \d+ (X\b)?")
@@ -192,23 +208,26 @@ def altered(rng, channel, place, word):
 
 
 class Lot:
-    """Draws beats, most of them right, beside an observation of its own that takes them as they come."""
+    """Draws beats, most of them right, and judges them as they come."""
 
     def __init__(self, rng):
         self.rng = rng
-        self.lines = ["config 3 4 4 2 16 6 hlh", "region 0 2 10 gpah", "region 8 1 10 g---", "page 10 1 good", "page 11 1 slverr", "bad 10018"]
-        setup, levels, _ = setup_of(self.lines)
-        self.board = Observation(setup, levels)
-        self.begun = {}
-        self.data = []
+        self.set_up = ["config 3 4 4 2 16 6 hlh", "region 0 2 10 gpah", "region 8 1 10 g---", "page 10 1 good", "page 11 1 slverr", "bad 10018"]
+        self.drawn = []
+        self.judging = Judging(self.set_up)
+        self.board = self.judging.board
 
     def draw(self):
+        """One line more, which is judged."""
+        self.drawn.append(self.line())
+        self.judging.take(len(self.set_up) + len(self.drawn), self.drawn[-1].split())
+        self.judging.settle()
+
+    def line(self):
         rng = self.rng
         if rng.random() < 0.002:
-            self.board.drained()
             return "= drained 9"
         if rng.random() < 0.002:
-            self.board.reset()
             return "= reset"
         kind = rng.randrange(100)
         line = self.a() if kind < 35 else self.d() if kind < 65 else self.axi()
@@ -219,7 +238,6 @@ class Lot:
             line = " ".join(words)
         if rng.random() < 0.03:
             line = " ".join(lacking(rng, line.split()))
-        taken(self.board, line.split())
         return line
 
     def a(self):
@@ -283,10 +301,10 @@ def main():
     print(f"seed {given.seed}")
     rng, began, failed, tried = random.Random(given.seed), time.monotonic(), 0, 0
 
-    def compare(what, lines):
+    def compare(what, lines, judge=judged):
         nonlocal failed, tried
         tried += 1
-        wanted, got = judged(lines), answered(given.tlscore, lines)
+        wanted, got = judge(lines), answered(given.tlscore, lines)
         if wanted != got:
             failed += 1
             print(f"{what}: {differs(wanted, got)}")
@@ -305,8 +323,9 @@ def main():
         found += bool(compare(f"{name}, changed", changed(rng, traces[name], first))[0])
     print(f"{found} of {given.mutated} changed traces are wrong")
     lot = Lot(rng)
-    lines = [*lot.lines, *(lot.draw() for _ in range(given.beats))]
-    wrong, counts = compare("beats by lot", lines)
+    for _ in range(given.beats):
+        lot.draw()
+    wrong, counts = compare("beats by lot", lot.set_up + lot.drawn, lot.judging.ended)
     print(f"{len(wrong)} of {counts[0]} beats by lot are wrong; {time.monotonic() - began:.0f} s")
     print(f"{tried - failed} passed, {failed} failed")
     return failed > 0
