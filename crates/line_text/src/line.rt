@@ -111,8 +111,23 @@ impl LineText {
         self.start = write_digits(number, &mut self.bytes, self.start);
     }
 
-    /// Puts a decimal number up to 255, and a space, in front.
+    /// Puts a decimal number up to 255, and a space, in front. Most have one digit.
+    #[inline(always)]
     pub(crate) fn put_byte(&mut self, number: u8)
+        requires { length self.old ≤ 60 }
+        ensures text { self.new ≡ decimal number ++ 32 ∷ self.old }
+        ensures short { length self.new ≤ length self.old + 4 }
+    {
+        if number < 10 {
+            self.put_two(b'0' + number, b' ');
+            return;
+        }
+        self.put_long_byte(number);
+    }
+
+    /// Puts a decimal number up to 255 in front, of however many digits, and a space.
+    #[inline(never)]
+    fn put_long_byte(&mut self, number: u8)
         requires { length self.old ≤ 60 }
         ensures text { self.new ≡ decimal number ++ 32 ∷ self.old }
         ensures short { length self.new ≤ length self.old + 4 }
