@@ -5,6 +5,7 @@ ghost use Rattle.bus_words.specs.Text.{flag, hex};
 
 use itoa::write_digits;
 use std::marker::Model;
+use std::simd::prelude::*;
 
 /// The two hexadecimal digits of each byte.
 const PAIRS: &[u8; 512] =
@@ -21,6 +22,20 @@ fn digits_of(byte: usize) -> (u8, u8)
     ensures second { result.1 ≡ digit_glyph false (byte % 16) }
 {
     (PAIRS[2 * byte], PAIRS[2 * byte + 1])
+}
+
+/// The 16 hexadecimal digits of a number, made together.
+#[inline(always)]
+fn sixteen_digits(number: u64) -> [u8; 16]
+    ensures { result ≡ hex 16 number }
+{
+    let bytes = u64x1::splat(number).to_le_bytes();
+    let high = bytes >> u8x8::splat(4);
+    let low = bytes & u8x8::splat(15);
+    let digits = high.shuffle(low, [7, 15, 6, 14, 5, 13, 4, 12, 3, 11, 2, 10, 1, 9, 0, 8]);
+    let are_letters = digits.simd_gt(u8x16::splat(9));
+    let glyphs = digits + are_letters.select(u8x16::splat(87), u8x16::splat(48));
+    glyphs.to_array()
 }
 
 /// The last words of a line of at most 64 bytes, with a space between each two, and its line feed. What puts some in front
@@ -80,6 +95,7 @@ impl LineText {
     }
 
     /// Puts a text in front.
+    #[inline(always)]
     pub(crate) fn put_text(&mut self, text: &[u8])
         requires { length text.now + length self.old ≤ 64 }
         ensures { self.new ≡ text.now ++ self.old }
@@ -168,6 +184,12 @@ impl LineText {
         ensures text { self.new ≡ hex digits number ++ self.old }
         ensures short { length self.new ≡ length self.old + digits }
     {
+        if digits == 16 {
+            return self.put_text(&sixteen_digits(number));
+        }
+        if digits == 8 {
+            return self.put_text(&sixteen_digits(number)[8..]);
+        }
         let mut rest = number;
         for _ in 0..digits / 2 {
             let (first, second) = digits_of((rest % 256) as usize);
