@@ -1,3 +1,4 @@
+mod AlikeLaws
 mod HexLaws
 mod LoadedLanes
 pub mod NumberLaws

@@ -1,7 +1,8 @@
 //! The lines of beats in a trace.
-ghost use Rattle.std.specs.Prelude.{◌≡◌, ◌≤◌, ◌∷◌, [], OnErr, OnOk, length};
+ghost use Rattle.std.specs.Prelude.{◌≡◌, ◌≤◌, ◌+◌, ◌∷◌, [], OnErr, OnOk, length};
 ghost use Rattle.std.specs.Io.KnownBytes.{Appends};
 ghost use Rattle.line_text.specs.Writing.{StopsShort};
+ghost use Rattle.line_text.specs.Traces.{d_front};
 ghost use Rattle.tl_messages.specs.Lines.{a_text, d_text};
 ghost use Rattle.axi_beats.specs.Lines.{ar_text, aw_text, b_text, r_text, resp_text, w_text};
 
@@ -38,13 +39,13 @@ pub fn a_line<W: Write>(client: u8, beat: &ABeat, writer: &mut W) -> Result<(), 
     write_text(text.as_slice(), writer)
 }
 
-/// `D CLIENT OPCODE PARAM SIZE SOURCE DENIED PAYLOAD CORRUPT`.
-fn d_text(text: &mut LineText, client: u8, beat: &DBeat)
-    requires start { text.old ≡ 10 ∷ [] }
-    ensures { text.new ≡ d_text client beat.now }
+/// `D CLIENT OPCODE PARAM SIZE SOURCE DENIED`, in front of a payload and what follows it.
+#[inline(always)]
+pub(crate) fn d_front(text: &mut LineText, client: u8, beat: &DBeat)
+    requires { length text.old ≤ 32 }
+    ensures is { text.new ≡ d_front client beat.now text.old }
+    ensures short { length text.new ≤ length text.old + 24 }
 {
-    text.put_last_flag(beat.corrupt);
-    text.put_hex(16, beat.payload);
     text.put_flag(beat.denied);
     text.put_byte(beat.source);
     text.put_byte(beat.size);
@@ -52,6 +53,16 @@ fn d_text(text: &mut LineText, client: u8, beat: &DBeat)
     text.put_byte(beat.opcode);
     text.put_byte(client);
     text.put_word(b"D");
+}
+
+/// `D CLIENT OPCODE PARAM SIZE SOURCE DENIED PAYLOAD CORRUPT`.
+fn d_text(text: &mut LineText, client: u8, beat: &DBeat)
+    requires start { text.old ≡ 10 ∷ [] }
+    ensures { text.new ≡ d_text client beat.now }
+{
+    text.put_last_flag(beat.corrupt);
+    text.put_hex(16, beat.payload);
+    d_front(text, client, beat);
 }
 
 /// Writes the line of a beat of a reply.

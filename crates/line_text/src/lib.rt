@@ -2,6 +2,7 @@
 //! written.
 #![tactic(auto)]
 
+mod alike_lines;
 mod beat_lines;
 mod line;
 mod numbers;

@@ -26,7 +26,7 @@ fn digits_of(byte: usize) -> (u8, u8)
 
 /// The 16 hexadecimal digits of a number, made together.
 #[inline(always)]
-fn sixteen_digits(number: u64) -> [u8; 16]
+pub(crate) fn sixteen_digits(number: u64) -> [u8; 16]
     ensures { result ≡ hex 16 number }
 {
     let bytes = u64x1::splat(number).to_le_bytes();

@@ -6,6 +6,7 @@ ghost use Rattle.line_text.specs.Traces.{accepted_text, answer_line, client_text
 ghost use Rattle.axi_beats.specs.Boxes.{w_beats_of};
 ghost use Rattle.axi_beats.specs.Lines.{w_text};
 
+use crate::alike_lines::{alike_lines, are_alike};
 use crate::beat_lines::{ar_line, aw_line, d_line, w_line};
 use crate::line::LineText;
 use crate::writing::{WriteFault, write_text};
@@ -147,6 +148,9 @@ pub fn reply_lines<W: Write>(client: u8, beats: &[DBeat], writer: &mut W) -> Res
     ensures all { OnOk result (Appends (W.contents writer.old) (W.contents writer.new) (reply_text client beats.now)) }
     ensures front { OnErr result (StopsShort (reply_text client beats.now) (W.contents writer.old) (W.contents writer.new)) }
 {
+    if beats.len() >= 4 && are_alike(&beats[0], beats) {
+        return alike_lines(client, &beats[0], beats, writer);
+    }
     for beat in beats {
         d_line(client, beat, writer)?;
     }
