@@ -9,6 +9,7 @@ mod numbers;
 mod offer_parser;
 mod plain;
 mod trace_lines;
+mod word_mask;
 mod words;
 mod writing;
 
