@@ -1,5 +1,5 @@
 //! The lines of beats in a trace.
-ghost use Rattle.std.specs.Prelude.{◌≡◌, ◌≤◌, ◌+◌, ◌∷◌, [], OnErr, OnOk, length};
+ghost use Rattle.std.specs.Prelude.{◌≡◌, ◌≤◌, ◌+◌, ◌∷◌, ◌++◌, [], OnErr, OnOk, length};
 ghost use Rattle.std.specs.Io.KnownBytes.{Appends};
 ghost use Rattle.line_text.specs.Writing.{StopsShort};
 ghost use Rattle.line_text.specs.Traces.{d_front};
@@ -85,6 +85,21 @@ fn resp_word(resp: Resp) -> &'static [u8]
         Resp::ExOkay => b"EXOKAY",
         Resp::SlvErr => b"SLVERR",
         Resp::DecErr => b"DECERR",
+    }
+}
+
+/// Puts a response's name and a space in front. Each name has code of its own, in which its length is known.
+#[inline(always)]
+fn put_resp(text: &mut LineText, resp: Resp)
+    requires { length text.old ≤ 32 }
+    ensures is { text.new ≡ resp_text resp ++ 32 ∷ text.old }
+    ensures short { length text.new ≤ length text.old + 7 }
+{
+    match resp {
+        Resp::Okay => text.put_word(b"OKAY"),
+        Resp::ExOkay => text.put_word(b"EXOKAY"),
+        Resp::SlvErr => text.put_word(b"SLVERR"),
+        Resp::DecErr => text.put_word(b"DECERR"),
     }
 }
 
@@ -182,7 +197,7 @@ fn r_text(text: &mut LineText, beat: &RBeat)
     ensures { text.new ≡ r_text beat.now }
 {
     text.put_last_flag(beat.last);
-    text.put_word(resp_word(beat.resp));
+    put_resp(text, beat.resp);
     text.put_hex(16, beat.payload);
     text.put_byte(beat.id);
     text.put_word(b"R");
