@@ -1,15 +1,17 @@
 -- Lines that differ in their data alone, and texts that are put among bytes.
-use Rattle.std.proofs.Common.{◌≡◌, ◌≤◌, ◌==◌, ℕ, ◌+◌, ◌-◌, ◌<◌, zero, Bool, true, false, List, [], ◌∷◌, ◌++◌, Option, get_or, drop, flat_map, suc, length, length-append, length-take-le, take, take_all, append_assoc, refl, sym, ap, ap₂, ◌∙◌, arith, subst, rules}
+use Rattle.std.proofs.Common.{◌≡◌, ◌≤◌, ◌==◌, ℕ, ◌+◌, ◌-◌, ◌<◌, zero, Bool, true, false, List, [], ◌∷◌, ◌++◌, Option, Some, slice_get, ◌/◌, ◌%◌, get_or, drop, flat_map, suc, length, length-append, length-take-le, take, take_all, append_assoc, refl, sym, ap, ap₂, ◌∙◌, arith, subst, rules}
 use Rattle.std.proofs.lemmas.Bool.{and_parts}
 use Rattle.std.proofs.lemmas.Bool.Decides.{nat_tests}
 use Rattle.std.proofs.lemmas.List.{take-append-le, take-take}
 use Rattle.std.specs.Bool.{beq}
 use Rattle.std.specs.Io.KnownBytes.{Appends}
+use Rattle.std.specs.Fmt.{digit_glyph}
 use Rattle.std.specs.List.{list_all}
 use Rattle.bus_words.proofs.MappedPlaces.{flat_map-take}
 use Rattle.bus_words.specs.Text.{flag, hex}
 use Rattle.tl_messages.specs.Lines.{d_text}
 use Rattle.tl_messages.specs.declared.DBeat.{DBeat}
+use Rattle.line_text.proofs.HexLaws.{last_digits-alone}
 use Rattle.line_text.proofs.Writings.{flat_map-parts, read_at, short_before, short_behind}
 use Rattle.line_text.specs.Traces.{d_front, is_alike}
 use Rattle.line_text.specs.Writing.{StopsShort}
@@ -81,11 +83,15 @@ one_more client first beats k other front text lines new all within is behind fa
     flat_map-take (d_text client) beats k beat (read_at beats k other within) ∙ ap₂ (λ a b. a ++ b) far line ∙ append_assoc text lines (front ++ end) ∙ ap (λ t. text ++ t) (sym behind)
 
 -- those lines weren't all written
-pub short_of_lines : (client : ℕ) (beats : List DBeat) (k : ℕ) (other : DBeat) (text lines : List ℕ) (old between new : Option (List ℕ)) → k < length beats → flat_map (d_text client) (take k beats) ≡ text ++ lines → Appends old between text
-    → StopsShort lines between new → StopsShort (flat_map (d_text client) beats) old new
-short_of_lines client beats k other text lines old between new within far wrote short =
-    let f = d_text client in
-    let beat = get_or beats k other in
-    let front = flat_map f (take k beats) in
-    rw (flat_map-parts f beats k beat (read_at beats k other within))
-    (short_before (front ++ f beat) (flat_map f (drop (suc k) beats)) old new (short_before front (f beat) old new (subst (λ t. StopsShort t old new) (sym far) (short_behind text lines old between new wrote short))))
+pub short_of_lines : {X : Type 0} (f : X → List ℕ) (xs : List X) (k : ℕ) (x : X) (text lines : List ℕ) (old between new : Option (List ℕ)) → slice_get xs k ≡ Some x → flat_map f (take k xs) ≡ text ++ lines → Appends old between text
+    → StopsShort lines between new → StopsShort (flat_map f xs) old new
+short_of_lines f xs k x text lines old between new found far wrote short =
+    let front = flat_map f (take k xs) in
+    rw (flat_map-parts f xs k x found)
+    (short_before (front ++ f x) (flat_map f (drop (suc k) xs)) old new (short_before front (f x) old new (subst (λ t. StopsShort t old new) (sym far) (short_behind text lines old between new wrote short))))
+
+-- the two digits of a byte
+pub hex-pair : (byte first second : ℕ) → byte < 256 → first ≡ digit_glyph false (byte / 16) → second ≡ digit_glyph false (byte % 16) → first ∷ second ∷ [] ≡ hex 2 byte
+hex-pair byte first second small one two =
+    let high : byte / 16 ≡ byte / 16 % 16 = omega arith in
+    ap₂ (λ a b. a ∷ b ∷ []) (one ∙ ap (digit_glyph false) high) two ∙ last_digits-alone 2 byte (omega arith) (omega arith) small

@@ -80,7 +80,7 @@ by_fuel fuel count number all some enough small =
 pub last_digits-hex : (count number : ℕ) (text : List ℕ) → 0 < count → count ≤ 64 → number < 16 ^ count → last_digits count number text ≡ hex count number ++ text
 last_digits-hex count number text some enough small = last_digits-append count number [] text ∙ ap (λ front. front ++ text) (by_fuel 64 count number (digits_onto-nil number) some enough small)
 
-last_digits-alone : (count number : ℕ) → 0 < count → count ≤ 64 → number < 16 ^ count → last_digits count number [] ≡ hex count number
+pub last_digits-alone : (count number : ℕ) → 0 < count → count ≤ 64 → number < 16 ^ count → last_digits count number [] ≡ hex count number
 last_digits-alone count number some enough small = last_digits-hex count number [] some enough small ∙ append-nil (hex count number)
 
 -- the last eight of 16 digits are those of a number that has no more

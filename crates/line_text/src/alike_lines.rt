@@ -1,14 +1,18 @@
-//! The lines of a reply's beats that differ in their data alone. They are put together and written many at a time.
-ghost use Rattle.std.specs.Prelude.{◌≡◌, ◌≤◌, ◌<◌, ◌+◌, ◌∷◌, ◌++◌, [], true, OnErr, OnOk, length, take};
+//! Lines that are put together and written many at a time: those of a reply's beats that differ in their data alone, and those
+//! of a write's data.
+ghost use Rattle.std.specs.Prelude.{◌≡◌, ◌≤◌, ◌<◌, ◌+◌, ◌∷◌, ◌++◌, [], true, OnErr, OnOk, flat_map, length, take};
 ghost use Rattle.std.specs.Io.KnownBytes.{Appends};
 ghost use Rattle.std.specs.List.{list_all};
+ghost use Rattle.axi_beats.specs.Boxes.{w_beats_of};
+ghost use Rattle.axi_beats.specs.Lines.{w_text};
 ghost use Rattle.bus_words.specs.Text.{flag, hex};
 ghost use Rattle.line_text.specs.Traces.{d_front, is_alike, reply_text};
 ghost use Rattle.line_text.specs.Writing.{StopsShort, WritesSome};
 
 use crate::beat_lines::d_front;
-use crate::line::{LineText, sixteen_digits};
+use crate::line::{LineText, digits_of, sixteen_digits};
 use crate::writing::{WriteFault, write_text};
+use axi_beats::{BurstBox, WBeat};
 use std::io::Write;
 use std::marker::Model;
 use tl_messages::DBeat;
@@ -115,6 +119,24 @@ impl Lines {
         self.length = digits + 19;
     }
 
+    /// Puts the line of a write's data behind.
+    #[inline(always)]
+    fn push_w(&mut self, beat: &WBeat)
+        requires { length self.old ≤ 448 }
+        ensures { self.new ≡ self.old ++ w_text beat.now }
+    {
+        let start = self.length;
+        let (first, second) = digits_of(usize::from(beat.strobes));
+        put(&mut self.bytes, start, b"W ");
+        put(&mut self.bytes, start + 2, &sixteen_digits(beat.payload));
+        put(
+            &mut self.bytes,
+            start + 18,
+            &[b' ', first, second, b' ', flag_byte(beat.last), b'\n'],
+        );
+        self.length = start + 24;
+    }
+
     /// Writes the lines where there is no room for one more.
     #[inline(always)]
     fn make_room<W: Write>(&mut self, writer: &mut W) -> Result<(), WriteFault>
@@ -171,6 +193,20 @@ pub(crate) fn alike_lines<W: Write>(
     for beat in beats {
         lines.make_room(writer)?;
         lines.push(&front, beat.payload, beat.corrupt);
+    }
+    write_text(lines.as_slice(), writer)
+}
+
+/// Writes the line of each W beat of a write.
+#[inline(never)]
+pub(crate) fn w_lines<W: Write>(burst: &BurstBox, writer: &mut W) -> Result<(), WriteFault>
+    ensures all { OnOk result (Appends (W.contents writer.old) (W.contents writer.new) (flat_map w_text (w_beats_of burst.now))) }
+    ensures front { OnErr result (StopsShort (flat_map w_text (w_beats_of burst.now)) (W.contents writer.old) (W.contents writer.new)) }
+{
+    let mut lines = Lines::new();
+    for k in 0..burst.w_beats() {
+        lines.make_room(writer)?;
+        lines.push_w(&burst.w(k));
     }
     write_text(lines.as_slice(), writer)
 }

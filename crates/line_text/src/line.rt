@@ -16,7 +16,7 @@ const EMPTY: &[u8; 64] = b"                                                     
 
 /// The two hexadecimal digits of a byte.
 #[inline(always)]
-fn digits_of(byte: usize) -> (u8, u8)
+pub(crate) fn digits_of(byte: usize) -> (u8, u8)
     requires { byte < 256 }
     ensures first { result.0 ≡ digit_glyph false (byte / 16) }
     ensures second { result.1 ≡ digit_glyph false (byte % 16) }

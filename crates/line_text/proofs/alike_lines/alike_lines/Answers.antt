@@ -2,7 +2,7 @@ use Rattle.std.proofs.Common.{◌≡◌, ◌<◌, ◌++◌, ◌∙◌, Err, appe
 use Rattle.std.proofs.KnownBytes.{Appends-trans}
 use Rattle.tl_messages.specs.Lines.{d_text}
 use Rattle.line_text.proofs.AlikeLaws.{one_more, short_of_lines}
-use Rattle.line_text.proofs.Writings.{on_behind}
+use Rattle.line_text.proofs.Writings.{on_behind, read_at}
 use Rattle.line_text.proofs.alike_lines.alike_lines.Goals as goal
 
 pub returns-in_err-make_room-clause-front : goal.returns-in_err-make_room-clause-front
@@ -11,7 +11,8 @@ returns-in_err-make_room-clause-front g c =
     let within : l.beat-index < length c.args.beats.now = omega (arith, c.loop-beat-test.true) in
     let same : c.from_residual.result ≡ Err c.in_err-make_room.field-0.0 = search rules in
     rw same
-    (short_of_lines c.args.client c.args.beats.now l.beat-index c.args.first.now l.invariant.0 l.lines (g.W.Write.contents c.args.writer.now) (g.W.Write.contents l.writer) (g.W.Write.contents c.make_room.new.writer) within
+    (short_of_lines (d_text c.args.client) c.args.beats.now l.beat-index _ l.invariant.0 l.lines (g.W.Write.contents c.args.writer.now) (g.W.Write.contents l.writer) (g.W.Write.contents c.make_room.new.writer)
+    (read_at c.args.beats.now l.beat-index c.args.first.now within)
     l.invariant.1 l.invariant.2 c.in_err-make_room.ensures.front)
 
 pub loop-beat-preserved : goal.loop-beat-preserved
