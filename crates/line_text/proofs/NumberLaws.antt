@@ -1,5 +1,5 @@
 -- What digits write, digit by digit.
-use Rattle.std.proofs.Common.{T, cond, eqb, eqb→eq, subst, ◌≡◌, ◌<◌, ◌≤◌, ℕ, suc, ◌+◌, ◌*◌, ◌^◌, List, [], ◌∷◌, ◌++◌, length, take, drop, get_or, Bool, true, false, ◌&&◌, nat_le, nat_lt, Some, None, refl, sym, ap, ◌∙◌, arith, if◌then◌else◌, length-take-le, take_all, take-append-drop, rules}
+use Rattle.std.proofs.Common.{T, cond, eqb, eqb→eq, subst, ◌≡◌, ◌<◌, ◌≤◌, ℕ, suc, ◌+◌, ◌*◌, ◌^◌, List, [], ◌∷◌, ◌++◌, length, take, drop, get_or, Bool, true, false, ◌&&◌, nat_le, nat_lt, Option, Some, None, MatchOption, refl, sym, ap, ◌∙◌, arith, if◌then◌else◌, length-take-le, take_all, take-append-drop, rules}
 use Rattle.std.proofs.Math.Nat.{pow-le-pow_right, mul-le-mul_right, pow-suc, pow-succ', pow-zero, mul-one, add-mul, mul_assoc, le_trans}
 use Rattle.std.proofs.lemmas.Bool.{agree_below_at, and_parts}
 use Rattle.std.proofs.lemmas.Bool.Decides.{nat_tests}
@@ -180,6 +180,21 @@ longest word long all digit =
     let more = value-more 10 word 19 (digits_value 10 (take 19 word)) 10 (digit_value (get_or word 19 0)) (omega arith) all refl refl digit refl in
     let whole = take_all 20 word (omega arith) in
     (ap (all_digits 10) (sym whole) ∙ more.0, ap (digits_value 10) (sym whole) ∙ sym more.1)
+
+-- a word of one byte
+pub number_of-one : (radix most : ℕ) (word : List ℕ) (result : Option ℕ) → 0 < most → radix ≤ 16 → length word ≡ 1
+    → MatchOption result (is_digit (get_or word 0 0) radix ≡ false) (λ digit. (is_digit (get_or word 0 0) radix ≡ true) × (digit ≡ digit_value (get_or word 0 0))) → result ≡ number_of radix most word
+number_of-one radix most [] result some few one reads = absurd (omega (arith, one))
+number_of-one radix most (x ∷ y ∷ word) result some few one reads = absurd (omega (arith, one))
+number_of-one radix most (x ∷ []) None some few one other =
+    sym (number_of-none radix most (x ∷ []) (λ _ _ all small. no (sym (and_parts (is_digit x radix) true all).0 ∙ other)))
+  where
+    no : true ≡ false → ⊥
+    no wrong = search rules
+number_of-one radix most (x ∷ []) (Some digit) some few one (is, same) =
+    let value : digits_value radix (x ∷ []) ≡ digit_value x = omega arith in
+    let small : digit_value x < radix = is_digit-small x radix is in
+    ap Some (same ∙ sym value) ∙ sym (number_of-digits radix most (x ∷ []) (omega arith) (omega arith) (rw is refl) (omega (arith, value, small)))
 
 -- a word in two parts of which one has a byte that is no digit
 pub number_of-parts : (radix most : ℕ) (word : List ℕ) (i : ℕ) → (all_digits radix (take i word) && all_digits radix (drop i word)) ≡ false → number_of radix most word ≡ None

@@ -83,8 +83,20 @@ fn longest_decimal(word: &[u8]) -> Option<u64>
     Some(front * 10 + last)
 }
 
-/// The number that 1 to 20 decimal digits write, where it has at most 64 bits.
+/// The number that 1 to 20 decimal digits write, where it has at most 64 bits. Most words have one digit.
+#[inline(always)]
 pub(crate) fn decimal(word: &[u8]) -> Option<u64>
+    ensures { result ≡ number_of 10 20 word.now }
+{
+    if word.len() == 1 {
+        return digit_of(word[0], 10);
+    }
+    long_decimal(word)
+}
+
+/// The same, of however many digits.
+#[inline(never)]
+fn long_decimal(word: &[u8]) -> Option<u64>
     ensures { result ≡ number_of 10 20 word.now }
 {
     if word.is_empty() || word.len() > DECIMAL_DIGITS {
@@ -124,8 +136,8 @@ fn sixteen(word: &[u8]) -> Option<u64>
     Some(high * 0x1_0000_0000 + low)
 }
 
-/// The number that 1 to 16 hexadecimal digits of either case write. Most words have 8 or 16, which are read with no test
-/// between their digits.
+/// The number that 1 to 16 hexadecimal digits of either case write. Words of 8 and of 16 have code of their own, in which the
+/// number of digits is known.
 pub(crate) fn hexadecimal(word: &[u8]) -> Option<u64>
     ensures { result ≡ number_of 16 16 word.now }
 {
@@ -137,6 +149,9 @@ pub(crate) fn hexadecimal(word: &[u8]) -> Option<u64>
     }
     if word.is_empty() || word.len() > HEXADECIMAL_DIGITS {
         return None;
+    }
+    if word.len() < 8 {
+        return eight_at_most(word);
     }
     value_of(word, 16)
 }
