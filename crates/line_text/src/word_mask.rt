@@ -29,16 +29,32 @@ fn of_16(line: &[u8], at: usize) -> u64
         .to_bitmask()
 }
 
-/// Which bytes of a line of 16 to 63 are no spaces. Those in the middle are looked at twice.
+/// Which of 8 bytes from a place on are no spaces.
+#[inline(always)]
+fn of_8(line: &[u8], at: usize) -> u64
+    requires { at + 8 ≤ length line.now }
+    ensures here { (k : ℕ) → k < 8 → bit_at result k ≡ (if is_in_word line.now (at + k) then 1 else 0) }
+    ensures small { result < 2 ^ 8 }
+{
+    u8x8::from_slice(&line[at..])
+        .simd_ne(u8x8::splat(0x20))
+        .to_bitmask()
+}
+
+/// Which bytes of a line of 8 to 63 are no spaces. Those in the middle are looked at twice.
 #[inline(always)]
 pub(crate) fn in_words(line: &[u8]) -> u64
-    requires { (16 ≤ length line.now) × (length line.now ≤ 63) }
+    requires { (8 ≤ length line.now) × (length line.now ≤ 63) }
     ensures { ((k : ℕ) → bit_at result k ≡ (if is_in_word line.now k then 1 else 0)) × (result < 2 ^ 63) }
 {
     if line.len() >= 32 {
         let behind = line.len() - 32;
         return of_32(line, 0) | (of_32(line, behind) << behind);
     }
-    let behind = line.len() - 16;
-    of_16(line, 0) | (of_16(line, behind) << behind)
+    if line.len() >= 16 {
+        let behind = line.len() - 16;
+        return of_16(line, 0) | (of_16(line, behind) << behind);
+    }
+    let behind = line.len() - 8;
+    of_8(line, 0) | (of_8(line, behind) << behind)
 }

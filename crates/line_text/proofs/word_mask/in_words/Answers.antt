@@ -9,8 +9,15 @@ returns-then-line-ge32 c =
     joined_mask c.args.line.now 32 (length c.args.line.now - 32) c.of_32.result c.of_32-then-line-ge32.result (omega arith) (omega arith) (record { here = a.here; small = a.small }) (record { here = b.here; small = b.small })
     (omega arith) (omega arith)
 
+pub returns-then-line-ge16 : goal.returns-then-line-ge16
+returns-then-line-ge16 c =
+    let a = c.of_16.ensures in
+    let b = c.of_16-then-line-ge16.ensures in
+    joined_mask c.args.line.now 16 (length c.args.line.now - 16) c.of_16.result c.of_16-then-line-ge16.result (omega arith) (omega arith) (record { here = a.here; small = a.small }) (record { here = b.here; small = b.small })
+    (omega arith) (omega arith)
+
 pub returns : goal.returns
 returns c =
-    let a = c.of_16.ensures in
-    let b = c.of_16-2.ensures in
-    joined_mask c.args.line.now 16 (length c.args.line.now - 16) c.of_16.result c.of_16-2.result (omega arith) (omega arith) (record { here = a.here; small = a.small }) (record { here = b.here; small = b.small }) (omega arith) (omega arith)
+    let a = c.of_8.ensures in
+    let b = c.of_8-2.ensures in
+    joined_mask c.args.line.now 8 (length c.args.line.now - 8) c.of_8.result c.of_8-2.result (omega arith) (omega arith) (record { here = a.here; small = a.small }) (record { here = b.here; small = b.small }) (omega arith) (omega arith)
