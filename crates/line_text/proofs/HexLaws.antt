@@ -1,9 +1,11 @@
 -- The hexadecimal digits of a number, from the last on.
-use Rattle.std.proofs.Common.{◌≡◌, ◌≢◌, ◌≤◌, ◌<◌, ◌==◌, ◌*◌, ◌&&◌, T, eqb, eqb→eq, eq-zero-or-pos, inl, inr, ℕ, zero, suc, ◌+◌, ◌-◌, ◌/◌, ◌%◌, ◌^◌, Bool, true, false, get_or, List, [], ◌∷◌, ◌++◌, length, length-append, length-drop, drop, replicate, refl, sym, ap, ◌∙◌, arith, if◌then◌else◌}
+use Rattle.std.proofs.Common.{◌≡◌, ◌≢◌, ◌≤◌, ◌<◌, ◌==◌, ◌*◌, ◌&&◌, T, eqb, eqb→eq, eq-zero-or-pos, inl, inr, ℕ, zero, suc, ◌+◌, ◌-◌, ◌/◌, ◌%◌, ◌^◌, Bool, true, false, get_or, List, [], ◌∷◌, ◌++◌, length, length-append, length-drop, drop, take, replicate, refl, sym, ap, ap₂, subst, cond, ltb, bit_and, append-nil, ◌∙◌, arith, if◌then◌else◌}
 use lib.Ieee.Fits.{and_l, and_r}
 use Rattle.std.proofs.Math.Nat.{pow-suc}
+use Rattle.std.proofs.lemmas.Bool.{agree_below_at, and_parts}
 use Rattle.std.proofs.lemmas.Bool.Decides.{nat_tests}
 use Rattle.std.specs.Fmt.{digits, digits_onto, digit_glyph}
+use lib.Lanes.{top}
 use Rattle.bus_words.specs.Text.{hex}
 use Rattle.line_text.specs.declared.line.TheConstants.{PAIRS}
 
@@ -78,6 +80,15 @@ by_fuel fuel count number all some enough small =
 pub last_digits-hex : (count number : ℕ) (text : List ℕ) → 0 < count → count ≤ 64 → number < 16 ^ count → last_digits count number text ≡ hex count number ++ text
 last_digits-hex count number text some enough small = last_digits-append count number [] text ∙ ap (λ front. front ++ text) (by_fuel 64 count number (digits_onto-nil number) some enough small)
 
+pub last_digits-alone : (count number : ℕ) → 0 < count → count ≤ 64 → number < 16 ^ count → last_digits count number [] ≡ hex count number
+last_digits-alone count number some enough small = last_digits-hex count number [] some enough small ∙ append-nil (hex count number)
+
+-- the last eight of 16 digits are those of a number that has no more
+pub hex-end : (number : ℕ) → number < 16 ^ 8 → take 8 (drop 8 (hex 16 number)) ≡ hex 8 number
+hex-end number small =
+    let all : number < 16 ^ 16 = omega (arith, small) in
+    ap (λ digits. take 8 (drop 8 digits)) (sym (last_digits-alone 16 number (omega arith) (omega arith) all)) ∙ last_digits-alone 8 number (omega arith) (omega arith) small
+
 -- one digit more
 pub last_digits-step : (left rest : ℕ) (text : List ℕ) → 0 < left → last_digits (left - 1) (rest / 16) (digit_glyph false (rest % 16) ∷ text) ≡ last_digits left rest text
 last_digits-step zero rest text some = absurd (omega arith)
@@ -94,6 +105,40 @@ last_digits-pair (suc (suc left)) rest text some =
     let low : rest % 256 % 16 ≡ rest % 16 = omega arith in
     let off : rest / 256 ≡ rest / 16 / 16 = omega arith in
     rw (less, high, low, off) refl
+
+-- ---- the digits of eight bytes, which are made lane by lane
+
+-- the glyph of a digit, as a lane of bytes has it
+abbrev glyph : ℕ → ℕ
+glyph digit = (digit + cond (top 7 (cond (ltb 9 digit) 255 0)) 87 48) % 256
+
+abbrev pair_onto : ℕ → List ℕ → List ℕ
+pair_onto byte text = glyph (byte / 16) ∷ glyph (bit_and byte 15) ∷ text
+
+abbrev is_pair : ℕ → Bool
+is_pair byte = eqb (glyph (byte / 16)) (digit_glyph false (byte / 16)) && eqb (glyph (bit_and byte 15)) (digit_glyph false (byte % 16))
+
+pair_onto-is : (byte : ℕ) (text : List ℕ) → byte < 256 → pair_onto byte text ≡ digit_glyph false (byte / 16) ∷ digit_glyph false (byte % 16) ∷ text
+pair_onto-is byte text below =
+    let parts = and_parts _ _ (agree_below_at is_pair (λ _. true) 256 byte refl below) in
+    ap₂ (λ first second. first ∷ second ∷ text) (eqb→eq _ _ (subst T (sym parts.0) tt)) (eqb→eq _ _ (subst T (sym parts.1) tt))
+
+-- the digits of the last so many bytes of a number
+abbrev bytes_onto : ℕ → ℕ → List ℕ → List ℕ
+bytes_onto zero number text = text
+bytes_onto (suc count) number text = bytes_onto count (number / 256) (pair_onto (number % 256) text)
+
+bytes_onto-last : (count number : ℕ) (text : List ℕ) → bytes_onto count number text ≡ last_digits (2 * count) number text
+bytes_onto-last zero number text = refl
+bytes_onto-last (suc count) number text =
+    let less : 2 * count ≡ 2 * suc count - 2 = omega arith in
+    bytes_onto-last count (number / 256) (pair_onto (number % 256) text)
+    ∙ ap (last_digits (2 * count) (number / 256)) (pair_onto-is (number % 256) text (omega arith))
+    ∙ ap (λ n. last_digits n (number / 256) (digit_glyph false (number % 256 / 16) ∷ digit_glyph false (number % 256 % 16) ∷ text)) less
+    ∙ last_digits-pair (2 * suc count) number text (omega arith)
+
+pub bytes_onto-hex : (number lanes : ℕ) → number < 2 ^ 64 → lanes ≡ number → bytes_onto 8 lanes [] ≡ hex 16 number
+bytes_onto-hex number lanes fits is = ap (λ n. bytes_onto 8 n []) is ∙ bytes_onto-last 8 number [] ∙ last_digits-alone 16 number (omega arith) (omega arith) fits
 
 -- the digits of a byte
 abbrev pub AreDigits : ℕ → Type 0

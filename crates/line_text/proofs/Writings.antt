@@ -19,7 +19,7 @@ pub short_before : (text more : List ℕ) (old new : Option (List ℕ)) → Stop
 short_before text more old new (front, rest, some, is, wrote) =
     (front, rest ++ more, some_before rest more some, ap (λ xs. xs ++ more) is ∙ append_assoc front rest more, wrote)
 
-short_behind : (text more : List ℕ) (old between new : Option (List ℕ)) → Appends old between text → StopsShort more between new → StopsShort (text ++ more) old new
+pub short_behind : (text more : List ℕ) (old between new : Option (List ℕ)) → Appends old between text → StopsShort more between new → StopsShort (text ++ more) old new
 short_behind text more old between new wrote (front, rest, some, is, further) =
     (text ++ front, rest, some, ap (λ xs. text ++ xs) is ∙ sym (append_assoc text front rest), Appends-trans old between new text front wrote further)
 
@@ -29,7 +29,7 @@ pub on_behind : {T E : Type 0} (text more : List ℕ) (old between new : Option 
 on_behind text more old between new (Ok done) wrote short = tt
 on_behind text more old between new (Err fault) wrote short = short_behind text more old between new wrote short
 
-flat_map-parts : {X : Type 0} (f : X → List ℕ) (xs : List X) (k : ℕ) (x : X) → slice_get xs k ≡ Some x → flat_map f xs ≡ (flat_map f (take k xs) ++ f x) ++ flat_map f (drop (suc k) xs)
+pub flat_map-parts : {X : Type 0} (f : X → List ℕ) (xs : List X) (k : ℕ) (x : X) → slice_get xs k ≡ Some x → flat_map f xs ≡ (flat_map f (take k xs) ++ f x) ++ flat_map f (drop (suc k) xs)
 flat_map-parts f [] k x found = search rules
 flat_map-parts f (y ∷ ys) zero x found = search rules
 flat_map-parts f (y ∷ ys) (suc k) x found =
@@ -44,7 +44,7 @@ short_at f xs k x old between new found wrote short =
     rw (flat_map-parts f xs k x found)
     (short_before (flat_map f (take k xs) ++ f x) (flat_map f (drop (suc k) xs)) old new (short_behind (flat_map f (take k xs)) (f x) old between new wrote short))
 
-read_at : {X : Type 0} (xs : List X) (k : ℕ) (other : X) → k < length xs → slice_get xs k ≡ Some (get_or xs k other)
+pub read_at : {X : Type 0} (xs : List X) (k : ℕ) (other : X) → k < length xs → slice_get xs k ≡ Some (get_or xs k other)
 read_at [] k other within = absurd (omega (arith, within))
 read_at (x ∷ xs) zero other within = refl
 read_at (x ∷ xs) (suc k) other within = read_at xs k other (omega (arith, within))

@@ -1,6 +1,7 @@
 -- The lines of a trace that aren't beats (this project's profile).
-use Rattle.std.specs.Prelude.{ℕ, List, [], ◌∷◌, ◌++◌, Option, Some, None, codes, decimal, flat_map}
-use Rattle.bus_words.specs.Text.{line, hex}
+use Rattle.std.specs.Prelude.{ℕ, ◌==◌, Bool, ◌&&◌, List, [], ◌∷◌, ◌++◌, Option, Some, None, codes, decimal, flat_map}
+use Rattle.std.specs.Bool.{beq}
+use Rattle.bus_words.specs.Text.{line, flag, hex}
 use Rattle.tl_messages.specs.Lines.{d_text}
 use Rattle.tl_messages.specs.declared.DBeat.{DBeat}
 use Rattle.tl_checker.specs.Names.{number_of, name_of}
@@ -45,6 +46,17 @@ burst_text (ReadBurst ar) = ar_text ar
 abbrev pub held_text : Option Burst → List ℕ
 held_text None = []
 held_text (Some burst) = burst_text burst
+
+-- what the line of a reply's beat has in front of its payload
+abbrev pub d_front : ℕ → DBeat → List ℕ → List ℕ
+d_front client beat rest =
+    codes "D"
+    ++ (32 ∷ (decimal client ++ (32 ∷ (decimal beat.opcode ++ (32 ∷ (decimal beat.param ++ (32 ∷ (decimal beat.size ++ (32 ∷ (decimal beat.source ++ (32 ∷ (flag beat.denied ++ (32 ∷ rest)))))))))))))
+
+-- whether the lines of two beats differ in their data alone
+abbrev pub is_alike : DBeat → DBeat → Bool
+is_alike first beat =
+    (((first.opcode == beat.opcode && first.param == beat.param) && first.size == beat.size) && first.source == beat.source) && beq first.denied beat.denied
 
 -- the lines of a reply's beats
 abbrev pub reply_text : ℕ → List DBeat → List ℕ

@@ -1,5 +1,5 @@
 -- Lines, words and numbers of a script (this project's profile). A text is the list of its bytes.
-use Rattle.std.specs.Prelude.{◌≡◌, ◌≤◌, ◌<◌, ℕ, ◌-◌, ◌==◌, Bool, true, ◌&&◌, not, List, [], ◌∷◌, map, filter, length, if◌then◌else◌, nat_le, nat_lt, nat_eq, Option, Some, None, codes, slice_get, slice_index, slice_range, unwrap_or}
+use Rattle.std.specs.Prelude.{◌≡◌, ◌≤◌, ◌<◌, ℕ, ◌-◌, ◌==◌, Bool, true, ◌&&◌, not, List, [], ◌∷◌, map, filter, length, if◌then◌else◌, nat_le, nat_lt, nat_eq, Option, Some, None, codes, slice_get, slice_index, slice_index_or, slice_range, unwrap_or}
 use Rattle.std.specs.List.{slice_split, list_all, starts_with}
 use Rattle.std.specs.Char.{is_digit}
 use Rattle.std.specs.Str.Lines.{strip_carriage_return}
@@ -51,6 +51,10 @@ words_of line = filter is_word (slice_split (λ byte. byte == 32) line)
 -- word number n of a line, from 1; empty where there is none
 abbrev pub word_at : List (List ℕ) → ℕ → List ℕ
 word_at words n = unwrap_or (slice_get words (n - 1)) []
+
+-- whether a byte of a line stands in a word: there is none from the line's end on
+abbrev pub is_in_word : List ℕ → ℕ → Bool
+is_in_word line k = not (slice_index_or line k 32 == 32)
 
 -- where word k of a line, from 0, stands in it
 abbrev pub IsPlace : List ℕ → List ℕ → List ℕ → ℕ → Type 0

@@ -1,7 +1,8 @@
 //! The lines of beats in a trace.
-ghost use Rattle.std.specs.Prelude.{◌≡◌, ◌≤◌, ◌∷◌, [], OnErr, OnOk, length};
+ghost use Rattle.std.specs.Prelude.{◌≡◌, ◌≤◌, ◌+◌, ◌∷◌, ◌++◌, [], OnErr, OnOk, length};
 ghost use Rattle.std.specs.Io.KnownBytes.{Appends};
 ghost use Rattle.line_text.specs.Writing.{StopsShort};
+ghost use Rattle.line_text.specs.Traces.{d_front};
 ghost use Rattle.tl_messages.specs.Lines.{a_text, d_text};
 ghost use Rattle.axi_beats.specs.Lines.{ar_text, aw_text, b_text, r_text, resp_text, w_text};
 
@@ -38,13 +39,13 @@ pub fn a_line<W: Write>(client: u8, beat: &ABeat, writer: &mut W) -> Result<(), 
     write_text(text.as_slice(), writer)
 }
 
-/// `D CLIENT OPCODE PARAM SIZE SOURCE DENIED PAYLOAD CORRUPT`.
-fn d_text(text: &mut LineText, client: u8, beat: &DBeat)
-    requires start { text.old ≡ 10 ∷ [] }
-    ensures { text.new ≡ d_text client beat.now }
+/// `D CLIENT OPCODE PARAM SIZE SOURCE DENIED`, in front of a payload and what follows it.
+#[inline(always)]
+pub(crate) fn d_front(text: &mut LineText, client: u8, beat: &DBeat)
+    requires { length text.old ≤ 32 }
+    ensures is { text.new ≡ d_front client beat.now text.old }
+    ensures short { length text.new ≤ length text.old + 24 }
 {
-    text.put_last_flag(beat.corrupt);
-    text.put_hex(16, beat.payload);
     text.put_flag(beat.denied);
     text.put_byte(beat.source);
     text.put_byte(beat.size);
@@ -52,6 +53,16 @@ fn d_text(text: &mut LineText, client: u8, beat: &DBeat)
     text.put_byte(beat.opcode);
     text.put_byte(client);
     text.put_word(b"D");
+}
+
+/// `D CLIENT OPCODE PARAM SIZE SOURCE DENIED PAYLOAD CORRUPT`.
+fn d_text(text: &mut LineText, client: u8, beat: &DBeat)
+    requires start { text.old ≡ 10 ∷ [] }
+    ensures { text.new ≡ d_text client beat.now }
+{
+    text.put_last_flag(beat.corrupt);
+    text.put_hex(16, beat.payload);
+    d_front(text, client, beat);
 }
 
 /// Writes the line of a beat of a reply.
@@ -74,6 +85,21 @@ fn resp_word(resp: Resp) -> &'static [u8]
         Resp::ExOkay => b"EXOKAY",
         Resp::SlvErr => b"SLVERR",
         Resp::DecErr => b"DECERR",
+    }
+}
+
+/// Puts a response's name and a space in front. Each name has code of its own, in which its length is known.
+#[inline(always)]
+fn put_resp(text: &mut LineText, resp: Resp)
+    requires { length text.old ≤ 32 }
+    ensures is { text.new ≡ resp_text resp ++ 32 ∷ text.old }
+    ensures short { length text.new ≤ length text.old + 7 }
+{
+    match resp {
+        Resp::Okay => text.put_word(b"OKAY"),
+        Resp::ExOkay => text.put_word(b"EXOKAY"),
+        Resp::SlvErr => text.put_word(b"SLVERR"),
+        Resp::DecErr => text.put_word(b"DECERR"),
     }
 }
 
@@ -171,7 +197,7 @@ fn r_text(text: &mut LineText, beat: &RBeat)
     ensures { text.new ≡ r_text beat.now }
 {
     text.put_last_flag(beat.last);
-    text.put_word(resp_word(beat.resp));
+    put_resp(text, beat.resp);
     text.put_hex(16, beat.payload);
     text.put_byte(beat.id);
     text.put_word(b"R");

@@ -2,12 +2,14 @@
 //! written.
 #![tactic(auto)]
 
+mod alike_lines;
 mod beat_lines;
 mod line;
 mod numbers;
 mod offer_parser;
 mod plain;
 mod trace_lines;
+mod word_mask;
 mod words;
 mod writing;
 

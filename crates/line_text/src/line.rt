@@ -5,6 +5,7 @@ ghost use Rattle.bus_words.specs.Text.{flag, hex};
 
 use itoa::write_digits;
 use std::marker::Model;
+use std::simd::prelude::*;
 
 /// The two hexadecimal digits of each byte.
 const PAIRS: &[u8; 512] =
@@ -15,12 +16,26 @@ const EMPTY: &[u8; 64] = b"                                                     
 
 /// The two hexadecimal digits of a byte.
 #[inline(always)]
-fn digits_of(byte: usize) -> (u8, u8)
+pub(crate) fn digits_of(byte: usize) -> (u8, u8)
     requires { byte < 256 }
     ensures first { result.0 ≡ digit_glyph false (byte / 16) }
     ensures second { result.1 ≡ digit_glyph false (byte % 16) }
 {
     (PAIRS[2 * byte], PAIRS[2 * byte + 1])
+}
+
+/// The 16 hexadecimal digits of a number, made together.
+#[inline(always)]
+pub(crate) fn sixteen_digits(number: u64) -> [u8; 16]
+    ensures { result ≡ hex 16 number }
+{
+    let bytes = u64x1::splat(number).to_le_bytes();
+    let high = bytes >> u8x8::splat(4);
+    let low = bytes & u8x8::splat(15);
+    let digits = high.shuffle(low, [7, 15, 6, 14, 5, 13, 4, 12, 3, 11, 2, 10, 1, 9, 0, 8]);
+    let are_letters = digits.simd_gt(u8x16::splat(9));
+    let glyphs = digits + are_letters.select(u8x16::splat(87), u8x16::splat(48));
+    glyphs.to_array()
 }
 
 /// The last words of a line of at most 64 bytes, with a space between each two, and its line feed. What puts some in front
@@ -80,6 +95,7 @@ impl LineText {
     }
 
     /// Puts a text in front.
+    #[inline(always)]
     pub(crate) fn put_text(&mut self, text: &[u8])
         requires { length text.now + length self.old ≤ 64 }
         ensures { self.new ≡ text.now ++ self.old }
@@ -111,8 +127,23 @@ impl LineText {
         self.start = write_digits(number, &mut self.bytes, self.start);
     }
 
-    /// Puts a decimal number up to 255, and a space, in front.
+    /// Puts a decimal number up to 255, and a space, in front. Most have one digit.
+    #[inline(always)]
     pub(crate) fn put_byte(&mut self, number: u8)
+        requires { length self.old ≤ 60 }
+        ensures text { self.new ≡ decimal number ++ 32 ∷ self.old }
+        ensures short { length self.new ≤ length self.old + 4 }
+    {
+        if number < 10 {
+            self.put_two(b'0' + number, b' ');
+            return;
+        }
+        self.put_long_byte(number);
+    }
+
+    /// Puts a decimal number up to 255 in front, of however many digits, and a space.
+    #[inline(never)]
+    fn put_long_byte(&mut self, number: u8)
         requires { length self.old ≤ 60 }
         ensures text { self.new ≡ decimal number ++ 32 ∷ self.old }
         ensures short { length self.new ≤ length self.old + 4 }
@@ -153,6 +184,12 @@ impl LineText {
         ensures text { self.new ≡ hex digits number ++ self.old }
         ensures short { length self.new ≡ length self.old + digits }
     {
+        if digits == 16 {
+            return self.put_text(&sixteen_digits(number));
+        }
+        if digits == 8 {
+            return self.put_text(&sixteen_digits(number)[8..]);
+        }
         let mut rest = number;
         for _ in 0..digits / 2 {
             let (first, second) = digits_of((rest % 256) as usize);

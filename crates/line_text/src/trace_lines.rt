@@ -6,6 +6,8 @@ ghost use Rattle.line_text.specs.Traces.{accepted_text, answer_line, client_text
 ghost use Rattle.axi_beats.specs.Boxes.{w_beats_of};
 ghost use Rattle.axi_beats.specs.Lines.{w_text};
 
+use crate::alike_lines;
+use crate::alike_lines::{alike_lines, are_alike};
 use crate::beat_lines::{ar_line, aw_line, d_line, w_line};
 use crate::line::LineText;
 use crate::writing::{WriteFault, write_text};
@@ -116,11 +118,14 @@ pub fn client_line<W: Write>(client: u8, writer: &mut W) -> Result<(), WriteFaul
     write_text(text.as_slice(), writer)
 }
 
-/// Writes the line of each W beat of a write.
+/// Writes the line of each W beat of a write, many together where there are many.
 fn w_lines<W: Write>(burst: &BurstBox, writer: &mut W) -> Result<(), WriteFault>
     ensures all { OnOk result (Appends (W.contents writer.old) (W.contents writer.new) (flat_map w_text (w_beats_of burst.now))) }
     ensures front { OnErr result (StopsShort (flat_map w_text (w_beats_of burst.now)) (W.contents writer.old) (W.contents writer.new)) }
 {
+    if burst.w_beats() >= 4 {
+        return alike_lines::w_lines(burst, writer);
+    }
     for k in 0..burst.w_beats() {
         w_line(&burst.w(k), writer)?;
     }
@@ -147,6 +152,9 @@ pub fn reply_lines<W: Write>(client: u8, beats: &[DBeat], writer: &mut W) -> Res
     ensures all { OnOk result (Appends (W.contents writer.old) (W.contents writer.new) (reply_text client beats.now)) }
     ensures front { OnErr result (StopsShort (reply_text client beats.now) (W.contents writer.old) (W.contents writer.new)) }
 {
+    if beats.len() >= 4 && are_alike(&beats[0], beats) {
+        return alike_lines(client, &beats[0], beats, writer);
+    }
     for beat in beats {
         d_line(client, beat, writer)?;
     }

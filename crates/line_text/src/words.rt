@@ -5,6 +5,7 @@ ghost use Rattle.line_text.specs.Words.{words_of, word_at, is_skipped, dec_at, h
 ghost use Rattle.line_text.specs.Fields.{Reads, byte_field, short_field, long_field, address_field, flag_field, is_set};
 
 use crate::numbers::{decimal, hexadecimal};
+use crate::word_mask::in_words;
 use std::marker::Model;
 
 /// How many words have their places held. Those behind them are looked for.
@@ -140,6 +141,44 @@ impl<'a> Words<'a> {
 
     /// Holds the words of a line of at most 128 bytes, in place of those that it held.
     pub fn read(&mut self, line: &'a [u8])
+        requires { length line.now ≤ 128 }
+        ensures { self.new ≡ words_of line.now }
+    {
+        if line.len() < 8 || line.len() > 63 {
+            self.read_apart(line);
+        } else {
+            self.read_together(line);
+        }
+    }
+
+    /// The same for a line of 8 to 63 bytes, which are looked at together.
+    #[inline(always)]
+    fn read_together(&mut self, line: &'a [u8])
+        requires { (8 ≤ length line.now) × (length line.now ≤ 63) }
+        ensures { self.new ≡ words_of line.now }
+    {
+        self.line = line;
+        let mask = in_words(line);
+        let mut edges = mask ^ (mask << 1);
+        let mut end = 0;
+        for count in 0..HELD {
+            if edges == 0 {
+                self.count = count;
+                return;
+            }
+            let start = edges.trailing_zeros();
+            edges = edges & (edges - 1);
+            end = edges.trailing_zeros() as usize;
+            edges = edges & (edges - 1);
+            self.starts[count] = start as u8;
+            self.ends[count] = end as u8;
+        }
+        self.count = HELD + words_from(line, word_from(line, end));
+    }
+
+    /// The same byte by byte.
+    #[inline(always)]
+    fn read_apart(&mut self, line: &'a [u8])
         requires { length line.now ≤ 128 }
         ensures { self.new ≡ words_of line.now }
     {

@@ -1,6 +1,6 @@
 use Rattle.std.proofs.Common.{◌≡◌, ◌≢◌, ◌≤◌, ◌<◌, ℕ, drop, get_or, length}
 use Rattle.line_text.specs.Words.{IsPlace, words_of}
-use Rattle.line_text.proofs.words.Words.read.Given as goal
+use Rattle.line_text.proofs.words.Words.read_apart.Given as goal
 
 abbrev pub invariant-loop-count : goal.invariant-loop-count
 invariant-loop-count l =

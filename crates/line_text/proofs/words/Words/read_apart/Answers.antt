@@ -1,7 +1,7 @@
 use Rattle.std.proofs.Common.{drop, length-drop, length-set, arith, ◌∙◌}
 use Rattle.line_text.proofs.WordParts.{words_of-few}
 use Rattle.line_text.proofs.WordPlaces.{all_counted, next_word, places-more}
-use Rattle.line_text.proofs.words.Words.read.Goals as goal
+use Rattle.line_text.proofs.words.Words.read_apart.Goals as goal
 
 pub loop-count-preserved : goal.loop-count-preserved
 loop-count-preserved c =
