@@ -1,18 +1,18 @@
 -- What stays true of the queues of open bursts, and of the marks of those that may answer, when one is sent, changed or closed.
 use Rattle.std.proofs.Common.{◌≡◌, ℕ, zero, suc, ◌+◌, ◌*◌, ◌/◌, ◌%◌, ◌<◌, ◌==◌, Bool, true, false, ◌⊎◌, inl, inr, List, [], ◌∷◌, ◌++◌, drop, length, get_or, map, replicate, refl, sym, ◌∙◌, ap, subst, arith}
 use Rattle.std.proofs.Math.ListN.{set}
-use Rattle.std.proofs.lemmas.Bool.{cases_eq, ne_eqb}
+use Rattle.std.proofs.lemmas.Bool.{cases_eq, eq-eqb, eqb-true, ne_eqb}
 use Rattle.std.proofs.lemmas.List.{append-nil, get_or_default, get_or-set_other, get_or-set_same, length-set, map-append}
 use Rattle.std.proofs.lemmas.List.Elements.{filter-append}
 use Rattle.std.proofs.lemmas.List.Recursion.{found_set_other}
 use Rattle.std.proofs.lemmas.Option.{same_Some, slice_get-get_or, slice_get_within}
 use Rattle.std.specs.List.{position_or_len, remove}
-use Rattle.std.specs.Prelude.{◌≢◌, IfSome, Option, Some, None, filter, find, if◌then◌else◌, option_map, position, slice_get}
-use Rattle.bus_words.proofs.FirstPlaces.{find-first, position_is_first, without_first-first}
+use Rattle.std.specs.Prelude.{◌≢◌, IfSome, Option, Some, None, filter, find, if◌then◌else◌, is_some, option_map, position, slice_get}
+use Rattle.bus_words.proofs.FirstPlaces.{find-first, first-passes, position_is_first, without_first-first}
 use Rattle.bus_words.specs.Places.{without_first}
 use Rattle.subordinate.specs.Bursts.{AreIndexed, Rise, has_id, is_first, is_found_ready, is_in, is_marked, is_queue_ready, is_ready, serials_in}
-use Rattle.subordinate.specs.FreeMemory.{Pending, has_serial, newly_pending}
-use Rattle.subordinate.specs.Inside.{no_burst}
+use Rattle.subordinate.specs.FreeMemory.{Pending, beat_at, has_serial, newly_pending}
+use Rattle.subordinate.specs.Inside.{captured_at, no_burst, with_answer}
 use Rattle.subordinate.specs.Laws.{RisesWithin, queue_of}
 use Rattle.subordinate.specs.declared.answers.Answers.{Answers}
 use Rattle.subordinate.proofs.OpenBursts.{rises-at, rises-without_first, serial_at, rises-found}
@@ -163,17 +163,48 @@ noted bursts current k was new seen queues old now view rise indexed inside know
     small : queue_of new < 32
     small = subst (λ n. n < 32) (sym alike) (subst (λ (found : Option Pending). IfSome found (λ p. queue_of p < 32)) (here_now bursts current k was view inside is) known)
 
-pub seen_known : (bursts current : List Pending) (k : ℕ) (was new seen : Pending) → bursts ≡ current → k < length current → IfSome (slice_get current k) (λ p. queue_of p < 32) → was ≡ get_or bursts k was
-    → queue_of new ≡ queue_of was → seen ≡ get_or (set bursts k new) k seen → queue_of seen < 32
-seen_known bursts current k was new seen view inside known is alike sees =
-    let within : k < length bursts = subst (λ (ps : List Pending). k < length ps) (sym view) inside in
-    let it_is : seen ≡ new = sees ∙ get_or-set_same bursts k new seen within in
-    let small : queue_of was < 32 = subst (λ (found : Option Pending). IfSome found (λ p. queue_of p < 32)) (here_now bursts current k was view inside is) known in
-    subst (λ n. n < 32) (sym (ap queue_of it_is ∙ alike)) small
-
 pub read_at : (bursts current : List Pending) (k : ℕ) (was p : Pending) → bursts ≡ current → k < length current → was ≡ get_or bursts k was → slice_get current k ≡ Some p → was ≡ p
 read_at bursts current k was p view inside is some =
     same_Some was p (ap Some is ∙ sym (slice_get-get_or bursts k was (subst (λ (ps : List Pending). k < length ps) (sym view) inside)) ∙ ap (λ (ps : List Pending). slice_get ps k) view ∙ some)
+
+-- ---- an R of the oldest read of an ID
+
+-- the burst at the place of a queue's oldest, and its serial
+pub record IsOldest (bursts : List Pending) (queues : List (List ℕ)) (queue k : ℕ) : Type 0 where
+  pub within : k < length bursts
+  pub in_queue : queue_of (burst_at bursts k) ≡ queue
+  pub serial : slice_get (get_or queues queue []) 0 ≡ Some (burst_at bursts k).serial
+
+pub oldest : (bursts : List Pending) (queues : List (List ℕ)) (answers : Answers) (queue k : ℕ) → AreIndexed bursts queues answers → position (is_in queue) bursts ≡ Some k → IsOldest bursts queues queue k
+oldest bursts queues answers queue k indexed place =
+    let at = position_is_first (is_in queue) bursts k place in
+    record {
+      within = at.within;
+      in_queue = eqb-true _ queue (first-passes (is_in queue) bursts k _ at);
+      serial =
+          ap (λ (row : List ℕ). slice_get row 0) (indexed.row queue) ∙ first-serial queue bursts
+          ∙ ap (option_map (λ (p : Pending). p.serial)) (find-first (is_in queue) bursts k (newly_pending 0 no_burst) at);
+    }
+
+-- a read may be answered where its next beat captured
+ready_read : (id : ℕ) (p : Pending) → queue_of p ≡ 2 * id + 1 → is_ready p ≡ is_some (captured_at (beat_at p p.answered))
+ready_read id p same = grind arith
+
+pub answered : (bursts current : List Pending) (k id : ℕ) (was new : Pending) (queues : List (List ℕ)) (old now : Answers) → bursts ≡ current → Rise current → AreIndexed bursts queues old → id < 16
+    → IsOldest bursts queues (2 * id + 1) k → was ≡ get_or bursts k was → new ≡ with_answer was → is_marked now (2 * id + 1) ≡ is_some (captured_at (beat_at new new.answered))
+    → ((queue : ℕ) → queue < 32 → queue ≢ 2 * id + 1 → is_marked now queue ≡ is_marked old queue) → AreIndexed (set bursts k new) queues now
+answered bursts current k id was new queues old now view rise indexed small found is answers marked others =
+    changed bursts k new queues old now (subst Rise (sym view) rise) indexed found.within (ap (λ (p : Pending). p.serial) becomes) (ap queue_of becomes) (rw mine (omega (arith, small)))
+    (rw first (ap (is_marked now) mine ∙ marked ∙ sym (ready_read id new mine))) (rw mine others)
+  where
+    becomes : new ≡ with_answer (burst_at bursts k)
+    becomes = answers ∙ ap with_answer (is ∙ get_or_default bursts k was (newly_pending 0 no_burst) found.within)
+
+    mine : queue_of new ≡ 2 * id + 1
+    mine = ap queue_of becomes ∙ found.in_queue
+
+    first : is_first (slice_get (get_or queues (queue_of new) []) 0) new.serial ≡ true
+    first = rw (mine, found.serial) (eq-eqb _ _ (sym (ap (λ (p : Pending). p.serial) becomes)))
 
 -- ---- the oldest burst of a queue closed
 
@@ -198,17 +229,12 @@ pub taken : (bursts : List Pending) (queues : List (List ℕ)) (answers : Answer
 taken bursts queues answers queue k rise indexed known place =
     record {
       rise = (rise.0, rw (← cut) (rises-without_first 0 rise.0 (is_in queue) bursts rise.1));
-      some = slice_get_within (get_or queues queue []) 0 _ first;
+      some = slice_get_within (get_or queues queue []) 0 _ (oldest bursts queues answers queue k indexed place).serial;
       first = get_or-set_same queues queue (drop 1 (get_or queues queue [])) [] (omega (arith, indexed.many, known)) ∙ ap (drop 1) (indexed.row queue) ∙ sym (serials_without queue bursts) ∙ ap (λ (ps : List Pending). serials_in ps queue) cut;
     }
   where
     cut : without_first (is_in queue) bursts ≡ remove bursts k
     cut = without_first-first (is_in queue) bursts k (position_is_first (is_in queue) bursts k place)
-
-    first : slice_get (get_or queues queue []) 0 ≡ Some (burst_at bursts k).serial
-    first =
-        ap (λ (row : List ℕ). slice_get row 0) (indexed.row queue) ∙ first-serial queue bursts
-        ∙ ap (option_map (λ (p : Pending). p.serial)) (find-first (is_in queue) bursts k (newly_pending 0 no_burst) (position_is_first (is_in queue) bursts k place))
 
 pub closed : (bursts : List Pending) (queues : List (List ℕ)) (old now : Answers) (queue k : ℕ) → Rise bursts → AreIndexed bursts queues old → queue < 32 → position (is_in queue) bursts ≡ Some k
     → is_marked now queue ≡ is_queue_ready (remove bursts k) queue → ((other : ℕ) → other < 32 → other ≢ queue → is_marked now other ≡ is_marked old other)

@@ -2,7 +2,7 @@
 ghost use Rattle.std.specs.Prelude.{◌≡◌, ◌≢◌, ℕ, ◌+◌, ◌-◌, ◌^◌, ◌<◌, ◌≤◌, ◌==◌, ◌&&◌, nat_lt, flat_map, sum_by, ◌++◌, ◌*◌, [], ◌∷◌, false, IfOk, IfSome, IsSome, Some, filter, find, if◌then◌else◌, length, position, slice_get, slice_index_or, slice_set};
 ghost use Rattle.std.specs.List.{range_with_len, remove};
 ghost use Rattle.subordinate.specs.Bursts.{Rise, is_first, is_in, is_marked, is_queue_ready, is_ready, serials_in};
-ghost use Rattle.subordinate.specs.FreeMemory.{Pending, beat_at, has_serial, is_waiting, waiting_in, with_beat, work_in};
+ghost use Rattle.subordinate.specs.FreeMemory.{Pending, beat_at, has_serial, is_waiting, transfers_in, waiting_in, with_beat, work_in};
 ghost use Rattle.subordinate.specs.Inside.{captured_at, count_waiting, with_answer};
 ghost use Rattle.subordinate.specs.Laws.{queue_of};
 ghost use Rattle.subordinate.specs.declared.BeatState.TheVariants.{Waiting};
@@ -204,19 +204,18 @@ impl Bursts {
         self.waiting -= 1;
     }
 
-    /// Counts an R beat of the open read at a place, whose next beat is performed.
-    pub(crate) fn count_answer(&mut self, place: usize)
+    /// Counts an R beat of the oldest open read of an ID, by its place. Its next beat is performed.
+    pub(crate) fn count_answer(&mut self, id: u8, place: usize)
         requires rising { Rise self.old }
-        requires here { place < length self.old }
+        requires id { id < 16 }
+        requires oldest { position (is_in (2 * id + 1)) self.old ≡ Some place }
         requires captured { IfSome (slice_get self.old place) (λ p. IsSome (captured_at (beat_at p p.answered))) }
-        requires known { IfSome (slice_get self.old place) (λ p. queue_of p < 32) }
+        requires whole { IfSome (slice_get self.old place) (λ p. length p.beats ≡ transfers_in p.burst) }
         ensures { (p : Pending) → slice_get self.old place ≡ Some p → self.new ≡ slice_set self.old place (with_answer p) }
     {
-        let before = self.items[place].answers_left();
-        self.items[place].count_answer();
-        let burst = &self.items[place];
-        self.answers = noted(self.answers, &self.queues, burst);
-        self.owed -= u32::from(before - burst.answers_left());
+        let next = self.items[place].count_answer();
+        self.answers = self.answers.with(2 * usize::from(id) + 1, next);
+        self.owed -= 1;
     }
 
     /// Takes the oldest burst of a queue out, by its place.

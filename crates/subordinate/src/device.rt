@@ -1,5 +1,5 @@
 //! The device.
-ghost use Rattle.std.specs.Prelude.{◌≡◌, ◌+◌, ◌<◌, ◌≤◌, ◌^◌, Bool, [], ◌∷◌, ◌++◌, length, filter, find, position, None, Some, IsNone, IsSome, IfSome, IfOk, IsOk, Ok, Err, MatchOption, MatchResult, is_some, option_map, slice_get};
+ghost use Rattle.std.specs.Prelude.{◌≡◌, ◌+◌, ◌*◌, ◌<◌, ◌≤◌, ◌^◌, Bool, [], ◌∷◌, ◌++◌, length, filter, find, position, None, Some, IsNone, IsSome, IfSome, IfOk, IsOk, Ok, Err, MatchOption, MatchResult, is_some, option_map, slice_get};
 ghost use Rattle.std.specs.Option.{option_copied};
 ghost use Rattle.std.specs.Vec.{vec_capacity, vec_len};
 ghost use Rattle.axi_beats.specs.Bursts.{IsLegal};
@@ -331,7 +331,7 @@ impl Device {
         if last {
             self.close(2 * usize::from(id) + 1, place);
         } else {
-            self.count_answer(place);
+            self.count_answer(id, place);
         }
         Some(RBeat {
             id,
@@ -432,14 +432,14 @@ impl Device {
         self.open.put(place, beat, becomes);
     }
 
-    /// Counts an R beat of the open read at a place, whose next beat is performed.
-    fn count_answer(&mut self, place: usize)
+    /// Counts an R beat of the oldest open read of an ID, by its place. Its next beat is performed.
+    fn count_answer(&mut self, id: u8, place: usize)
+        requires oldest { position (is_in (2 * id + 1)) self.old.memory.pending ≡ Some place }
         requires captured { IfSome (slice_get self.old.memory.pending place) (λ pending. IsSome (captured_at (beat_at pending pending.answered))) }
-        requires here { place < length self.old.memory.pending }
         ensures state { (test : Pending → Bool) → position test self.old.memory.pending ≡ Some place → self.new ≡ after_counting test self.old }
         ensures laws { IsSoundMemory self.new.memory }
     {
-        self.open.count_answer(place);
+        self.open.count_answer(id, place);
     }
 
     /// Closes the oldest open burst of a queue, by its place: its box waits to be taken back.

@@ -1,5 +1,5 @@
 //! A burst that is open: sent, and not answered whole.
-ghost use Rattle.std.specs.Prelude.{◌≡◌, ◌+◌, ◌<◌, ◌≤◌, false, IsSome, Some, length, not, slice_get, take};
+ghost use Rattle.std.specs.Prelude.{◌≡◌, ◌+◌, ◌<◌, ◌≤◌, false, IsSome, Some, is_some, length, not, slice_get, take};
 ghost use Rattle.std.specs.List.{AllByRecursion, list_any};
 ghost use Rattle.subordinate.specs.FreeMemory.{answers_left, beat_at, gives_last, is_waiting, newly_pending, performed_waiting_in, start_of, transfers_in, with_beat};
 ghost use Rattle.subordinate.specs.Inside.{burst_in, captured_at, count_waiting, waiting_places, with_answer};
@@ -199,13 +199,15 @@ impl OpenBurst {
         u32::from(self.answered) + 1 == u32::from(transfers(&self.burst))
     }
 
-    /// Counts an R beat.
-    pub(crate) fn count_answer(&mut self)
+    /// Counts an R beat of a read, and answers whether the next may come.
+    pub(crate) fn count_answer(&mut self) -> bool
         requires { self.old.answered < length self.old.beats }
-        ensures { self.new ≡ with_answer self.old }
+        ensures state { self.new ≡ with_answer self.old }
+        ensures next { result ≡ is_some (captured_at (beat_at self.new self.new.answered)) }
     {
-        if self.answered < self.beats.len() {
-            self.answered += 1;
-        }
+        let len = self.beats.len();
+        prove!(self.answered < len);
+        self.answered += 1;
+        self.captured().is_some()
     }
 }
