@@ -24,6 +24,14 @@ can_answer (ReadBurst ar) pending = is_some (captured_at (beat_at pending pendin
 abbrev pub is_ready : Pending → Bool
 is_ready pending = can_answer pending.burst pending
 
+-- whether a beat that was performed may be what its burst waited for: the last of a write, or the next of a read
+abbrev pub decides : ℕ → Burst → Pending → Bool
+decides beat (WriteBurst aw data_beats) pending = not (list_any is_waiting pending.beats)
+decides beat (ReadBurst ar) pending = pending.answered == beat
+
+abbrev pub is_decided_by : ℕ → Pending → Bool
+is_decided_by beat pending = decides beat pending.burst pending
+
 -- whether a queue's oldest burst may be answered
 abbrev pub is_found_ready : Option Pending → Bool
 is_found_ready None = false

@@ -1,7 +1,7 @@
 //! The open bursts of a device, in the order sent, with what is kept so that none is looked for among them.
-ghost use Rattle.std.specs.Prelude.{◌≡◌, ◌≢◌, ℕ, ◌+◌, ◌-◌, ◌^◌, ◌<◌, ◌≤◌, ◌==◌, ◌&&◌, nat_lt, flat_map, sum_by, ◌++◌, ◌*◌, [], ◌∷◌, false, IfOk, IfSome, IsSome, Some, filter, find, if◌then◌else◌, length, position, slice_get, slice_index_or, slice_set};
+ghost use Rattle.std.specs.Prelude.{◌≡◌, ◌≢◌, ℕ, ◌+◌, ◌-◌, ◌^◌, ◌<◌, ◌≤◌, ◌==◌, ◌&&◌, nat_lt, flat_map, sum_by, ◌++◌, ◌*◌, [], ◌∷◌, false, true, IfOk, IfSome, IsSome, Some, filter, find, if◌then◌else◌, length, position, slice_get, slice_index_or, slice_set};
 ghost use Rattle.std.specs.List.{range_with_len, remove};
-ghost use Rattle.subordinate.specs.Bursts.{Rise, is_first, is_in, is_marked, is_queue_ready, is_ready, serials_in};
+ghost use Rattle.subordinate.specs.Bursts.{Rise, is_decided_by, is_first, is_in, is_marked, is_queue_ready, is_ready, serials_in};
 ghost use Rattle.subordinate.specs.FreeMemory.{Pending, beat_at, has_serial, is_waiting, transfers_in, waiting_in, with_beat, work_in};
 ghost use Rattle.subordinate.specs.Inside.{captured_at, count_waiting, with_answer};
 ghost use Rattle.subordinate.specs.Laws.{queue_of};
@@ -199,7 +199,7 @@ impl Bursts {
     {
         self.items[place].put(beat, state);
         let burst = &self.items[place];
-        self.answers = noted(self.answers, &self.queues, burst);
+        self.answers = noted(self.answers, &self.queues, burst, beat);
         self.first = past(self.first, place, burst.waiting());
         self.waiting -= 1;
     }
@@ -334,13 +334,17 @@ fn is_ready_at(bursts: &[OpenBurst], first: Option<u64>) -> bool
     }
 }
 
-/// The marks after a burst changed: that of its queue changes where it is the oldest.
-fn noted(answers: Answers, queues: &Queues, burst: &OpenBurst) -> Answers
+/// The marks after a beat of a burst was performed: that of its queue changes where it is the oldest, and waited for the beat.
+fn noted(answers: Answers, queues: &Queues, burst: &OpenBurst, beat: u16) -> Answers
     requires { queue_of burst.now < 32 }
-    ensures here { is_marked result (queue_of burst.now)
+    ensures kept { is_decided_by beat burst.now ≡ false → result ≡ answers }
+    ensures here { is_decided_by beat burst.now ≡ true → is_marked result (queue_of burst.now)
         ≡ (if is_first (slice_get (slice_index_or queues.now (queue_of burst.now) []) 0) burst.now.serial then is_ready burst.now else is_marked answers (queue_of burst.now)) }
     ensures others { (queue : ℕ) → queue < 32 → queue ≢ queue_of burst.now → is_marked result queue ≡ is_marked answers queue }
 {
+    if !burst.is_decided_by(beat) {
+        return answers;
+    }
     let queue = burst.queue();
     let is_first = match queues.first(queue) {
         Some(serial) => serial == burst.serial(),

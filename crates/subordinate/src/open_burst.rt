@@ -3,7 +3,7 @@ ghost use Rattle.std.specs.Prelude.{◌≡◌, ◌+◌, ◌<◌, ◌≤◌, fals
 ghost use Rattle.std.specs.List.{AllByRecursion, list_any};
 ghost use Rattle.subordinate.specs.FreeMemory.{answers_left, beat_at, gives_last, is_waiting, newly_pending, performed_waiting_in, start_of, transfers_in, with_beat};
 ghost use Rattle.subordinate.specs.Inside.{burst_in, captured_at, count_waiting, waiting_places, with_answer};
-ghost use Rattle.subordinate.specs.Bursts.{is_ready};
+ghost use Rattle.subordinate.specs.Bursts.{is_decided_by, is_ready};
 ghost use Rattle.subordinate.specs.Laws.{IsPerformed, queue_of, queue_of_burst};
 ghost use Rattle.subordinate.specs.declared.BeatState.TheVariants.{Waiting};
 
@@ -189,6 +189,17 @@ impl OpenBurst {
             self.all_performed()
         } else {
             self.captured().is_some()
+        }
+    }
+
+    /// Whether a beat, just performed, may be what it waited for: the last of a write, or the next of a read.
+    pub(crate) fn is_decided_by(&self, beat: u16) -> bool
+        ensures { result ≡ is_decided_by beat self.now }
+    {
+        if self.burst.is_write() {
+            self.beats.all_performed()
+        } else {
+            self.answered == beat
         }
     }
 
