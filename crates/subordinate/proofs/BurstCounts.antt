@@ -3,15 +3,14 @@
 use Rattle.std.proofs.Common.{◌≡◌, ℕ, zero, suc, ◌+◌, ◌-◌, ◌*◌, ◌<◌, ◌≤◌, ◌==◌, nat_lt, false, ◌&&◌, inl, inr, List, [], ◌∷◌, ◌++◌, drop, length, get_or, refl, sym, ◌∙◌, ap, subst, arith}
 use Rattle.std.proofs.Math.ListN.{set}
 use Rattle.std.proofs.lemmas.Bool.{le-ltb, lt-ltb, cases_lt}
-use Rattle.std.proofs.lemmas.List.{get_or_default, get_or-set_same, length-append, length-drop, length-set, nil_from_length, take_all}
+use Rattle.std.proofs.lemmas.List.{get_or_default, length-append, length-set, nil_from_length}
 use Rattle.std.proofs.lemmas.List.Edits.{length-remove}
 use Rattle.std.proofs.lemmas.List.Sums.{sum_by-cons, sum_by-remove, sum_by-set, sum_by_push}
 use Rattle.std.specs.List.{AllByRecursion, remove}
 use Rattle.std.specs.Prelude.{IfSome, Option, Some, flat_map, if◌then◌else◌, slice_get, sum_by, take}
-use Rattle.axi_beats.specs.Bursts.{Burst, ReadBurst, WriteBurst}
 use Rattle.bus_words.proofs.PlaceChanges.{all-append}
 use Rattle.subordinate.specs.Bursts.{AreCounted, IsSum, owed_by, waiting_of}
-use Rattle.subordinate.specs.FreeMemory.{Pending, answers_left, beat_at, is_waiting, newly_pending, transfers_in, waiting_in, with_beat, work_in}
+use Rattle.subordinate.specs.FreeMemory.{Pending, beat_at, is_waiting, newly_pending, transfers_in, waiting_in, with_beat, work_in}
 use Rattle.subordinate.specs.Inside.{count_waiting, no_burst, with_answer}
 use Rattle.subordinate.specs.Laws.{queue_of}
 use Rattle.subordinate.specs.declared.BeatState.{BeatState}
@@ -239,13 +238,6 @@ pub waiting_past : (first : ℕ) (bursts : List Pending) → AllByRecursion (λ 
 waiting_past zero bursts before = refl
 waiting_past (suc first) [] before = refl
 waiting_past (suc first) (p ∷ ps) before = waiting_past first ps before.1 ∙ sym (ap (λ (beats : List (ℕ × ℕ)). beats ++ flat_map waiting_in ps) (none_in p before.0))
-
--- it is among the bursts from that place on
-pub waiting_from : (bursts read current : List Pending) (waiting owed first : ℕ) → read ≡ bursts → bursts ≡ current → AreCounted bursts waiting owed first
-    → flat_map waiting_in (take (length read - first) (drop first read)) ≡ flat_map waiting_in current
-waiting_from bursts read current waiting owed first same view counted =
-    ap (λ (ps : List Pending). flat_map waiting_in ps) (take_all (length read - first) (drop first read) (omega (arith, length-drop first read)))
-    ∙ ap (λ (ps : List Pending). flat_map waiting_in (drop first ps)) same ∙ waiting_past first bursts counted.before ∙ ap (λ (ps : List Pending). flat_map waiting_in ps) view
 
 -- ---- the work left
 

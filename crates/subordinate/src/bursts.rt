@@ -1,7 +1,7 @@
 //! The open bursts of a device, in the order sent, with what is kept so that none is looked for among them.
-ghost use Rattle.std.specs.Prelude.{◌≡◌, ◌≢◌, ℕ, ◌+◌, ◌-◌, ◌^◌, ◌<◌, ◌≤◌, ◌==◌, ◌&&◌, nat_lt, flat_map, sum_by, ◌++◌, ◌*◌, [], ◌∷◌, false, true, IfOk, IfSome, IsSome, Some, filter, find, if◌then◌else◌, length, position, slice_get, slice_index_or, slice_set};
+ghost use Rattle.std.specs.Prelude.{◌≡◌, ◌≢◌, ℕ, ◌+◌, ◌-◌, ◌^◌, ◌<◌, ◌≤◌, ◌==◌, ◌&&◌, nat_lt, flat_map, sum_by, ◌++◌, ◌*◌, [], ◌∷◌, false, true, IfOk, IfSome, IsSome, MatchOption, None, Some, filter, find, if◌then◌else◌, length, position, slice_get, slice_index_or, slice_set};
 ghost use Rattle.std.specs.List.{range_with_len, remove};
-ghost use Rattle.subordinate.specs.Bursts.{Rise, is_decided_by, is_first, is_in, is_marked, is_queue_ready, is_ready, serials_in};
+ghost use Rattle.subordinate.specs.Bursts.{IsFirstWaiting, Rise, is_decided_by, is_first, is_in, is_marked, is_queue_ready, is_ready, serials_in};
 ghost use Rattle.subordinate.specs.FreeMemory.{Pending, beat_at, has_serial, is_waiting, transfers_in, waiting_in, with_beat, work_in};
 ghost use Rattle.subordinate.specs.Inside.{captured_at, count_waiting, with_answer};
 ghost use Rattle.subordinate.specs.Laws.{queue_of};
@@ -152,9 +152,22 @@ impl Bursts {
     pub(crate) fn first_waiting(&self) -> Option<(u64, u16)>
         ensures { result ≡ slice_get (flat_map waiting_in self.now) 0 }
     {
-        for burst in &self.items[self.first..] {
-            if burst.waiting() > 0 {
-                return Some((burst.serial(), burst.nth_waiting(0)));
+        match self.place_waiting() {
+            Some((place, beat)) => Some((self.at(place).serial(), beat)),
+            None => None,
+        }
+    }
+
+    /// The place of the burst of the first beat that waits, and that beat.
+    pub(crate) fn place_waiting(&self) -> Option<(usize, u16)>
+        ensures { MatchOption result (slice_get (flat_map waiting_in self.now) 0 ≡ None) (λ first. IsFirstWaiting self.now first.0 first.1) }
+    {
+        if self.waiting == 0 {
+            return None;
+        }
+        for place in self.first..self.items.len() {
+            if self.items[place].waiting() > 0 {
+                return Some((place, self.items[place].nth_waiting(0)));
             }
         }
         None

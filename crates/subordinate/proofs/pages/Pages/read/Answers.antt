@@ -1,8 +1,6 @@
 -- Outside good pages, and of a bad word, nothing is captured.
-use Rattle.std.proofs.Common.{◌≡◌, sym, ◌∙◌, refl}
-use Rattle.std.specs.Prelude.{Some}
-use Rattle.subordinate.specs.Pages.{word_at}
-use Rattle.subordinate.proofs.BytesRead.{captured-absent, read_response-absent, read_response-found}
+use Rattle.std.proofs.Common.{sym, ◌∙◌}
+use Rattle.subordinate.proofs.BytesRead.{captured-absent, read_response-absent}
 use Rattle.subordinate.proofs.pages.Pages.read.Goals as goal
 
 pub returns-in_default-clause-captured : goal.returns-in_default-clause-captured
