@@ -5,7 +5,7 @@ use Rattle.std.proofs.Math.Seq.{drop-cons}
 use Rattle.std.proofs.lemmas.Bool.Decides.{nat_tests}
 use Rattle.std.proofs.lemmas.List.{length-append, length-map, length-set}
 use Rattle.std.proofs.lemmas.List.Sums.{sum_by-drop_more}
-use Rattle.std.proofs.lemmas.Option.{slice_get-get_or, slice_get-map}
+use Rattle.std.proofs.lemmas.Option.{same_Some, slice_get-get_or, slice_get-map}
 use Rattle.std.specs.List.{AllByRecursion, list_any, enumerate_from}
 use Rattle.std.specs.Prelude.{Some, None, filter, filter_map, flat_map, option_map, sum_by, if◌then◌else◌, slice_get, slice_set, take}
 use Rattle.bus_words.proofs.StoredPlaces.{slice_get-append-after, slice_get-append-before}
@@ -13,7 +13,7 @@ use Rattle.subordinate.specs.FreeMemory.{Pending, is_waiting, performed_waiting_
 use Rattle.subordinate.specs.Inside.{count_waiting, waiting_places}
 use Rattle.subordinate.specs.Laws.{IsPerformed}
 use Rattle.subordinate.specs.declared.BeatState.{BeatState}
-use Rattle.subordinate.specs.declared.BeatState.TheVariants.{Waiting}
+use Rattle.subordinate.specs.declared.BeatState.TheVariants.{Captured, Waiting, Written}
 
 pub count_waiting-replicate : (n : ℕ) → count_waiting (replicate n Waiting) ≡ n
 count_waiting-replicate zero = refl
@@ -39,6 +39,19 @@ count_waiting-put (beat ∷ beats) (suc k) state waits performed = grind (arith,
 pub length-waiting_places : (from : ℕ) (beats : List BeatState) → length (waiting_places from beats) ≡ count_waiting beats
 length-waiting_places from [] = refl
 length-waiting_places from (beat ∷ beats) = grind (arith, length-waiting_places (from + 1) beats)
+
+-- the first of them is one of a beat that waits
+first_waits : (from : ℕ) (beats : List BeatState) (place : ℕ) → slice_get (waiting_places from beats) 0 ≡ Some place → (n : ℕ) × (place ≡ from + n) × (slice_get beats n ≡ Some Waiting)
+first_waits from [] place is = absurd (cc)
+first_waits from (Waiting ∷ beats) place is = (0, sym (same_Some from place is) ∙ omega arith, refl)
+first_waits from (Written ∷ beats) place is = let rest = first_waits (from + 1) beats place is in (suc rest.0, omega (arith, rest.1), rest.2)
+first_waits from (Captured payload resp ∷ beats) place is = let rest = first_waits (from + 1) beats place is in (suc rest.0, omega (arith, rest.1), rest.2)
+
+pub first_place_waits : (beats : List BeatState) (place : ℕ) → slice_get (waiting_places 0 beats) 0 ≡ Some place → slice_get beats place ≡ Some Waiting
+first_place_waits beats place is =
+    let found = first_waits 0 beats place is in
+    let same : place ≡ found.0 = omega (arith, found.1) in
+    rw same found.2
 
 -- the serial and place of each, as the memory lists them
 pub waiting_in-places : (serial from : ℕ) (beats : List BeatState)

@@ -3,20 +3,20 @@
 use Rattle.std.proofs.Common.{◌≡◌, ℕ, zero, suc, ◌+◌, ◌-◌, ◌*◌, ◌<◌, ◌≤◌, ◌==◌, nat_lt, false, ◌&&◌, inl, inr, List, [], ◌∷◌, ◌++◌, drop, length, get_or, refl, sym, ◌∙◌, ap, subst, arith}
 use Rattle.std.proofs.Math.ListN.{set}
 use Rattle.std.proofs.lemmas.Bool.{le-ltb, lt-ltb, cases_lt}
-use Rattle.std.proofs.lemmas.List.{get_or_default, get_or-set_same, length-append, length-drop, length-set, nil_from_length, take_all}
+use Rattle.std.proofs.lemmas.List.{get_or_default, length-append, length-set, nil_from_length}
 use Rattle.std.proofs.lemmas.List.Edits.{length-remove}
 use Rattle.std.proofs.lemmas.List.Sums.{sum_by-cons, sum_by-remove, sum_by-set, sum_by_push}
 use Rattle.std.specs.List.{AllByRecursion, remove}
 use Rattle.std.specs.Prelude.{IfSome, Option, Some, flat_map, if◌then◌else◌, slice_get, sum_by, take}
-use Rattle.axi_beats.specs.Bursts.{Burst, ReadBurst, WriteBurst}
 use Rattle.bus_words.proofs.PlaceChanges.{all-append}
 use Rattle.subordinate.specs.Bursts.{AreCounted, IsSum, owed_by, waiting_of}
-use Rattle.subordinate.specs.FreeMemory.{Pending, answers_left, beat_at, is_waiting, newly_pending, waiting_in, with_beat, work_in}
+use Rattle.subordinate.specs.FreeMemory.{Pending, beat_at, is_waiting, newly_pending, transfers_in, waiting_in, with_beat, work_in}
 use Rattle.subordinate.specs.Inside.{count_waiting, no_burst, with_answer}
+use Rattle.subordinate.specs.Laws.{queue_of}
 use Rattle.subordinate.specs.declared.BeatState.{BeatState}
 use Rattle.subordinate.specs.declared.BeatState.TheVariants.{Waiting}
 use Rattle.subordinate.proofs.BeatStates.{count_waiting-put, length-waiting_in}
-use Rattle.subordinate.proofs.BurstIndex.{burst_at, here_now}
+use Rattle.subordinate.proofs.BurstIndex.{IsOldest, burst_at, here_now}
 use Rattle.std.proofs.lemmas.Bool.Decides.{nat_tests}
 
 -- ---- the sum of a count
@@ -182,39 +182,25 @@ counted_close bursts current k was waiting owed first more due view inside is co
 
 -- ---- an answer that is given
 
-fewer_left : (answered : ℕ) (burst : Burst) → answers_left (answered + 1) burst ≤ answers_left answered burst
-fewer_left answered (WriteBurst aw data_beats) = omega arith
-fewer_left answered (ReadBurst ar) = omega arith
+-- a read of which a beat isn't answered yet has one answer more to give than after that
+one_less : (id : ℕ) (p : Pending) → queue_of p ≡ 2 * id + 1 → p.answered < transfers_in p.burst → owed_by (with_answer p) + 1 ≡ owed_by p
+one_less id p read more = grind arith
 
--- so many answers were left before it and after it, as read in the lists
-pub counted_answer : (bursts current : List Pending) (k : ℕ) (read was new seen : Pending) (waiting owed first before after : ℕ) → bursts ≡ current → k < length current → read ≡ get_or bursts k read → was ≡ get_or bursts k was
-    → AreCounted bursts waiting owed first → new ≡ with_answer was → seen ≡ get_or (set bursts k new) k seen → before ≡ owed_by read → after ≡ owed_by seen
-    → (after ≤ before) × (before - after ≤ owed) × AreCounted (set bursts k new) waiting (owed - (before - after)) first
-counted_answer bursts current k read was new seen waiting owed first before after view inside reads is counted answers sees had has = (
-  omega (arith, less, once, now),
-  omega (arith, once, enough),
-  counted_change bursts current k was new waiting waiting owed (owed - (before - after)) first view inside is counted (omega (arith, same)) (omega (arith, same)) less (omega (arith, less, once, now, enough)),
+pub counted_answer : (bursts : List Pending) (queues : List (List ℕ)) (k id : ℕ) (was new : Pending) (waiting owed first : ℕ) → IsOldest bursts queues (2 * id + 1) k → was ≡ get_or bursts k was
+    → AreCounted bursts waiting owed first → new ≡ with_answer was → was.answered < transfers_in was.burst → (1 ≤ owed) × AreCounted (set bursts k new) waiting (owed - 1) first
+counted_answer bursts queues k id was new waiting owed first found is counted answers more = (
+  omega (arith, less, enough),
+  counted_change bursts bursts k was new waiting waiting owed (owed - 1) first refl found.within is counted (omega (arith, same)) (omega (arith, same)) (omega (arith, less)) (omega (arith, less, enough)),
 )
   where
-    within : k < length bursts
-    within = place_within bursts current k view inside
-
     same : waiting_of new ≡ waiting_of was
     same = ap waiting_of answers
 
-    less : owed_by new ≤ owed_by was
-    less = omega (arith, ap owed_by answers, fewer_left was.answered was.burst)
+    less : owed_by new + 1 ≡ owed_by was
+    less = ap (λ (p : Pending). owed_by p + 1) answers ∙ one_less id was (same_count queue_of bursts k was found.within is ∙ found.in_queue) more
 
     enough : owed_by was ≤ owed
-    enough = was_summed owed_by bursts current k was owed view inside is counted.owes
-
-    once : before ≡ owed_by was
-    once = had ∙ same_count owed_by bursts k read within reads ∙ sym (same_count owed_by bursts k was within is)
-
-    now : after ≡ owed_by new
-    now =
-        has ∙ same_count owed_by (set bursts k new) k seen (omega (arith, within, length-set bursts k new)) sees
-        ∙ ap owed_by (get_or-set_same bursts k new (newly_pending 0 no_burst) within)
+    enough = was_summed owed_by bursts bursts k was owed refl found.within is counted.owes
 
 -- ---- a beat that is performed
 
@@ -252,13 +238,6 @@ pub waiting_past : (first : ℕ) (bursts : List Pending) → AllByRecursion (λ 
 waiting_past zero bursts before = refl
 waiting_past (suc first) [] before = refl
 waiting_past (suc first) (p ∷ ps) before = waiting_past first ps before.1 ∙ sym (ap (λ (beats : List (ℕ × ℕ)). beats ++ flat_map waiting_in ps) (none_in p before.0))
-
--- it is among the bursts from that place on
-pub waiting_from : (bursts read current : List Pending) (waiting owed first : ℕ) → read ≡ bursts → bursts ≡ current → AreCounted bursts waiting owed first
-    → flat_map waiting_in (take (length read - first) (drop first read)) ≡ flat_map waiting_in current
-waiting_from bursts read current waiting owed first same view counted =
-    ap (λ (ps : List Pending). flat_map waiting_in ps) (take_all (length read - first) (drop first read) (omega (arith, length-drop first read)))
-    ∙ ap (λ (ps : List Pending). flat_map waiting_in (drop first ps)) same ∙ waiting_past first bursts counted.before ∙ ap (λ (ps : List Pending). flat_map waiting_in ps) view
 
 -- ---- the work left
 

@@ -1,15 +1,19 @@
 -- What a transfer of a read captures, from the word of eight bytes that it lies in.
-use Rattle.std.proofs.Common.{◌≡◌, ℕ, ◌+◌, ◌*◌, ◌/◌, ◌^◌, ◌<◌, Bool, true, false, refl, sym, ◌∙◌, ap, arith, lit<}
-use Rattle.std.specs.Prelude.{Option, Some, None, if◌then◌else◌, option_map, unwrap_or}
+use Rattle.std.proofs.Common.{◌≡◌, ℕ, ◌+◌, ◌*◌, ◌/◌, ◌%◌, ◌^◌, ◌<◌, Bool, true, false, inl, inr, refl, sym, ◌∙◌, ap, arith, lit<}
+use Rattle.std.proofs.lemmas.Bool.{leb-true}
+use Rattle.std.proofs.lemmas.Bool.Decides.{nat_tests}
+use Rattle.std.specs.Prelude.{Option, Some, None, if◌then◌else◌, is_some, option_map, unwrap_or}
 use Rattle.bus_words.specs.Lanes.{has_lane, lane_byte, payload_of}
-use Rattle.bus_words.proofs.LaneLaws.{word_of_lanes-same}
+use Rattle.bus_words.proofs.LaneLaws.{word_of_lanes-lane_byte, word_of_lanes-same}
 use Rattle.data_unit.specs.Words.{merged}
 use Rattle.data_unit.proofs.ByteLaws.{lane_byte-down, lane_byte-past}
 use Rattle.axi_beats.specs.Transfers.{covers_lane, lane_address, transfer_address}
 use Rattle.axi_beats.specs.declared.ArBeat.{ArBeat}
 use Rattle.axi_beats.specs.Responses.{is_okay}
 use Rattle.axi_beats.specs.declared.Resp.{Resp}
-use Rattle.subordinate.specs.Faults.{Faults, read_response}
+use Rattle.axi_beats.specs.declared.Resp.TheVariants.{Okay, SlvErr}
+use Rattle.subordinate.specs.Effects.{HasGoodPages}
+use Rattle.subordinate.specs.Faults.{Faults, Standing, is_bad, is_good, read_response, read_response_on, standing_at, write_response}
 use Rattle.subordinate.specs.FreeMemory.{byte_in_lane, captured, captured_as}
 use Rattle.subordinate.specs.declared.BeatState.TheVariants.{Captured}
 use Rattle.subordinate.specs.InsidePages.{IsTransferOf, first_lane}
@@ -44,6 +48,44 @@ payload_of-read bus_bytes memory ar n word lanes is found between = word_of_lane
           lane_byte-past 0 0 lane (lit< tt) (omega arith),
           byte_at_lane bus_bytes memory ar n lane (Some word) is found,
         )
+
+-- a transfer of eight bytes from a multiple of eight on covers all lanes
+covers_all : (start n lane : ℕ) → transfer_address start 3 n % 8 ≡ 0 → lane < 8 → covers_lane 8 start 3 n lane ≡ true
+covers_all start n lane aligned below = grind (arith, nat_tests)
+
+-- so what is captured is the word
+pub payload_of-whole : (bus_bytes : ℕ) (memory : Memory) (ar : ArBeat) (n word : ℕ) → IsTransferOf bus_bytes ar.address ar.len ar.size n → ar.size ≡ 3 → transfer_address ar.address ar.size n % 8 ≡ 0 → word < 2 ^ 64
+    → word_at memory (transfer_address ar.address ar.size n) ≡ Some word → word ≡ payload_of (byte_in_lane bus_bytes memory ar n)
+payload_of-whole bus_bytes memory ar n word is whole aligned small found = sym (word_of_lanes-lane_byte word small) ∙ word_of_lanes-same (lane_byte word) _ at
+  where
+    eight : bus_bytes ≡ 8
+    eight = elim is.width [ inl narrow ↦ absurd (omega (arith, narrow, leb-true 8 bus_bytes (rw whole at is.fits))) | inr wide ↦ wide ]
+
+    at : (lane : ℕ) → lane < 8 → lane_byte word lane ≡ unwrap_or (byte_in_lane bus_bytes memory ar n lane) 0
+    at lane below =
+        let covered : covers_lane bus_bytes ar.address ar.size n lane ≡ true = rw (eight, whole) (covers_all ar.address n lane (rw whole at aligned) below) in
+        let first : first_lane bus_bytes (transfer_address ar.address ar.size n) + lane ≡ lane = rw eight (omega (arith, aligned)) in
+        grind (arith, covered, first, byte_at_lane bus_bytes memory ar n lane (Some word) is found covered)
+
+-- ---- its response
+
+-- a word that is found is one of a good page: whether it is bad decides
+pub read_response-found : (faults : Faults) (memory : Memory) (address word : ℕ) → HasGoodPages faults memory → word_at memory address ≡ Some word → read_response faults address ≡ (if is_bad faults address then SlvErr else Okay)
+read_response-found faults memory address word pages found =
+    by_standing (standing_at faults address) (is_bad faults address) (sym (pages.exactly address) ∙ ap (λ o. is_some (option_map (λ w. lane_byte w (address % 8)) o)) found)
+  where
+    by_standing : (standing : Standing) (bad : Bool) → is_good standing ≡ true → read_response_on standing bad ≡ (if bad then SlvErr else Okay)
+    by_standing standing bad good = grind arith
+
+-- elsewhere the page does
+pub read_response-absent : (faults : Faults) (memory : Memory) (address : ℕ) → HasGoodPages faults memory → word_at memory address ≡ None → write_response (standing_at faults address) ≡ read_response faults address
+read_response-absent faults memory address pages missing =
+    by_standing (standing_at faults address) (is_bad faults address) (sym (pages.exactly address) ∙ ap (λ o. is_some (option_map (λ w. lane_byte w (address % 8)) o)) missing)
+  where
+    by_standing : (standing : Standing) (bad : Bool) → is_good standing ≡ false → write_response standing ≡ read_response_on standing bad
+    by_standing standing bad absent = grind arith
+
+-- ---- what is captured
 
 -- outside good pages nothing is captured
 pub payload_of-absent : (bus_bytes : ℕ) (memory : Memory) (ar : ArBeat) (n : ℕ) → IsTransferOf bus_bytes ar.address ar.len ar.size n

@@ -21,4 +21,5 @@ pub mod PerformedBeats
 pub mod QueueRows
 pub mod SoundDevices
 pub mod TransferWords
+pub mod WaitingBeats
 pub mod ZeroBytes

@@ -10,9 +10,9 @@ use Rattle.axi_beats.specs.Bursts.{Burst, ReadBurst, WriteBurst}
 use Rattle.bus_words.proofs.FirstPlaces.{find-same, first-passes, position_is_first}
 use Rattle.bus_words.proofs.PlaceChanges.{find-passes}
 use Rattle.subordinate.specs.Bursts.{is_found_ready, is_in, is_queue_ready, is_ready}
-use Rattle.subordinate.specs.FreeMemory.{FreeMemory, Pending, b_from, b_of, is_read_of, is_write_of, newly_pending, r_from, r_of}
+use Rattle.subordinate.specs.FreeMemory.{FreeMemory, Pending, b_from, b_of, is_read_of, is_write_of, newly_pending, r_from, r_of, transfers_in}
 use Rattle.subordinate.specs.Inside.{burst_in, captured_at, is_beside, no_burst}
-use Rattle.subordinate.specs.Laws.{IsSoundMemory, queue_of, queue_of_burst}
+use Rattle.subordinate.specs.Laws.{IsSoundMemory, IsSoundPending, queue_of, queue_of_burst}
 use Rattle.subordinate.specs.declared.BeatState.{BeatState}
 use Rattle.subordinate.proofs.BurstIndex.{burst_at}
 use Rattle.subordinate.proofs.OpenBursts.{all-placed, count_in_queue}
@@ -87,6 +87,16 @@ some_at bursts k within = slice_get-get_or bursts k _ within
 pub known_at : (bursts : List Pending) (k : ℕ) → k < length bursts → AllByRecursion (λ p. queue_of p < 32) bursts → IfSome (slice_get bursts k) (λ p. queue_of p < 32)
 known_at bursts k within known =
     subst (λ (found : Option Pending). IfSome found (λ p. queue_of p < 32)) (sym (some_at bursts k within)) (all-placed (λ p. queue_of p < 32) bursts k (burst_at bursts k) known within (here bursts k within))
+
+pub whole_at : (bus_bytes : ℕ) (bursts : List Pending) (k : ℕ) → k < length bursts → AllByRecursion (IsSoundPending bus_bytes) bursts → IfSome (slice_get bursts k) (λ p. length p.beats ≡ transfers_in p.burst)
+whole_at bus_bytes bursts k within sound =
+    subst (λ (found : Option Pending). IfSome found (λ p. length p.beats ≡ transfers_in p.burst)) (sym (some_at bursts k within)) (all-placed (IsSoundPending bus_bytes) bursts k (burst_at bursts k) sound within (here bursts k within)).whole
+
+-- a burst has a place in the list that is kept, where it has one in the list that callers see
+pub kept_place : (queue : ℕ) (bursts current : List Pending) (k : ℕ) → bursts ≡ current → position (is_in queue) current ≡ Some k → (position (is_in queue) bursts ≡ Some k) × (k < length bursts)
+kept_place queue bursts current k view place =
+    let kept = ap (λ (ps : List Pending). position (is_in queue) ps) view ∙ place in
+    (kept, (position_is_first (is_in queue) bursts k kept).within)
 
 -- a beat that captured is one of its burst
 pub captured_within : (beats : List BeatState) (n : ℕ) → IsSome (captured_at (slice_get beats n)) → n < length beats

@@ -1,11 +1,12 @@
 -- What is kept beside the open bursts, so that none of it is looked for among them.
-use Rattle.std.specs.Prelude.{◌≡◌, ℕ, ◌%◌, ◌/◌, ◌<◌, ◌≤◌, ◌==◌, Bool, false, not, List, [], length, map, filter, find, Option, None, Some, is_some, if◌then◌else◌, slice_index_or, sum_by, take}
+use Rattle.std.specs.Prelude.{◌≡◌, ℕ, ◌%◌, ◌/◌, ◌<◌, ◌≤◌, ◌==◌, Bool, false, not, List, [], length, map, filter, find, flat_map, Option, None, Some, is_some, if◌then◌else◌, slice_get, slice_index_or, sum_by, take}
 use Rattle.std.specs.List.{AllByRecursion, list_any}
 use Rattle.std.specs.Int.{bit_at}
 use Rattle.axi_beats.specs.Bursts.{Burst, ReadBurst, WriteBurst}
-use Rattle.subordinate.specs.FreeMemory.{Pending, answers_left, beat_at, is_waiting}
+use Rattle.subordinate.specs.FreeMemory.{Pending, answers_left, beat_at, is_waiting, waiting_in}
 use Rattle.subordinate.specs.Inside.{captured_at, count_waiting}
 use Rattle.subordinate.specs.Laws.{RisesWithin, queue_of}
+use Rattle.subordinate.specs.declared.BeatState.TheVariants.{Waiting}
 use Rattle.subordinate.specs.declared.answers.Answers.{Answers}
 
 -- whether an open burst is in a queue: the writes of an ID i are queue 2 i, its reads queue 2 i + 1
@@ -23,6 +24,14 @@ can_answer (ReadBurst ar) pending = is_some (captured_at (beat_at pending pendin
 
 abbrev pub is_ready : Pending → Bool
 is_ready pending = can_answer pending.burst pending
+
+-- whether a beat that was performed may be what its burst waited for: the last of a write, or the next of a read
+abbrev pub decides : ℕ → Burst → Pending → Bool
+decides beat (WriteBurst aw data_beats) pending = not (list_any is_waiting pending.beats)
+decides beat (ReadBurst ar) pending = pending.answered == beat
+
+abbrev pub is_decided_by : ℕ → Pending → Bool
+is_decided_by beat pending = decides beat pending.burst pending
 
 -- whether a queue's oldest burst may be answered
 abbrev pub is_found_ready : Option Pending → Bool
@@ -68,6 +77,13 @@ pub record AreCounted (bursts : List Pending) (waiting owed first : ℕ) : Type 
   pub owes : IsSum owed_by bursts owed
   pub within : first ≤ length bursts
   pub before : AllByRecursion (λ pending. count_waiting pending.beats ≡ 0) (take first bursts)
+
+-- the first beat that waits, by rising serial and beat, is this one of the burst at a place
+pub record IsFirstWaiting (bursts : List Pending) (place beat : ℕ) : Type 0 where
+  pub pending : Pending
+  pub there : slice_get bursts place ≡ Some pending
+  pub waits : beat_at pending beat ≡ Some Waiting
+  pub first : slice_get (flat_map waiting_in bursts) 0 ≡ Some (pending.serial, beat)
 
 -- whether a serial is the first of a queue
 abbrev pub is_first : Option ℕ → ℕ → Bool

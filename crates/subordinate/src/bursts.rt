@@ -1,8 +1,8 @@
 //! The open bursts of a device, in the order sent, with what is kept so that none is looked for among them.
-ghost use Rattle.std.specs.Prelude.{◌≡◌, ◌≢◌, ℕ, ◌+◌, ◌-◌, ◌^◌, ◌<◌, ◌≤◌, ◌==◌, ◌&&◌, nat_lt, flat_map, sum_by, ◌++◌, ◌*◌, [], ◌∷◌, false, IfOk, IfSome, IsSome, Some, filter, find, if◌then◌else◌, length, position, slice_get, slice_index_or, slice_set};
+ghost use Rattle.std.specs.Prelude.{◌≡◌, ◌≢◌, ℕ, ◌+◌, ◌-◌, ◌^◌, ◌<◌, ◌≤◌, ◌==◌, ◌&&◌, nat_lt, flat_map, sum_by, ◌++◌, ◌*◌, [], ◌∷◌, false, true, IfOk, IfSome, IsSome, MatchOption, None, Some, filter, find, if◌then◌else◌, length, position, slice_get, slice_index_or, slice_set};
 ghost use Rattle.std.specs.List.{range_with_len, remove};
-ghost use Rattle.subordinate.specs.Bursts.{Rise, is_first, is_in, is_marked, is_queue_ready, is_ready, serials_in};
-ghost use Rattle.subordinate.specs.FreeMemory.{Pending, beat_at, has_serial, is_waiting, waiting_in, with_beat, work_in};
+ghost use Rattle.subordinate.specs.Bursts.{IsFirstWaiting, Rise, is_decided_by, is_first, is_in, is_marked, is_queue_ready, is_ready, serials_in};
+ghost use Rattle.subordinate.specs.FreeMemory.{Pending, beat_at, has_serial, is_waiting, transfers_in, waiting_in, with_beat, work_in};
 ghost use Rattle.subordinate.specs.Inside.{captured_at, count_waiting, with_answer};
 ghost use Rattle.subordinate.specs.Laws.{queue_of};
 ghost use Rattle.subordinate.specs.declared.BeatState.TheVariants.{Waiting};
@@ -152,9 +152,22 @@ impl Bursts {
     pub(crate) fn first_waiting(&self) -> Option<(u64, u16)>
         ensures { result ≡ slice_get (flat_map waiting_in self.now) 0 }
     {
-        for burst in &self.items[self.first..] {
-            if burst.waiting() > 0 {
-                return Some((burst.serial(), burst.nth_waiting(0)));
+        match self.place_waiting() {
+            Some((place, beat)) => Some((self.at(place).serial(), beat)),
+            None => None,
+        }
+    }
+
+    /// The place of the burst of the first beat that waits, and that beat.
+    pub(crate) fn place_waiting(&self) -> Option<(usize, u16)>
+        ensures { MatchOption result (slice_get (flat_map waiting_in self.now) 0 ≡ None) (λ first. IsFirstWaiting self.now first.0 first.1) }
+    {
+        if self.waiting == 0 {
+            return None;
+        }
+        for place in self.first..self.items.len() {
+            if self.items[place].waiting() > 0 {
+                return Some((place, self.items[place].nth_waiting(0)));
             }
         }
         None
@@ -199,24 +212,23 @@ impl Bursts {
     {
         self.items[place].put(beat, state);
         let burst = &self.items[place];
-        self.answers = noted(self.answers, &self.queues, burst);
+        self.answers = noted(self.answers, &self.queues, burst, beat);
         self.first = past(self.first, place, burst.waiting());
         self.waiting -= 1;
     }
 
-    /// Counts an R beat of the open read at a place, whose next beat is performed.
-    pub(crate) fn count_answer(&mut self, place: usize)
+    /// Counts an R beat of the oldest open read of an ID, by its place. Its next beat is performed.
+    pub(crate) fn count_answer(&mut self, id: u8, place: usize)
         requires rising { Rise self.old }
-        requires here { place < length self.old }
+        requires id { id < 16 }
+        requires oldest { position (is_in (2 * id + 1)) self.old ≡ Some place }
         requires captured { IfSome (slice_get self.old place) (λ p. IsSome (captured_at (beat_at p p.answered))) }
-        requires known { IfSome (slice_get self.old place) (λ p. queue_of p < 32) }
+        requires whole { IfSome (slice_get self.old place) (λ p. length p.beats ≡ transfers_in p.burst) }
         ensures { (p : Pending) → slice_get self.old place ≡ Some p → self.new ≡ slice_set self.old place (with_answer p) }
     {
-        let before = self.items[place].answers_left();
-        self.items[place].count_answer();
-        let burst = &self.items[place];
-        self.answers = noted(self.answers, &self.queues, burst);
-        self.owed -= u32::from(before - burst.answers_left());
+        let next = self.items[place].count_answer();
+        self.answers = self.answers.with(2 * usize::from(id) + 1, next);
+        self.owed -= 1;
     }
 
     /// Takes the oldest burst of a queue out, by its place.
@@ -335,13 +347,17 @@ fn is_ready_at(bursts: &[OpenBurst], first: Option<u64>) -> bool
     }
 }
 
-/// The marks after a burst changed: that of its queue changes where it is the oldest.
-fn noted(answers: Answers, queues: &Queues, burst: &OpenBurst) -> Answers
+/// The marks after a beat of a burst was performed: that of its queue changes where it is the oldest, and waited for the beat.
+fn noted(answers: Answers, queues: &Queues, burst: &OpenBurst, beat: u16) -> Answers
     requires { queue_of burst.now < 32 }
-    ensures here { is_marked result (queue_of burst.now)
+    ensures kept { is_decided_by beat burst.now ≡ false → result ≡ answers }
+    ensures here { is_decided_by beat burst.now ≡ true → is_marked result (queue_of burst.now)
         ≡ (if is_first (slice_get (slice_index_or queues.now (queue_of burst.now) []) 0) burst.now.serial then is_ready burst.now else is_marked answers (queue_of burst.now)) }
     ensures others { (queue : ℕ) → queue < 32 → queue ≢ queue_of burst.now → is_marked result queue ≡ is_marked answers queue }
 {
+    if !burst.is_decided_by(beat) {
+        return answers;
+    }
     let queue = burst.queue();
     let is_first = match queues.first(queue) {
         Some(serial) => serial == burst.serial(),

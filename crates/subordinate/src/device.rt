@@ -1,5 +1,5 @@
 //! The device.
-ghost use Rattle.std.specs.Prelude.{◌≡◌, ◌+◌, ◌<◌, ◌≤◌, ◌^◌, Bool, [], ◌∷◌, ◌++◌, length, filter, find, position, None, Some, IsNone, IsSome, IfSome, IfOk, IsOk, Ok, Err, MatchOption, MatchResult, is_some, option_map, slice_get};
+ghost use Rattle.std.specs.Prelude.{◌≡◌, ◌+◌, ◌*◌, ◌<◌, ◌≤◌, ◌^◌, Bool, [], ◌∷◌, ◌++◌, length, filter, find, position, None, Some, IsNone, IsSome, IfSome, IfOk, IsOk, Ok, Err, MatchOption, MatchResult, is_some, option_map, slice_get};
 ghost use Rattle.std.specs.Option.{option_copied};
 ghost use Rattle.std.specs.Vec.{vec_capacity, vec_len};
 ghost use Rattle.axi_beats.specs.Bursts.{IsLegal};
@@ -7,7 +7,7 @@ ghost use Rattle.axi_beats.specs.Transfers.{IsBusWidth};
 ghost use Rattle.axi_checker.specs.OpenBursts.{nothing_open, open_after};
 ghost use Rattle.axi_checker.specs.declared.AxiBeat.TheVariants.{B as OnB, R as OnR};
 ghost use Rattle.axi_checker.specs.Rules.{axi_fault, beats_sent, id_of, open_after_all, open_with_burst, outstanding_beside};
-ghost use Rattle.subordinate.specs.Bursts.{is_in};
+ghost use Rattle.subordinate.specs.Bursts.{IsFirstWaiting, is_in};
 ghost use Rattle.subordinate.specs.FreeMemory.{Pending, beat_after, beat_at, device_port, has_serial, is_read_of, is_write_of, memory_after, open_bursts_of, transfers_in};
 ghost use Rattle.subordinate.specs.Inside.{after_closing, after_counting, after_performing, captured_at, memory_over};
 ghost use Rattle.subordinate.specs.Laws.{IsSoundMemory, IsSoundPending};
@@ -288,6 +288,32 @@ impl Device {
         }
     }
 
+    /// Performs the first beat that isn't performed, by rising serial and beat, and answers whether there was one: what
+    /// `perform` does with the beat that `first_pending` tells, which isn't looked for twice.
+    pub fn perform_first(&mut self) -> bool
+        ensures answer { result ≡ is_some (slice_get (waiting_beats self.old.memory) 0) }
+        ensures state { MatchOption (slice_get (waiting_beats self.old.memory) 0)
+            (self.new ≡ self.old)
+            (λ first. (self.new ≡ record self.old { memory = (performed self.old.memory first.0 first.1).0 })
+            × ((performed self.old.memory first.0 first.1).1 ≡ Performed.Done)) }
+
+        // By addresses: just the strobed bytes of good pages are set, or each byte is captured in its lane.
+        ensures effect { IfSome (slice_get (waiting_beats self.old.memory) 0) (λ first. HasEffectAt first.0 first.1 self.old.memory self.new.memory) }
+
+        // No answer is given, and the order of those to come stays.
+        ensures order { OwesTheSame self.old.memory.pending self.new.memory.pending }
+
+        // It is no beat of the port: the monitor knows what it knew.
+        ensures monitor { open_bursts_of self.new.memory ≡ open_bursts_of self.old.memory }
+        ensures laws { IsSoundMemory self.new.memory }
+    {
+        let Some((place, beat)) = self.place_waiting() else {
+            return false;
+        };
+        self.perform_at(place, beat);
+        true
+    }
+
     /// The B of the oldest open write of an ID, once all its beats are performed; it closes the write.
     pub fn answer_b(&mut self, id: u8) -> Option<BBeat>
         ensures answer { result ≡ b_of self.old.memory id }
@@ -331,7 +357,7 @@ impl Device {
         if last {
             self.close(2 * usize::from(id) + 1, place);
         } else {
-            self.count_answer(place);
+            self.count_answer(id, place);
         }
         Some(RBeat {
             id,
@@ -406,6 +432,14 @@ impl Device {
         self.open.oldest(2 * usize::from(id) + 1)
     }
 
+    /// The place of the burst of the first beat that isn't performed, and that beat.
+    fn place_waiting(&self) -> Option<(usize, u16)>
+        ensures first { MatchOption result (slice_get (waiting_beats self.now.memory) 0 ≡ None) (λ first. IsFirstWaiting self.now.memory.pending first.0 first.1) }
+        ensures laws { IsSoundMemory self.now.memory }
+    {
+        self.open.place_waiting()
+    }
+
     /// The open burst at a place.
     fn open_at(&self, place: usize) -> &OpenBurst
         requires { place < length self.now.memory.pending }
@@ -432,14 +466,14 @@ impl Device {
         self.open.put(place, beat, becomes);
     }
 
-    /// Counts an R beat of the open read at a place, whose next beat is performed.
-    fn count_answer(&mut self, place: usize)
+    /// Counts an R beat of the oldest open read of an ID, by its place. Its next beat is performed.
+    fn count_answer(&mut self, id: u8, place: usize)
+        requires oldest { position (is_in (2 * id + 1)) self.old.memory.pending ≡ Some place }
         requires captured { IfSome (slice_get self.old.memory.pending place) (λ pending. IsSome (captured_at (beat_at pending pending.answered))) }
-        requires here { place < length self.old.memory.pending }
         ensures state { (test : Pending → Bool) → position test self.old.memory.pending ≡ Some place → self.new ≡ after_counting test self.old }
         ensures laws { IsSoundMemory self.new.memory }
     {
-        self.open.count_answer(place);
+        self.open.count_answer(id, place);
     }
 
     /// Closes the oldest open burst of a queue, by its place: its box waits to be taken back.

@@ -1,9 +1,9 @@
 //! A burst that is open: sent, and not answered whole.
-ghost use Rattle.std.specs.Prelude.{◌≡◌, ◌+◌, ◌<◌, ◌≤◌, false, IsSome, Some, length, not, slice_get, take};
+ghost use Rattle.std.specs.Prelude.{◌≡◌, ◌+◌, ◌<◌, ◌≤◌, false, IsSome, Some, is_some, length, not, slice_get, take};
 ghost use Rattle.std.specs.List.{AllByRecursion, list_any};
 ghost use Rattle.subordinate.specs.FreeMemory.{answers_left, beat_at, gives_last, is_waiting, newly_pending, performed_waiting_in, start_of, transfers_in, with_beat};
 ghost use Rattle.subordinate.specs.Inside.{burst_in, captured_at, count_waiting, waiting_places, with_answer};
-ghost use Rattle.subordinate.specs.Bursts.{is_ready};
+ghost use Rattle.subordinate.specs.Bursts.{is_decided_by, is_ready};
 ghost use Rattle.subordinate.specs.Laws.{IsPerformed, queue_of, queue_of_burst};
 ghost use Rattle.subordinate.specs.declared.BeatState.TheVariants.{Waiting};
 
@@ -192,6 +192,17 @@ impl OpenBurst {
         }
     }
 
+    /// Whether a beat, just performed, may be what it waited for: the last of a write, or the next of a read.
+    pub(crate) fn is_decided_by(&self, beat: u16) -> bool
+        ensures { result ≡ is_decided_by beat self.now }
+    {
+        if self.burst.is_write() {
+            self.beats.all_performed()
+        } else {
+            self.answered == beat
+        }
+    }
+
     /// Whether the next R beat is the last.
     pub(crate) fn gives_last(&self) -> bool
         ensures { result ≡ gives_last self.now }
@@ -199,13 +210,15 @@ impl OpenBurst {
         u32::from(self.answered) + 1 == u32::from(transfers(&self.burst))
     }
 
-    /// Counts an R beat.
-    pub(crate) fn count_answer(&mut self)
+    /// Counts an R beat of a read, and answers whether the next may come.
+    pub(crate) fn count_answer(&mut self) -> bool
         requires { self.old.answered < length self.old.beats }
-        ensures { self.new ≡ with_answer self.old }
+        ensures state { self.new ≡ with_answer self.old }
+        ensures next { result ≡ is_some (captured_at (beat_at self.new self.new.answered)) }
     {
-        if self.answered < self.beats.len() {
-            self.answered += 1;
-        }
+        let len = self.beats.len();
+        prove!(self.answered < len);
+        self.answered += 1;
+        self.captured().is_some()
     }
 }

@@ -54,7 +54,7 @@ impl Drop for Pages {
 }
 
 impl Pages {
-    ghost use Rattle.subordinate.specs.Faults.{is_bad, read_response, standing_at, write_response};
+    ghost use Rattle.subordinate.specs.Faults.{is_bad, standing_at, write_response};
     ghost use Rattle.subordinate.specs.FreeMemory.{captured};
     ghost use Rattle.subordinate.specs.declared.BeatState.TheVariants.{Captured};
     ghost use Rattle.subordinate.specs.Effects.{HasGoodPages};
@@ -127,16 +127,6 @@ impl Pages {
         }
     }
 
-    /// The response to a read beat at an address (AXI4, A3.4.4): that of its page and its word (this project's profile).
-    fn read_response(&self, address: u32) -> Resp
-        ensures { result ≡ read_response self.now.faults address }
-    {
-        match self.write_response(address) {
-            Resp::Okay if self.is_bad(address) => Resp::SlvErr,
-            resp => resp,
-        }
-    }
-
     /// What transfer `n`, from 1, of a read captures on a bus of `bus_bytes` bytes, 4 or 8: its bytes, each in its lane
     /// (AXI4, A3.4.3), and zero in the other lanes; all zero with an error (this project's profile).
     pub fn read(&self, bus_bytes: u8, ar: ArBeat, n: u16) -> (u64, Resp)
@@ -145,11 +135,14 @@ impl Pages {
         ensures good_pages { HasGoodPages self.now.faults self.now.memory }
     {
         let address = address_of(bus_bytes, ar.address, ar.len, ar.size, n);
-        let resp = self.read_response(address);
-        match self.word_at(address) {
-            Some(word) if resp == Resp::Okay => (bytes_read(bus_bytes, ar, n, word), resp),
-            _ => (0, resp),
+        // Outside good pages the page decides, as it does of a write.
+        let Some(word) = self.word_at(address) else {
+            return (0, self.write_response(address));
+        };
+        if self.is_bad(address) {
+            return (0, Resp::SlvErr);
         }
+        (bytes_read(bus_bytes, ar, n, address, word), Resp::Okay)
     }
 
     /// Performs transfer `n`, from 1, of a write on a bus of `bus_bytes` bytes, 4 or 8: the bytes in its strobed lanes are
@@ -270,16 +263,18 @@ fn first_lane(bus_bytes: u8, address: u32) -> u8
     (address % 8) as u8 / 4 * 4
 }
 
-/// The bytes of its word that transfer `n`, from 1, of a read takes, each in the bus's lane, and zero in the other lanes.
-fn bytes_read(bus_bytes: u8, ar: ArBeat, n: u16, word: u64) -> u64
-    requires { IsTransferOf bus_bytes ar.address ar.len ar.size n }
-    ensures { (memory : Memory) → word_at memory (transfer_address ar.address ar.size n) ≡ Some word
+/// The bytes of its word that transfer `n`, from 1, of a read takes, each in the bus's lane, and zero in the other lanes. An
+/// aligned transfer of eight bytes takes the word as it is.
+fn bytes_read(bus_bytes: u8, ar: ArBeat, n: u16, address: u32, word: u64) -> u64
+    requires transfer { IsTransferOf bus_bytes ar.address ar.len ar.size n }
+    requires address { address ≡ transfer_address ar.address ar.size n }
+    ensures { (memory : Memory) → word_at memory address ≡ Some word
         → result ≡ payload_of (byte_in_lane bus_bytes memory ar n) }
 {
+    if ar.size == 3 && address.is_multiple_of(8) {
+        return word;
+    }
     let (lowest, highest) = lanes_of(ar.address, ar.size, n, bus_bytes);
-    let first = first_lane(
-        bus_bytes,
-        address_of(bus_bytes, ar.address, ar.len, ar.size, n),
-    );
+    let first = first_lane(bus_bytes, address);
     merge(0, word >> (8 * first), lanes_between(lowest, highest))
 }

@@ -134,3 +134,13 @@ paired_r bridge device id r paired is bridge_laws memory_laws =
       none_closed = refl;
       boxes = rw paired.none_closed (omega (arith, paired.boxes, r_closes device.memory id finds.read finds.found));
     }
+
+-- where more of its burst come no box closes
+pub paired_more : (bridge : StockedBridge) (device : DeviceState) (id : ℕ) (r : RBeat) → ArePaired bridge device → r_of device.memory id ≡ Some r → r.last ≡ false
+    → IsSoundBridge (after_r_beat bridge.state r) → IsSoundMemory (after_r_of device.memory id) → ArePaired (record bridge { state = after_r_beat bridge.state r }) (after_r device id)
+paired_more bridge device id r paired is more bridge_laws memory_laws =
+    let finds = r_found device.memory id r is in
+    let gives : gives_last finds.read ≡ false = sym (ap (λ (x : RBeat). x.last) finds.answer) ∙ more in
+    let none : (after_r device id).closed ≡ [] = rw (paired.none_closed, finds.found, gives) refl in
+    let both = paired_r bridge device id r paired is bridge_laws memory_laws in
+    record { agree = both.agree; none_closed = none; boxes = omega (arith, both.boxes, ap (λ (closed : List Burst). length closed) none) }

@@ -1,7 +1,7 @@
 -- Bridge and memory at first, and after an event that concerns one of them alone. It knows what the constructors of both parts promise, and which
 -- of their laws look at the other part.
-use Rattle.std.specs.Prelude.{MatchOption, Result, Ok, Err, find, if◌then◌else◌, nat_le}
-use Rattle.std.proofs.Common.{◌≡◌, ℕ, Bool, true, false, List, Option, None, Some, refl, arith, length, ap}
+use Rattle.std.specs.Prelude.{MatchOption, Result, Ok, Err, find, if◌then◌else◌, is_some, nat_le, slice_get}
+use Rattle.std.proofs.Common.{◌≡◌, ℕ, Bool, true, false, List, Option, None, Some, refl, arith, length, ap, subst, sym, ◌∙◌}
 use Rattle.burst_plan.specs.declared.Region.{Region}
 use Rattle.bridge_core.specs.Bridge.{StockedBridge, opening_bridge, BridgeState, after_take, boxes_of, offered, reply_taken, taken, taken_of}
 use Rattle.bridge_core.specs.Laws.{IsSoundBridge}
@@ -9,17 +9,19 @@ use Rattle.config.specs.declared.Config.{Config}
 use Rattle.subordinate.specs.Device.{DeviceState, opening_device}
 use Rattle.subordinate.specs.Laws.{IsSoundMemory}
 use Rattle.subordinate.specs.declared.PageKind.{PageKind}
-use Rattle.world.specs.Inside.{ArePaired}
+use Rattle.world.specs.Choices.{PerformsFirst}
+use Rattle.world.specs.Inside.{ArePaired, world_state}
 use Rattle.bus_words.proofs.PlaceChanges.{length-change_first}
 use Rattle.tl_messages.specs.declared.ABeat.{ABeat}
 use Rattle.bridge_core.specs.HeldRequests.{BridgedRequest, is_done_for, oldest_done, reply_beats}
 use Rattle.bridge_core.specs.declared.Taken.{Taken}
-use Rattle.subordinate.specs.FreeMemory.{FreeMemory, Pending, beat_at, has_serial, performed, performed_beat, performed_in}
+use Rattle.subordinate.specs.FreeMemory.{FreeMemory, Pending, beat_at, has_serial, performed, performed_beat, performed_in, waiting_beats}
 use Rattle.subordinate.specs.declared.Performed.{Performed}
+use Rattle.subordinate.specs.declared.Performed.TheVariants as perform
 use Rattle.subordinate.specs.declared.BeatState.{BeatState}
 use Rattle.subordinate.specs.declared.BeatState.TheVariants.{Captured, Waiting, Written}
 use Rattle.world.specs.Laws.{Agree}
-use Rattle.world.specs.World.{Outcome, WorldState, changed, next, unchanged}
+use Rattle.world.specs.World.{Outcome, WorldState, changed, next, performed_by, unchanged}
 use Rattle.world.specs.World as world
 use Rattle.world.specs.declared.Answer.TheVariants as answer
 use Rattle.world.specs.declared.Step.TheVariants.{Take}
@@ -85,6 +87,38 @@ pub paired_performed : (bridge : StockedBridge) (device new : DeviceState) (seri
 paired_performed bridge device new serial beat paired is laws =
     let kept = kept_performed bridge.state device.memory serial beat paired.agree (rw is at laws) in
     rw is (record { agree = kept.0; none_closed = paired.none_closed; boxes = omega (arith, paired.boxes, kept.1) })
+
+-- ---- the first beat that waits
+
+-- a device that performed it, if one did
+abbrev pub FirstDone : DeviceState → DeviceState → Option (ℕ × ℕ) → Type 0
+FirstDone device new first =
+    MatchOption first (new ≡ device) (λ at. (new ≡ record device { memory = (performed device.memory at.0 at.1).0 }) × ((performed device.memory at.0 at.1).1 ≡ perform.Done))
+
+pub paired_first : (bridge : StockedBridge) (device new : DeviceState) (first : Option (ℕ × ℕ)) → ArePaired bridge device → FirstDone device new first → IsSoundMemory new.memory → ArePaired bridge new
+paired_first bridge device new None paired done laws = subst (ArePaired bridge) (sym done) paired
+paired_first bridge device new (Some at) paired done laws = paired_performed bridge device new at.0 at.1 paired done.0 laws
+
+pub none_done : (bridge : StockedBridge) (device new : DeviceState) (serial : Option ℕ) (first : Option (ℕ × ℕ)) → is_some first ≡ false → FirstDone device new first
+    → (first ≡ None) × (world_state bridge new serial ≡ world_state bridge device serial)
+none_done bridge device new serial None none done = (refl, ap (λ (d : DeviceState). world_state bridge d serial) done)
+none_done bridge device new serial (Some at) none done = absurd (cc (none))
+
+done_state : (state : WorldState) (made : FreeMemory × Performed) → made.1 ≡ perform.Done → (performed_by state made).state ≡ record { bridge = state.bridge; memory = made.0; last_sent = None }
+done_state state (memory, perform.NoSuch) is = absurd (cc (is))
+done_state state (memory, perform.Already) is = absurd (cc (is))
+done_state state (memory, perform.Done) is = refl
+
+pub first_done : (bridge : StockedBridge) (device new : DeviceState) (serial : Option ℕ) (first : Option (ℕ × ℕ)) → slice_get (waiting_beats device.memory) 0 ≡ first → is_some first ≡ true → FirstDone device new first
+    → PerformsFirst (world_state bridge device serial) (world_state bridge new None)
+first_done bridge device new serial None is some done = absurd (cc (some))
+first_done bridge device new serial (Some at) is some done =
+    record {
+      serial = at.0;
+      beat = at.1;
+      first = is;
+      state = ap (λ (d : DeviceState). world_state bridge d None) done.0 ∙ sym (done_state (world_state bridge device serial) (performed device.memory at.0 at.1) done.1);
+    }
 
 -- ---- which answer
 

@@ -7,7 +7,7 @@ use Rattle.world.specs.World.{WorldState, enabled, next}
 use Rattle.world.specs.declared.Answer.{Answer}
 use Rattle.world.specs.declared.Answer.TheVariants.{R, Sent}
 use Rattle.world.specs.declared.Step.{Step}
-use Rattle.world.specs.declared.Step.TheVariants.{AnswerB, AnswerR}
+use Rattle.world.specs.declared.Step.TheVariants.{AnswerB, AnswerR, Perform}
 
 -- the answers of a memory that may come: AnswerB by rising ID, AnswerR by rising ID
 abbrev pub answers_enabled : FreeMemory → List Step
@@ -27,6 +27,13 @@ goes_on answer = false
 abbrev pub LeadsTo : WorldState → ℕ → WorldState → Type 0
 LeadsTo old zero new = new ≡ old
 LeadsTo old (suc n) new = (step : Step) × IsSoundWorld old × (slice_get (enabled old) 0 ≡ Some step) × LeadsTo (next old step).state n new
+
+-- the first beat that waits was performed
+pub record PerformsFirst (old new : WorldState) : Type 0 where
+  pub serial : ℕ
+  pub beat : ℕ
+  pub first : slice_get (waiting_beats old.memory) 0 ≡ Some (serial, beat)
+  pub state : new ≡ (next old (Perform serial beat)).state
 
 -- no request is ready, and no beat waits
 pub record IsPerformed (state : WorldState) : Type 0 where

@@ -11,7 +11,7 @@ const IDS: u8 = 16;
 
 impl World {
     ghost use Rattle.bridge_core.specs.Bridge.{burst_to_send};
-    ghost use Rattle.subordinate.specs.FreeMemory.{first_with_b, first_with_r, waiting_beats};
+    ghost use Rattle.subordinate.specs.FreeMemory.{first_with_b, first_with_r};
     ghost use Rattle.world.specs.Choices.{IsPerformed, LeadsTo};
     ghost use Rattle.world.specs.World.{drained, enabled};
     ghost use Rattle.world.specs.Laws.{IsDrained, IsSoundWorld};
@@ -99,8 +99,7 @@ impl World {
         ensures performed { IsPerformed self.new }
     {
         let mut made = 0;
-        while let Some((serial, beat)) = self.first_pending() {
-            self.perform(serial, beat);
+        while self.perform_first() {
             made += 1;
         }
         made
@@ -137,14 +136,6 @@ impl World {
             }
         }
         made
-    }
-
-    /// The first beat that waits.
-    fn first_pending(&self) -> Option<(u64, u16)>
-        ensures first { result ≡ slice_get (waiting_beats self.now.memory) 0 }
-        ensures laws { IsSoundWorld self.now }
-    {
-        self.device.first_pending()
     }
 
     /// The smallest ID that may give a B.

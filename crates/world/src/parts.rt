@@ -50,6 +50,9 @@ pub(crate) fn give_r(bridge: &mut Bridge, device: &mut Device, id: u8) -> Option
     let Ok(()) = bridge.on_r(&beat) else {
         unreachable!();
     };
+    if !beat.last {
+        return Some(beat);
+    }
     take_back(bridge, device);
     Some(beat)
 }

@@ -1,5 +1,5 @@
 //! The world: a bridge and a memory, one event at a time.
-ghost use Rattle.std.specs.Prelude.{◌≡◌, ◌+◌, ◌≤◌, ◌<◌, ◌⊎◌, length, map, None, Some, option_map, slice_get, IfErr, IfOk, IfSome, IsTrue, if◌then◌else◌};
+ghost use Rattle.std.specs.Prelude.{◌≡◌, ◌+◌, ◌≤◌, ◌<◌, ◌⊎◌, [], false, true, length, map, None, Some, option_map, slice_get, IfErr, IfOk, IfSome, IsTrue, if◌then◌else◌};
 ghost use Rattle.world.specs.Laws.{IsSoundWorld, TakeAll};
 ghost use Rattle.setups.specs.Setups.{lists_of, setup_fault};
 ghost use Rattle.setups.specs.declared.SetupFault.TheVariants.{NoMemory};
@@ -52,7 +52,8 @@ impl World {
     ghost use Rattle.bridge_core.specs.HeldRequests.{oldest_done};
     ghost use Rattle.std.specs.Prelude.{is_some};
     ghost use Rattle.bridge_core.specs.Bridge as bridges;
-    ghost use Rattle.subordinate.specs.FreeMemory.{performed_waiting};
+    ghost use Rattle.subordinate.specs.FreeMemory.{performed_waiting, waiting_beats};
+    ghost use Rattle.world.specs.Choices.{PerformsFirst};
     ghost use Rattle.world.specs.World.{byte_of, in_flight, is_reply, leaves_all, next, opening_world, work_left};
 
     /// The opening world of a set-up. Refuses what `setup_fault` does, with that fault; its one other error is NoMemory, and
@@ -219,6 +220,20 @@ impl World {
                 Answer::Done
             }
         }
+    }
+
+    /// Performs the first beat that waits, and answers whether one did.
+    #[inline(always)]
+    pub(crate) fn perform_first(&mut self) -> bool
+        ensures none { result ≡ false → (waiting_beats self.old.memory ≡ []) × (self.new ≡ self.old) }
+        ensures first { result ≡ true → PerformsFirst self.old self.new }
+        ensures laws { IsSoundWorld self.old × IsSoundWorld self.new }
+    {
+        if !self.device.perform_first() {
+            return false;
+        }
+        self.last_sent = None;
+        true
     }
 
     #[inline(always)]

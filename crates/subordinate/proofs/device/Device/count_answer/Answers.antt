@@ -1,5 +1,5 @@
 -- One more R beat of the read at the place came.
-use Rattle.std.proofs.Common.{◌≡◌, ◌<◌, List, length, sym, ap, subst, ◌∙◌}
+use Rattle.std.proofs.Common.{◌≡◌, ◌*◌, ◌+◌, ◌<◌, List, length, sym, ap, arith, subst, ◌∙◌}
 use Rattle.std.proofs.lemmas.List.{length-set}
 use Rattle.std.specs.Prelude.{Some, IfSome, IsSome, position, slice_get, slice_set}
 use Rattle.subordinate.specs.Device.{DeviceState}
@@ -7,19 +7,29 @@ use Rattle.subordinate.specs.FreeMemory.{Pending, beat_at}
 use Rattle.subordinate.specs.Inside.{after_counting, captured_at, device_state, memory_of, with_answer}
 use Rattle.subordinate.specs.Laws.{IsSoundMemory}
 use Rattle.subordinate.proofs.BurstIndex.{burst_at}
-use Rattle.subordinate.proofs.OpenQueues.{at_place, known_at, some_at}
+use Rattle.subordinate.proofs.OpenQueues.{at_place, kept_place, queue_known, some_at, whole_at}
 use Rattle.subordinate.proofs.SoundDevices.{counting, room_changed, sound-answered}
 use Rattle.subordinate.proofs.device.Device.count_answer.Goals as goal
+
+abbrev pending_of : DeviceState → List Pending
+pending_of device = device.memory.pending
 
 pub count_answer-requires-clause-rising : goal.count_answer-requires-clause-rising
 count_answer-requires-clause-rising c = (c.self.inside.sent, c.self.invariant.0.rising)
 
-pub count_answer-requires-clause-known : goal.count_answer-requires-clause-known
-count_answer-requires-clause-known c = known_at c.self.inside.«open» c.args.place (subst (λ (device : DeviceState). c.args.place < length device.memory.pending) (sym c.self.view_is) c.requires.here) c.self.invariant.0.few.known
+pub count_answer-requires-clause-id : goal.count_answer-requires-clause-id
+count_answer-requires-clause-id c =
+    let kept = kept_place (2 * c.args.id + 1) c.self.inside.«open» c.args.self.now.memory.pending c.args.place (ap pending_of c.self.view_is) c.requires.oldest in
+    omega (arith, queue_known c.self.inside.«open» (2 * c.args.id + 1) c.args.place c.self.invariant.0.few.known kept.0)
+
+pub count_answer-requires-clause-whole : goal.count_answer-requires-clause-whole
+count_answer-requires-clause-whole c =
+    let kept = kept_place (2 * c.args.id + 1) c.self.inside.«open» c.args.self.now.memory.pending c.args.place (ap pending_of c.self.view_is) c.requires.oldest in
+    whole_at c.self.inside.bus_bytes c.self.inside.«open» c.args.place kept.1 c.self.invariant.0.each
 
 -- the place is one of them, and what is there after the count
 within : (c : goal.After-count_answer) → c.args.place < length c.self.inside.«open»
-within c = subst (λ (device : DeviceState). c.args.place < length device.memory.pending) (sym c.self.view_is) c.requires.here
+within c = (kept_place (2 * c.args.id + 1) c.self.inside.«open» c.args.self.now.memory.pending c.args.place (ap pending_of c.self.view_is) c.requires.oldest).1
 
 becomes : (c : goal.After-count_answer) → c.count_answer.new.self ≡ slice_set c.self.inside.«open» c.args.place (with_answer (burst_at c.self.inside.«open» c.args.place))
 becomes c = c.count_answer.ensures (burst_at c.self.inside.«open» c.args.place) (some_at c.self.inside.«open» c.args.place (within c))

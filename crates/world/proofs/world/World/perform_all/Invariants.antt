@@ -6,8 +6,8 @@ use Rattle.world.specs.Choices.{LeadsTo}
 use Rattle.world.specs.World.{work_left}
 use Rattle.world.proofs.world.World.perform_all.Given as goal
 
-abbrev pub invariant-loop-serial : goal.invariant-loop-serial
-invariant-loop-serial l = LeadsTo l.initial.self l.made l.self × (burst_to_send l.self.bridge ≡ None)
+abbrev pub invariant-loop-made : goal.invariant-loop-made
+invariant-loop-made l = LeadsTo l.initial.self l.made l.self × (burst_to_send l.self.bridge ≡ None)
 
-abbrev pub decreases-loop-serial : goal.decreases-loop-serial
-decreases-loop-serial l = work_left l.self
+abbrev pub decreases-loop-made : goal.decreases-loop-made
+decreases-loop-made l = work_left l.self
