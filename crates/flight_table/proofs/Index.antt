@@ -170,12 +170,6 @@ pub length_requests : (s : Slab LiveRequest) (ks : List ℕ) → length (request
 length_requests s [] = refl
 length_requests s (k ∷ ks) = ap suc (length_requests s ks)
 
--- the request of the key at a place
-pub request_placed : (s : Slab LiveRequest) (ks : List ℕ) (place key : ℕ) (d : LiveRequest) → place < length ks → key ≡ get_or ks place key → stored s key ≡ get_or (requests_of (entries_in s ks)) place d
-request_placed s [] place key d within is = absurd (omega (arith, within))
-request_placed s (k ∷ ks) zero key d within is = ap (stored s) is
-request_placed s (k ∷ ks) (suc place) key d within is = request_placed s ks place key d (omega (arith, within)) is
-
 -- the place of a key, and that of a request that passes a test
 pub place_keyed : (s : Slab LiveRequest) (key : ℕ) (ks : List ℕ) → position (has_key key) (entries_in s ks) ≡ position (λ k. k == key) ks
 place_keyed s key ks = position_map (entry_in s) (has_key key) ks

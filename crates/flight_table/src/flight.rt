@@ -181,8 +181,9 @@ impl Flight {
         ensures laws { IsSound self.new }
     {
         let request = self.live.get(key);
-        let id = self.live.id_for(&request).unwrap();
-        self.live.set(key, request.with_sent(id));
+        let id = self.live.id_for(request).unwrap();
+        let sent = request.with_sent(id);
+        self.live.set(key, sent);
         id
     }
 
@@ -194,7 +195,8 @@ impl Flight {
         ensures laws { IsSound self.new }
     {
         let request = self.live.get(key);
-        self.live.set(key, request.with_answered());
+        let answered = request.with_answered();
+        self.live.set(key, answered);
     }
 
     /// Plans the write of an atomic that isn't done, whose read was answered and whose write isn't planned.
@@ -205,7 +207,8 @@ impl Flight {
         ensures laws { IsSound self.new }
     {
         let request = self.live.get(key);
-        self.live.set(key, request.with_write());
+        let write = request.with_write();
+        self.live.set(key, write);
     }
 
     /// A request is done from here on, and its ID is free again. Nothing of it that is planned is unsent or unanswered.

@@ -118,10 +118,10 @@ impl Live {
         key
     }
 
-    /// The request of a key.
-    pub(crate) fn get(&self, key: Key) -> LiveRequest
+    /// The request of a key, where it lies.
+    pub(crate) fn get(&self, key: Key) -> &LiveRequest
         requires { IsSome (request_in key self.now.entries) }
-        ensures request { request_in key self.now.entries ≡ Some result }
+        ensures request { request_in key self.now.entries ≡ Some result.now }
         ensures keys { HaveOwnKeys self.now.entries }
     {
         self.slots.get(key)
@@ -136,6 +136,16 @@ impl Live {
         }
     }
 
+    /// The place of the request of a key.
+    fn place_of(&self, key: Key) -> usize
+        requires { IsSome (request_in key self.now.entries) }
+        ensures place { position (has_key key) self.now.entries ≡ Some result }
+        ensures within { result < length (requests_of self.now.entries) }
+    {
+        let guess = self.guess(self.slots.get(key).number);
+        self.slots.place_of(key, guess)
+    }
+
     /// Puts a request in the place of that of a key, of which it is what sending and answering make. It is inline, so that a
     /// request that was just made isn't written down and read again.
     #[inline(always)]
@@ -145,14 +155,13 @@ impl Live {
         ensures table { self.new ≡ with_entries (change_first (has_key key) (change_entry (λ r. request)) self.old.entries) self.old }
         ensures keys { HaveOwnKeys self.new.entries }
     {
+        let place = self.place_of(key);
         let old = self.slots.get(key);
-        let guess = self.guess(old.number);
-        let place = self.slots.place_of(key, guess);
         let able = request.is_open(self.limits.depth);
         self.able.put(place, able);
         self.named.put(place, request.is_named(able));
         self.ids.rename(key, old.id, request.id);
-        self.sums = self.sums.moved(&old, &request);
+        self.sums = self.sums.moved(old, &request);
         self.slots.set(key, request);
     }
 
@@ -162,9 +171,8 @@ impl Live {
         ensures table { self.new ≡ with_entries (change_first (has_key key) (change_entry finished) self.old.entries) self.old }
         ensures keys { HaveOwnKeys self.new.entries }
     {
+        let place = self.place_of(key);
         let request = self.slots.get(key);
-        let guess = self.guess(request.number);
-        let place = self.slots.place_of(key, guess);
         let done = request.finished();
         self.able.put(place, false);
         self.named.put(place, false);
@@ -177,7 +185,7 @@ impl Live {
             &mut self.unheld,
         );
         self.ids.rename(key, request.id, None);
-        self.sums = self.sums.without(&request).with(&done);
+        self.sums = self.sums.without(request).with(&done);
         self.clients.finish(request.client, key);
         self.spans[place] = done.span();
         self.slots.set(key, done);
@@ -190,10 +198,10 @@ impl Live {
         ensures table { self.new ≡ with_entries (without_first (has_key key) self.old.entries) self.old }
         ensures keys { HaveOwnKeys self.new.entries }
     {
+        let place = self.place_of(key);
         let request = self.slots.get(key);
-        let guess = self.guess(request.number);
-        let place = self.slots.place_of(key, guess);
-        self.sums = self.sums.without(&request);
+        let client = request.client;
+        self.sums = self.sums.without(request);
         self.able.remove(place);
         self.named.remove(place);
         self.holders.remove(place);
@@ -201,7 +209,7 @@ impl Live {
         self.rows.remove(place);
         self.spans.remove(place);
         self.slots.remove(key, place);
-        self.clients.remove(request.client, key);
+        self.clients.remove(client, key);
     }
 
     /// How many live requests a client has.
@@ -224,8 +232,7 @@ impl Live {
         requires { IsSome (request_in key self.now.entries) }
         ensures { IfSome (request_in key self.now.entries) (λ request. result ≡ length (filter (holds_back request) (requests_of self.now.entries))) }
     {
-        let guess = self.guess(self.slots.get(key).number);
-        self.holders[self.slots.place_of(key, guess)]
+        self.holders[self.place_of(key)]
     }
 
     /// Whether a live request of a client has this source.

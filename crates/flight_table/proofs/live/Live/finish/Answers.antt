@@ -27,56 +27,59 @@ pub lower-requires-clause-places : goal.lower-requires-clause-places
 lower-requires-clause-places c =
     length_row (requests_of c.self.inside.slots) c.self.inside.rows c.row-row.result c.page.result c.count.result c.deref.result.now c.self.invariant.5 c.count.ensures.count c.row-row.ensures.row (c.deref.ensures.value ∙ c.self.invariant.6)
 
+done_is : (c : goal.After-set) → c.finished-done.result ≡ finished c.get-request.result.now
+done_is c = c.finished-done.ensures ∙ ap finished c.request.view_is
+
 entries : (c : goal.After-set) → c.set.new.self ≡ change_first (has_key c.args.key) (change_entry finished) c.self.inside.slots
-entries c = c.set.ensures.entries ∙ change-constant finished c.args.key c.self.inside.slots c.get-request.result c.finished-done.result c.get-request.ensures.request c.finished-done.ensures
+entries c = c.set.ensures.entries ∙ change-constant finished c.args.key c.self.inside.slots c.get-request.result.now c.finished-done.result c.get-request.ensures.request (done_is c)
 
 pub rename-requires : goal.rename-requires
 rename-requires c =
     let i = c.self.inside in
-    let r = c.get-request.result in
-    rw (c.self.invariant.2, length_holders i.limits.ids i.slots, ap (λ (q : LiveRequest). q.id) c.request-2.view_is)
+    let r = c.get-request.result.now in
+    rw (c.self.invariant.2, length_holders i.limits.ids i.slots, ap (λ (q : LiveRequest). q.id) c.request.view_is)
     (gives_back i.limits.ids (requests_of i.slots) r.id
     (named_with c.args.key i.slots r (λ old. IfSome old.id (HasOneHolder i.limits.ids (requests_of i.slots))) c.get-request.ensures.request (rw (← c.self.view_is) at c.requires)))
 
 pub without-requires : goal.without-requires
 without-requires c =
-    let at = placed c.args.key c.self.inside.slots c.place_of-place.result c.get-request.result c.place_of-place.ensures.place c.get-request.ensures.request in
-    rw c.self.invariant.3.sums_are (are_part (requests_of c.self.inside.slots) c.place_of-place.result c.get-request.result at.within (at.there c.get-request.result))
+    let at = placed c.args.key c.self.inside.slots c.place_of-place.result c.get-request.result.now (rw (← c.self.view_is) at c.place_of-place.ensures.place) c.get-request.ensures.request in
+    rw c.self.invariant.3.sums_are (are_part (requests_of c.self.inside.slots) c.place_of-place.result c.get-request.result.now at.within (at.there c.get-request.result.now))
 
 pub with-self-inside-requires : goal.with-self-inside-requires
 with-self-inside-requires c =
-    less_small c.get-request.result c.without.result c.self.inside.sums c.without.ensures
+    less_small c.get-request.result.now c.without.result c.self.inside.sums c.without.ensures
     (rw c.self.invariant.3.sums_are (are_small (requests_of c.self.inside.slots) c.self.invariant.3.few c.self.invariant.3.small))
 
 pub finish-requires-clause-client : goal.finish-requires-clause-client
 finish-requires-clause-client c =
     let i = c.self.inside in
-    let r = c.get-request.result in
-    is_kept 8 _ r.client i.slots i.clients c.self.invariant.4 (ap (λ (q : LiveRequest). q.client) c.request-2.view_is) (request_listed (λ q. q.client < 8) c.args.key i.slots r c.self.invariant.4.few c.get-request.ensures.request)
+    let r = c.get-request.result.now in
+    is_kept 8 _ r.client i.slots i.clients c.self.invariant.4 (ap (λ (q : LiveRequest). q.client) c.request.view_is) (request_listed (λ q. q.client < 8) c.args.key i.slots r c.self.invariant.4.few c.get-request.ensures.request)
 
 pub finish-requires-clause-there : goal.finish-requires-clause-there
 finish-requires-clause-there c =
     let i = c.self.inside in
-    is_listed 8 _ c.args.key i.slots i.clients c.get-request.result c.self.invariant.4 c.get-request.ensures.request (ap (λ (q : LiveRequest). q.client) c.request-2.view_is)
+    is_listed 8 _ c.args.key i.slots i.clients c.get-request.result.now c.self.invariant.4 c.get-request.ensures.request (ap (λ (q : LiveRequest). q.client) c.request.view_is)
 
 pub invariant_of-self : goal.invariant_of-self
 invariant_of-self c =
     let i = c.self.inside in
-    let r = c.get-request.result in
+    let r = c.get-request.result.now in
     let one = named_with c.args.key i.slots r (λ old. IfSome old.id (HasOneHolder i.limits.ids (requests_of i.slots))) c.get-request.ensures.request (rw (← c.self.view_is) at c.requires) in
     let place = c.place_of-place.result in
-    let at = placed c.args.key i.slots place r c.place_of-place.ensures.place c.get-request.ensures.request in
+    let at = placed c.args.key i.slots place r (rw (← c.self.view_is) at c.place_of-place.ensures.place) c.get-request.ensures.request in
     let after = ap requests_of c.set.ensures.entries ∙ requests_changed (λ o. c.finished-done.result) c.args.key i.slots place r at in
     let as_many = length_kept i.limits.depth (requests_of i.slots) i.able i.named i.holders.items i.unheld c.self.invariant.0 in
     let less =
     ap (λ (s : Span). lowered_in c.row-row.result s c.deref.result.now i.holders.items) c.span.ensures
     ∙ row_lowered r (requests_of i.slots) i.rows c.row-row.result i.holders.items c.page.result c.count.result c.deref.result.now c.self.invariant.5 c.page.ensures.range c.count.ensures.count as_many c.page.ensures.page c.row-row.ensures.row (c.deref.ensures.value ∙ c.self.invariant.6) in
     let room : 64 ≤ vec_capacity c.lower.new.holders = omega (arith, c.self.invariant.1, c.lower.ensures.capacity) in (
-      rw (after, c.finished-done.ensures, c.put.ensures, c.put-2.ensures, c.lower.ensures.unheld)
+      rw (after, (done_is c), c.put.ensures, c.put-2.ensures, c.lower.ensures.unheld)
           (kept_finish i.limits.depth (requests_of i.slots) place r i.able i.named i.holders.items i.unheld c.self.invariant.0 at.within (at.there r) c.lower.new.holders.items (c.lower.ensures.holders ∙ less)),
       room,
-      rw (c.rename.ensures, c.self.invariant.2, c.set.ensures.entries, ap (λ (q : LiveRequest). q.id) c.request-2.view_is)
-          (sym (ids_finish i.limits.ids c.args.key place i.slots r c.finished-done.result r.id c.get-request.ensures.request at refl (ap (λ (q : LiveRequest). q.id) c.finished-done.ensures) one)),
+      rw (c.rename.ensures, c.self.invariant.2, c.set.ensures.entries, ap (λ (q : LiveRequest). q.id) c.request.view_is)
+          (sym (ids_finish i.limits.ids c.args.key place i.slots r c.finished-done.result r.id c.get-request.ensures.request at refl (ap (λ (q : LiveRequest). q.id) (done_is c)) one)),
       rw after
           (record {
             sums_are = c.with-self-inside.ensures.sums ∙ sums_set (requests_of i.slots) place r c.finished-done.result c.without.result at.within (at.there r) (c.without.ensures ∙ c.self.invariant.3.sums_are);
@@ -84,9 +87,9 @@ invariant_of-self c =
             few = omega (arith, c.self.invariant.3.few, length-set (requests_of i.slots) place c.finished-done.result);
           }),
       kept_finished 8 _ i.slots c.set.new.self i.clients c.finish.new.self c.args.key r c.finished-done.result c.self.invariant.4 c.get-request.ensures.request
-          (request_listed (λ q. q.client < 8) c.args.key i.slots r c.self.invariant.4.few c.get-request.ensures.request) (ap (λ (q : LiveRequest). q.client) c.request-2.view_is) c.finished-done.ensures c.set.ensures.entries
+          (request_listed (λ q. q.client < 8) c.args.key i.slots r c.self.invariant.4.few c.get-request.ensures.request) (ap (λ (q : LiveRequest). q.client) c.request.view_is) (done_is c) c.set.ensures.entries
           c.finish.ensures,
-      rw after (rows_set (requests_of i.slots) place r c.finished-done.result i.rows c.self.invariant.5 (at.there r) (ap (λ (q : LiveRequest). q.plan) c.finished-done.ensures) c.page.ensures.range),
+      rw after (rows_set (requests_of i.slots) place r c.finished-done.result i.rows c.self.invariant.5 (at.there r) (ap (λ (q : LiveRequest). q.plan) (done_is c)) c.page.ensures.range),
       rw (after, c.span-2.ensures, c.self.invariant.6) (sym (map-set span_of (requests_of i.slots) place c.finished-done.result)),
       c.self.invariant.7,
     )

@@ -18,34 +18,34 @@ use Rattle.flight_table.proofs.live.Live.remove.Goals as goal
 
 pub without-self-inside-requires : goal.without-self-inside-requires
 without-self-inside-requires c =
-    let r = c.get-request.result in
-    let at = placed c.args.key c.self.inside.slots c.place_of-place.result r c.place_of-place.ensures.place c.get-request.ensures.request in
+    let r = c.get-request.result.now in
+    let at = placed c.args.key c.self.inside.slots c.place_of-place.result r (rw (← c.self.view_is) at c.place_of-place.ensures.place) c.get-request.ensures.request in
     rw c.self.invariant.3.sums_are (are_part (requests_of c.self.inside.slots) c.place_of-place.result r at.within (at.there r))
 
 pub remove-requires-8-clause-client : goal.remove-requires-8-clause-client
 remove-requires-8-clause-client c =
     let i = c.self.inside in
-    let r = c.get-request.result in
+    let r = c.get-request.result.now in
     is_kept 8 _ r.client i.slots i.clients c.self.invariant.4 (ap (λ (q : LiveRequest). q.client) c.request.view_is) (request_listed (λ q. q.client < 8) c.args.key i.slots r c.self.invariant.4.few c.get-request.ensures.request)
 
 pub remove-requires-8-clause-there : goal.remove-requires-8-clause-there
 remove-requires-8-clause-there c =
     let i = c.self.inside in
-    is_listed 8 _ c.args.key i.slots i.clients c.get-request.result c.self.invariant.4 c.get-request.ensures.request (ap (λ (q : LiveRequest). q.client) c.request.view_is)
+    is_listed 8 _ c.args.key i.slots i.clients c.get-request.result.now c.self.invariant.4 c.get-request.ensures.request (ap (λ (q : LiveRequest). q.client) c.request.view_is)
 
 pub remove-requires-5 : goal.remove-requires-5
 remove-requires-5 c =
-    let at = placed c.args.key c.self.inside.slots c.place_of-place.result c.get-request.result c.place_of-place.ensures.place c.get-request.ensures.request in
+    let at = placed c.args.key c.self.inside.slots c.place_of-place.result c.get-request.result.now (rw (← c.self.view_is) at c.place_of-place.ensures.place) c.get-request.ensures.request in
     omega (arith, at.within, c.self.invariant.3.few)
 
 pub invariant_of-self : goal.invariant_of-self
 invariant_of-self c =
     let i = c.self.inside in
-    let r = c.get-request.result in
+    let r = c.get-request.result.now in
     let done = named_with c.args.key i.slots r (λ q. q.done ≡ true) c.get-request.ensures.request (rw (← c.self.view_is) at c.requires.done) in
     let no_id = named_with c.args.key i.slots r (λ q. q.id ≡ None) c.get-request.ensures.request (rw (← c.self.view_is) at c.requires.no_id) in
     let place = c.place_of-place.result in
-    let at = placed c.args.key i.slots place r c.place_of-place.ensures.place c.get-request.ensures.request in
+    let at = placed c.args.key i.slots place r (rw (← c.self.view_is) at c.place_of-place.ensures.place) c.get-request.ensures.request in
     let after = ap requests_of c.remove-7.ensures.entries ∙ requests_without c.args.key i.slots place r at in
     let room : 64 ≤ vec_capacity c.remove-3.new.self = omega (arith, c.self.invariant.1, c.remove-3.ensures.capacity) in
     let more : 64 ≤ vec_capacity c.remove-6.new.self = omega (arith, c.self.invariant.7, c.remove-6.ensures.capacity) in (

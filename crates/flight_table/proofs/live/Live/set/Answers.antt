@@ -18,15 +18,15 @@ use Rattle.flight_table.proofs.live.Live.set.Goals as goal
 pub rename-requires : goal.rename-requires
 rename-requires c =
     let i = c.self.inside in
-    let r = c.get-old.result in
+    let r = c.get-old.result.now in
     rw (c.self.invariant.2, length_holders i.limits.ids i.slots, ap (λ (q : LiveRequest). q.id) c.old.view_is, ap (λ (q : LiveRequest). q.id) c.request.view_is)
     (may_rename i.limits.ids (requests_of i.slots) r.id c.args.request.id
     (named_with c.args.key i.slots r (λ old. MayName i.limits.ids (requests_of i.slots) old.id c.args.request.id) c.get-old.ensures.request (rw (← c.self.view_is) at c.requires.id)))
 
 pub moved-self-inside-requires-clause-part : goal.moved-self-inside-requires-clause-part
 moved-self-inside-requires-clause-part c =
-    let at = placed c.args.key c.self.inside.slots c.place_of-place.result c.get-old.result c.place_of-place.ensures.place c.get-old.ensures.request in
-    rw c.self.invariant.3.sums_are (are_part (requests_of c.self.inside.slots) c.place_of-place.result c.get-old.result at.within (at.there c.get-old.result))
+    let at = placed c.args.key c.self.inside.slots c.place_of-place.result c.get-old.result.now (rw (← c.self.view_is) at c.place_of-place.ensures.place) c.get-old.ensures.request in
+    rw c.self.invariant.3.sums_are (are_part (requests_of c.self.inside.slots) c.place_of-place.result c.get-old.result.now at.within (at.there c.get-old.result.now))
 
 pub moved-self-inside-requires-clause-small : goal.moved-self-inside-requires-clause-small
 moved-self-inside-requires-clause-small c = rw c.self.invariant.3.sums_are (are_small (requests_of c.self.inside.slots) c.self.invariant.3.few c.self.invariant.3.small)
@@ -34,12 +34,12 @@ moved-self-inside-requires-clause-small c = rw c.self.invariant.3.sums_are (are_
 pub invariant_of-self : goal.invariant_of-self
 invariant_of-self c =
     let i = c.self.inside in
-    let r = c.get-old.result in
+    let r = c.get-old.result.now in
     let found = c.get-old.ensures.request in
     let progress = named_with c.args.key i.slots r (λ old. IsProgress old c.args.request) found (rw (← c.self.view_is) at c.requires.progress) in
     let names = named_with c.args.key i.slots r (λ old. MayName i.limits.ids (requests_of i.slots) old.id c.args.request.id) found (rw (← c.self.view_is) at c.requires.id) in
     let place = c.place_of-place.result in
-    let at = placed c.args.key i.slots place r c.place_of-place.ensures.place found in
+    let at = placed c.args.key i.slots place r (rw (← c.self.view_is) at c.place_of-place.ensures.place) found in
     let after = ap requests_of c.set.ensures.entries ∙ requests_changed (λ o. c.args.request) c.args.key i.slots place r at in (
       rw (after, c.put.ensures, c.put-2.ensures, c.is_named.ensures, c.is_open-able.ensures)
           (kept_set i.limits.depth (requests_of i.slots) place r c.args.request i.able i.named i.holders.items i.unheld c.self.invariant.0 at.within (at.there r) progress),
