@@ -8,6 +8,7 @@ pub mod RowLaws
 pub mod Lowered
 pub mod Index
 pub mod PhaseLaws
+pub mod StepWorth
 pub mod KeyLaws
 pub mod TableChanges
 pub mod Steps

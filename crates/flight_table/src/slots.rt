@@ -1,12 +1,13 @@
 //! The live requests in a slab, and their keys by rising number.
-ghost use Rattle.std.specs.Prelude.{◌≡◌, ◌==◌, ◌<◌, ◌≤◌, Bool, [], ◌∷◌, ◌++◌, Some, None, IfOk, IfSome, IsSome, length, position};
+ghost use Rattle.std.specs.Prelude.{◌≡◌, ◌==◌, ◌<◌, ◌≤◌, Bool, [], ◌∷◌, ◌++◌, Some, None, IfOk, IfSome, IsSome, IsSomeAnd, length, position};
 ghost use Rattle.flight_table.specs.LiveRequests.{LiveRequest};
 ghost use Rattle.std.specs.Vec.{vec_len, vec_capacity};
 ghost use Rattle.bus_words.specs.Places.{AreDistinct, change_first, without_first};
 ghost use Rattle.flight_table.specs.Tables.{change_entry, has_key, has_number, key_in, request_in, requests_of};
 ghost use Rattle.flight_table.specs.Laws.{HaveOwnKeys};
+ghost use Rattle.flight_table.specs.Progress.{MayStep, stepped};
 
-use crate::live_request::LiveRequest;
+use crate::live_request::{LiveRequest, Step};
 use crate::scans::{key_at, of_number};
 use slab::Slab;
 use std::alloc::{AllocError, Global};
@@ -137,13 +138,14 @@ impl Slots {
         &self.requests[key.slot]
     }
 
-    /// Puts a request in the place of that of a key.
-    pub(crate) fn set(&mut self, key: Key, request: LiveRequest)
-        requires { IsSome (request_in key self.old) }
-        ensures entries { self.new ≡ change_first (has_key key) (change_entry (λ r. request)) self.old }
+    /// The request of a key takes a step, where it lies.
+    #[inline(always)]
+    pub(crate) fn take(&mut self, key: Key, step: Step)
+        requires { IsSomeAnd (request_in key self.old) (MayStep step) }
+        ensures entries { self.new ≡ change_first (has_key key) (change_entry (stepped step)) self.old }
         ensures keys { HaveOwnKeys self.new }
     {
-        self.requests[key.slot] = request;
+        self.requests[key.slot].take(step);
     }
 
     /// The place of a key in the order of acceptance; where it stands at `guess`, no other place is looked at.
