@@ -6,6 +6,7 @@ pub mod Ready
 pub mod Kept
 pub mod RowLaws
 pub mod Lowered
+pub mod LowerLater
 pub mod Index
 pub mod PhaseLaws
 pub mod StepWorth

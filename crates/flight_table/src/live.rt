@@ -9,7 +9,7 @@ ghost use Rattle.flight_table.specs.Progress.{MayStep, ends, stepped};
 ghost use Rattle.flight_table.specs.declared.live_request.Step.TheVariants.{Done};
 ghost use Rattle.flight_table.specs.Order.{free_id, holds_back, holds_id, may_send};
 ghost use Rattle.flight_table.specs.Tables.{change_entry, has_key, has_number, has_source, is_done_of, is_of, is_undone, key_in, request_in, requests_of};
-ghost use Rattle.flight_table.specs.Laws.{HaveOwnKeys};
+ghost use Rattle.flight_table.specs.Laws.{AreRising, HaveOwnKeys};
 ghost use Rattle.flight_table.specs.Work.{unsent_work, work_of};
 
 use crate::TableLimits;
@@ -173,6 +173,7 @@ impl Live {
     /// The request of a key is done from here on, holds back none, and holds no ID.
     pub(crate) fn finish(&mut self, key: Key)
         requires step { IsSomeAnd (request_in key self.old.entries) (MayStep Done) }
+        requires rising { AreRising (map (λ request. request.number) (requests_of self.old.entries)) }
         requires id { IsSomeAnd (request_in key self.old.entries) (λ old. IfSome old.id (HasOneHolder self.old.limits.ids (requests_of self.old.entries))) }
         ensures table { self.new ≡ with_entries (change_first (has_key key) (change_entry finished) self.old.entries) self.old }
         ensures keys { HaveOwnKeys self.new.entries }
@@ -182,7 +183,8 @@ impl Live {
         let client = request.client;
         let id = request.id;
         let worth = request.worth(Step::Done);
-        let row = self.rows.row(request.page(), self.slots.count());
+        let mut row = self.rows.row(request.page(), self.slots.count());
+        row.clear_to(place);
         lower(
             &self.spans,
             &request.span(),

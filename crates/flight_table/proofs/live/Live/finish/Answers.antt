@@ -1,5 +1,5 @@
 use Rattle.std.proofs.lemmas.Grind.{common_steps}
-use Rattle.std.proofs.Common.{List, get_or, map, set, true, length-set, ◌≡◌, ◌<◌, ◌≤◌, ap, arith, ◌∙◌, refl, sym}
+use Rattle.std.proofs.Common.{List, length, get_or, map, set, true, length-set, ◌≡◌, ◌<◌, ◌≤◌, ap, arith, ◌∙◌, refl, sym}
 use Rattle.std.proofs.lemmas.List.{get_or-map, map-set}
 use Rattle.std.specs.Prelude.{IfSome}
 use Rattle.std.specs.Vec.{vec_capacity}
@@ -10,9 +10,11 @@ use Rattle.flight_table.specs.Tables.{change_entry, has_key, requests_of}
 use Rattle.flight_table.specs.declared.live_request.Step.TheVariants.{Done}
 use Rattle.flight_table.proofs.Index.{change-constant}
 use Rattle.flight_table.proofs.ClientLaws.{is_kept, is_listed, kept_finished}
+use Rattle.flight_table.proofs.LowerLater.{later_alone}
+use Rattle.flight_table.proofs.MarkLaws.{length-marks, length_unmarked}
 use Rattle.flight_table.proofs.KeyLaws.{request_listed}
 use Rattle.flight_table.proofs.HeldIds.{gives_back, ids_finish, length_holders}
-use Rattle.flight_table.specs.Spans.{lowered_in, span_of}
+use Rattle.flight_table.specs.Spans.{span_of}
 use Rattle.flight_table.specs.Sums.{IsSmall}
 use Rattle.flight_table.specs.declared.spans.Span.{Span}
 use Rattle.bus_words.proofs.PlaceChanges.{all-set}
@@ -26,7 +28,12 @@ row-row-requires-clause-fits c = row_fits c.page.result c.count.result (requests
 
 pub lower-requires-clause-places : goal.lower-requires-clause-places
 lower-requires-clause-places c =
-    length_row (requests_of c.self.inside.slots) c.self.inside.rows c.row-row.result c.page.result c.count.result c.deref.result.now c.self.invariant.5 c.count.ensures.count c.row-row.ensures.row (c.deref.ensures.value ∙ c.self.invariant.6)
+    rw c.clear_to.ensures
+    (length_unmarked c.place_of-place.result c.row-row.result
+    ∙ length_row (requests_of c.self.inside.slots) c.self.inside.rows c.row-row.result c.page.result c.count.result c.deref.result.now c.self.invariant.5 c.count.ensures.count c.row-row.ensures.row (c.deref.ensures.value ∙ c.self.invariant.6))
+
+pub clear_to-requires : goal.clear_to-requires
+clear_to-requires c = omega (arith, ap length c.row-row.ensures.row ∙ length-marks c.count.result _, c.count.ensures.count, rw (← c.self.view_is) at c.place_of-place.ensures.within)
 
 pub rename-requires : goal.rename-requires
 rename-requires c =
@@ -68,7 +75,8 @@ invariant_of-self c =
     let after = ap requests_of c.take.ensures.entries ∙ requests_changed finished c.args.key i.slots place r at in
     let as_many = length_kept i.limits.depth (requests_of i.slots) i.able i.named i.holders.items i.unheld c.self.invariant.0 in
     let less =
-    ap (λ (s : Span). lowered_in c.row-row.result s c.deref.result.now i.holders.items) c.span.ensures
+    later_alone place c.row-row.result c.clear_to.new.self r (requests_of i.slots) c.span.result c.deref.result.now i.holders.items (rw (← c.self.view_is) at c.requires.rising) at.within (at.there r) c.clear_to.ensures c.span.ensures
+    (c.deref.ensures.value ∙ c.self.invariant.6)
     ∙ row_lowered r (requests_of i.slots) i.rows c.row-row.result i.holders.items c.page.result c.count.result c.deref.result.now c.self.invariant.5 c.page.ensures.range c.count.ensures.count as_many c.page.ensures.page c.row-row.ensures.row (c.deref.ensures.value ∙ c.self.invariant.6) in
     let room : 64 ≤ vec_capacity c.lower.new.holders = omega (arith, c.self.invariant.1, c.lower.ensures.capacity) in (
       rw (after, c.put.ensures, c.put-2.ensures, c.lower.ensures.unheld)
