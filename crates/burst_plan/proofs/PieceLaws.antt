@@ -66,12 +66,15 @@ min-pow i j =
       | inr above ↦ let least : min i j ≡ j = omega arith in rw least (omega (arith, pow_mono {i = j} {j = i} above))
     ]
 
--- the bytes of a burst are a power of two
-pub burst_power : (range : PlannedRange) → IsPlannable range → (e : ℕ) × (e ≤ range.size) × (burst_bytes range ≡ 2 ^ e)
-burst_power range plannable =
-    let (w, j, powers) = powers_of range plannable in
-    let cut : cut_bytes range ≡ 2 ^ (w + j) = ap (λ z. z * range.max_len) powers.bus ∙ ap (λ z. 2 ^ w * z) powers.max_len ∙ sym (pow-add 2 w j) in
-    (min range.size (w + j), omega arith, ap (λ z. min (2 ^ range.size) z) cut ∙ min-pow range.size (w + j))
+-- the bytes between cuts, of a burst and of a transfer, as powers of two
+cut_power : (range : PlannedRange) (w j : ℕ) → ArePowers range w j → cut_bytes range ≡ 2 ^ (w + j)
+cut_power range w j powers = ap (λ z. z * range.max_len) powers.bus ∙ ap (λ z. 2 ^ w * z) powers.max_len ∙ sym (pow-add 2 w j)
+
+burst_power : (range : PlannedRange) (w j : ℕ) → ArePowers range w j → burst_bytes range ≡ 2 ^ min range.size (w + j)
+burst_power range w j powers = ap (λ z. min (2 ^ range.size) z) (cut_power range w j powers) ∙ min-pow range.size (w + j)
+
+beat_power : (range : PlannedRange) (w j : ℕ) → ArePowers range w j → beat_bytes range ≡ 2 ^ min range.size w
+beat_power range w j powers = ap (λ z. 2 ^ min range.size z) powers.widest
 
 -- ---- how a range is divided
 
@@ -120,14 +123,41 @@ even_powers a s w j bus cut burst beat aligned bus_is cut_is burst_is beat_is fe
 
 divides_evenly_with : (range : PlannedRange) (w j : ℕ) → IsPlannable range → ArePowers range w j → DividesEvenly range
 divides_evenly_with range w j plannable powers =
-    let cut : cut_bytes range ≡ 2 ^ (w + j) = ap (λ z. z * range.max_len) powers.bus ∙ ap (λ z. 2 ^ w * z) powers.max_len ∙ sym (pow-add 2 w j) in
-    let burst : burst_bytes range ≡ 2 ^ min range.size (w + j) = ap (λ z. min (2 ^ range.size) z) cut ∙ min-pow range.size (w + j) in
-    let beat : beat_bytes range ≡ 2 ^ min range.size w = ap (λ z. 2 ^ min range.size z) powers.widest in
-    let parts = even_powers range.address range.size w j range.bus_bytes (cut_bytes range) (burst_bytes range) (beat_bytes range) plannable.aligned powers.bus cut burst beat powers.few in
+    let parts = even_powers range.address range.size w j range.bus_bytes (cut_bytes range) (burst_bytes range) (beat_bytes range) plannable.aligned powers.bus (cut_power range w j powers) (burst_power range w j powers) (beat_power range w j powers) powers.few in
     record { parts = parts.0; beats = parts.1; some_beats = parts.2; few_beats = parts.3; beat = parts.4; fits_bus = parts.5; wide = parts.6; aligned = parts.7 }
 
 pub divides_evenly : (range : PlannedRange) → IsPlannable range → DividesEvenly range
 divides_evenly range plannable = let (w, j, powers) = powers_of range plannable in divides_evenly_with range w j plannable powers
+
+-- of a range's transfers, those of a burst, which are 2^e, and the bursts
+pub record AreCounted (range : PlannedRange) (transfers each e : ℕ) : Type 0 where
+  pub power : each ≡ 2 ^ e
+  pub small : e ≤ 8
+  pub beats : each ≡ burst_beats range
+  pub bursts : transfers / 2 ^ e ≡ burst_count range
+
+counted_with : (range : PlannedRange) (w j size transfers each : ℕ) → ArePowers range w j → size ≡ beat_size range → transfers ≡ 2 ^ (range.size - size) → each ≡ min transfers range.max_len
+    → AreCounted range transfers each (min (range.size - min range.size w) j)
+counted_with range w j size transfers each powers size_is transfers_are each_is =
+    let s = range.size in
+    let beat : size ≡ min s w = size_is ∙ ap (min s) powers.widest in
+    let all : transfers ≡ 2 ^ (s - min s w) = transfers_are ∙ ap (λ z. 2 ^ (s - z)) beat in
+    let power : each ≡ 2 ^ min (s - min s w) j = each_is ∙ ap (min transfers) powers.max_len ∙ ap (λ z. min z (2 ^ j)) all ∙ min-pow (s - min s w) j in
+    let parts : min s (w + j) - min s w ≡ min (s - min s w) j = omega arith in
+    let rest : s - min s w - min (s - min s w) j ≡ s - min s (w + j) = omega arith in
+    record {
+      power = power;
+      small = omega (arith, powers.few);
+      beats = power ∙ sym (rw (burst_power range w j powers, beat_power range w j powers, div-pow (min s (w + j)) (min s w) (omega arith), parts) refl);
+      bursts = rw (all, burst_power range w j powers, div-pow (s - min s w) (min (s - min s w) j) (omega arith), div-pow s (min s (w + j)) (omega arith), rest) refl;
+    }
+
+-- a burst has the lesser of the range's transfers and the most that it may have
+pub counted : (range : PlannedRange) (size transfers each : ℕ) → IsPlannable range → size ≡ beat_size range → transfers ≡ 2 ^ (range.size - size) → each ≡ min transfers range.max_len
+    → (e : ℕ) × AreCounted range transfers each e
+counted range size transfers each plannable size_is transfers_are each_is =
+    let (w, j, powers) = powers_of range plannable in
+    (min (range.size - min range.size w) j, counted_with range w j size transfers each powers size_is transfers_are each_is)
 
 -- ---- the pieces, one by one
 

@@ -1,43 +1,59 @@
 -- What the code of a plan computes.
-use Rattle.std.proofs.Common.{◌≡◌, ℕ, zero, suc, ◌+◌, ◌-◌, ◌*◌, ◌/◌, ◌%◌, ◌^◌, ◌<◌, ◌≤◌, List, map, length, Some, sym, ◌∙◌, ap, arith, refl, w32, inl, inr}
+use Rattle.std.proofs.Common.{◌≡◌, ℕ, zero, suc, ◌+◌, ◌-◌, ◌*◌, ◌/◌, ◌%◌, ◌^◌, ◌<◌, ◌≤◌, List, map, length, Some, sym, ◌∙◌, ap, arith, refl, min, w16, inl, inr}
 use Rattle.std.specs.List.{slice_get, range_with_len, sum_by}
-use Rattle.std.proofs.Math.Pow.{pow-lt}
+use Rattle.std.proofs.Math.Pow.{pow-lt, pow_mono}
 use Rattle.std.proofs.lemmas.Bool.{cases_eq}
 use Rattle.std.proofs.lemmas.Nat.{one_shl, div-mul-add, pow_pos}
 use Rattle.std.proofs.lemmas.Nat.Bits.{bit_at-pow_other, bit_at-trailing_zeros}
 use Rattle.std.specs.Int.{trailing_zeros}
 use Rattle.burst_plan.specs.Pieces.{PlannedRange, IsPlannable, beat_size, pieces}
-use Rattle.burst_plan.specs.PlannedTransfers.{beat_bytes, burst_beats, burst_bytes}
+use Rattle.burst_plan.specs.PlannedTransfers.{IsReckoned, beat_bytes, burst_beats, burst_bytes}
 use Rattle.burst_plan.specs.declared.Piece.{Piece}
 use Rattle.std.proofs.lemmas.List.Sums.{sum_by-cons}
-use Rattle.burst_plan.proofs.PieceLaws.{burst_count, divides_evenly, length-pieces, piece_at, piece_within, pieces_are, range_in_page, slice_get-pieces}
+use Rattle.burst_plan.proofs.PieceLaws.{burst_count, counted, divides_evenly, length-pieces, piece_at, piece_within, pieces_are, range_in_page, slice_get-pieces}
 
 -- the place of the one bit of a power of two
-pub trailing_zeros-pow : (e : ℕ) → e < 32 → trailing_zeros w32 (2 ^ e) ≡ e
+trailing_zeros-pow : (e : ℕ) → e < 16 → trailing_zeros w16 (2 ^ e) ≡ e
 trailing_zeros-pow e below =
-    let zeros = bit_at-trailing_zeros w32 (2 ^ e) (pow_pos e) (pow-lt below) in
-    elim (cases_eq (trailing_zeros w32 (2 ^ e)) e) [
+    let zeros = bit_at-trailing_zeros w16 (2 ^ e) (pow_pos e) (pow-lt below) in
+    elim (cases_eq (trailing_zeros w16 (2 ^ e)) e) [
       | inl same ↦ same
-      | inr other ↦ absurd (omega (arith, zeros.1, bit_at-pow_other e (trailing_zeros w32 (2 ^ e)) other))
+      | inr other ↦ absurd (omega (arith, zeros.1, bit_at-pow_other e (trailing_zeros w16 (2 ^ e)) other))
     ]
-
--- how many bursts the code counts
-pub bursts_counted : (range : PlannedRange) (bytes : ℕ) → IsPlannable range → bytes ≡ burst_bytes range → 1 * 2 ^ range.size % 2 ^ 32 / bytes ≡ length (pieces range)
-bursts_counted range bytes plannable is =
-    let whole : 1 * 2 ^ range.size % 2 ^ 32 ≡ 2 ^ range.size = one_shl range.size 32 (omega (arith, plannable.size)) in
-    rw (whole, is, length-pieces range (divides_evenly range plannable)) refl
 
 -- there is one
 pub some_bursts : (range : PlannedRange) → IsPlannable range → 1 ≤ length (pieces range)
 some_bursts range plannable = let even = divides_evenly range plannable in rw (length-pieces range even) even.parts.parts
 
+-- what the code keeps of a range: from its transfers, and those of a burst
+pub reckoned : (range : PlannedRange) (size transfers each : ℕ) → IsPlannable range → size ≡ beat_size range → transfers ≡ 2 ^ (range.size - size) → each ≡ min transfers range.max_len
+    → IsReckoned range (transfers / 2 ^ trailing_zeros w16 each) (each - 1) size
+reckoned range size transfers each plannable size_is transfers_are each_is =
+    let (e, are) = counted range size transfers each plannable size_is transfers_are each_is in
+    let place : trailing_zeros w16 each ≡ e = ap (trailing_zeros w16) are.power ∙ trailing_zeros-pow e (omega (arith, are.small)) in
+    record {
+      plannable = plannable;
+      bursts = ap (λ z. transfers / 2 ^ z) place ∙ are.bursts ∙ sym (length-pieces range (divides_evenly range plannable));
+      transfers = ap (λ z. z - 1) are.beats;
+      width = size_is;
+    }
+
+-- the bytes of a burst as the code reckons them
+pub bytes_made : (range : PlannedRange) (count len size more : ℕ) → IsReckoned range count len size → more ≡ len → (more + 1) * 2 ^ size % 2 ^ 32 ≡ burst_bytes range
+bytes_made range count len size more is same =
+    let even = divides_evenly range is.plannable in
+    let each : more + 1 ≡ burst_beats range = omega (arith, same, is.transfers, even.some_beats) in
+    let bytes : (more + 1) * 2 ^ size ≡ burst_bytes range = ap (λ z. z * 2 ^ size) each ∙ ap (λ z. burst_beats range * 2 ^ z) is.width ∙ sym even.beats in
+    let few : 2 ^ range.size ≤ 2 ^ 12 = pow_mono {i = range.size} {j = 12} is.plannable.size in
+    rw bytes (omega (arith, few))
+
 -- burst k as the code makes it
-pub burst_made : (range : PlannedRange) (bytes size k : ℕ) → IsPlannable range → bytes ≡ burst_bytes range → size ≡ beat_size range → k < length (pieces range)
-    → slice_get (pieces range) k ≡ Some (record { address = range.address + k * bytes; len = bytes / 2 ^ size - 1; size = size })
-burst_made range bytes size k plannable bytes_is size_is below =
-    let even = divides_evenly range plannable in
+pub burst_made : (range : PlannedRange) (count len size bytes k : ℕ) → IsReckoned range count len size → bytes ≡ burst_bytes range → k < length (pieces range)
+    → slice_get (pieces range) k ≡ Some (record { address = range.address + k * bytes; len = len; size = size })
+burst_made range count len size bytes k is bytes_is below =
+    let even = divides_evenly range is.plannable in
     let within : k < burst_count range = omega (arith, length-pieces range even) in
-    rw (bytes_is, size_is) (slice_get-pieces range even k within)
+    rw (bytes_is, is.transfers, is.width) (slice_get-pieces range even k within)
 
 -- its address has 32 bits
 pub burst_fits : (range : PlannedRange) (bytes k : ℕ) → IsPlannable range → range.address < 2 ^ 32 → bytes ≡ burst_bytes range → k < length (pieces range) → range.address + k * bytes < 2 ^ 32
@@ -48,10 +64,6 @@ burst_fits range bytes k plannable small bytes_is below =
     let inside = piece_within range even k within in
     let some = even.parts.some in
     rw bytes_is (omega arith)
-
--- it has a transfer
-pub some_transfers : (range : PlannedRange) (bytes size : ℕ) → IsPlannable range → bytes ≡ burst_bytes range → size ≡ beat_size range → 1 ≤ bytes / 2 ^ size
-some_transfers range bytes size plannable bytes_is size_is = rw (bytes_is, size_is) ((divides_evenly range plannable).some_beats)
 
 sum_alike : (f : ℕ → Piece) (m a n : ℕ) → ((k : ℕ) → (f k).len + 1 ≡ m) → sum_by (λ (piece : Piece). piece.len + 1) (map f (range_with_len a n)) ≡ n * m
 sum_alike f m a zero each = let none : 0 * m ≡ 0 = omega arith in rw none refl

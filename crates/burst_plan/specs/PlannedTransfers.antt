@@ -1,7 +1,7 @@
 -- Which transfer of a plan holds the byte at an address.
-use Rattle.std.specs.Prelude.{ℕ, ◌+◌, ◌-◌, ◌*◌, ◌/◌, ◌%◌, ◌≡◌, ◌<◌, ◌≤◌, ◌^◌, true, min, Some, slice_get}
+use Rattle.std.specs.Prelude.{ℕ, ◌+◌, ◌-◌, ◌*◌, ◌/◌, ◌%◌, ◌≡◌, ◌<◌, ◌≤◌, ◌^◌, true, min, Some, length, slice_get}
 use Rattle.axi_beats.specs.Transfers.{covers_lane, lane_address, transfer_bytes, transfer_has}
-use Rattle.burst_plan.specs.Pieces.{PlannedRange, beat_size, cut_bytes, pieces, range_end}
+use Rattle.burst_plan.specs.Pieces.{PlannedRange, IsPlannable, beat_size, cut_bytes, pieces, range_end}
 use Rattle.burst_plan.specs.declared.Piece.{Piece}
 
 -- the bytes of a transfer
@@ -15,6 +15,13 @@ burst_bytes range = min (2 ^ range.size) (cut_bytes range)
 -- the transfers of a burst
 abbrev pub burst_beats : PlannedRange → ℕ
 burst_beats range = burst_bytes range / beat_bytes range
+
+-- what is kept of a range that has a plan: how many bursts there are, the transfers of each, less one, and the size of a transfer
+pub record IsReckoned (range : PlannedRange) (count len size : ℕ) : Type 0 where
+  pub plannable : IsPlannable range
+  pub bursts : count ≡ length (pieces range)
+  pub transfers : len ≡ burst_beats range - 1
+  pub width : size ≡ beat_size range
 
 -- the transfer that holds the byte at an address, counted from 0 through all bursts
 abbrev pub beat_of : PlannedRange → ℕ → ℕ

@@ -1,15 +1,16 @@
 -- The requests of an index under changes of the slab.
-use Rattle.std.proofs.Common.{◌<◌, ◌∙◌, is_some, true, Bool, count_by, OnSome, zero, ◌≡◌, ◌≢◌, ℕ, suc, ◌+◌, ◌==◌, List, [], ◌∷◌, ◌++◌, map, length, Option, Some, None, refl, ap, sym, arith, length-append, get_or, set, IsSome, inl, inr}
+use Rattle.std.proofs.Common.{◌∙◌, is_some, true, Bool, count_by, OnSome, zero, ◌≡◌, ◌≢◌, ℕ, suc, ◌+◌, ◌==◌, List, [], ◌∷◌, ◌++◌, map, length, Option, Some, None, refl, ap, sym, arith, length-append, get_or, set, unwrap_or, IsSome, inl, inr}
 use Rattle.std.specs.List.{AllByRecursion, find, position}
 use Rattle.bus_words.proofs.FirstPlaces.{find-none}
 use Rattle.std.proofs.lemmas.Bool.{cases_eq, eq-eqb, ne_eqb}
 use Rattle.std.proofs.lemmas.Grind.{common_steps}
+use Rattle.std.proofs.lemmas.Option.{same_Some}
 use Rattle.bus_words.specs.Places.{AreDistinct, change_first, without_first}
 use Rattle.bus_words.proofs.DistinctPlaces.{distinct-append, distinct-without_first}
 use Rattle.bus_words.proofs.PlaceChanges.{all-append, all-without_first}
 use Rattle.slab.proofs.SlabLemmas.{Updates-with_value}
 use Rattle.slab.specs.Slab.{Slab, with_value, get, ContainsKey, slab_len, Updates}
-use Rattle.flight_table.specs.Inside.{IsIndex, entries_in, entry_in, stored}
+use Rattle.flight_table.specs.Inside.{IsIndex, entries_in, entry_in, no_request, stored}
 use Rattle.flight_table.specs.LiveRequests.{LiveRequest}
 use Rattle.flight_table.specs.Tables.{KeyedRequest, change_entry, has_key, request_in, requests_of, key_in}
 use Rattle.bus_words.proofs.MappedPlaces.{position_map}
@@ -74,6 +75,10 @@ pub stored-request : (s : Slab LiveRequest) (key : ℕ) (ks : List ℕ) → IsSo
 stored-request s key [] some = absurd (grind (arith, some))
 stored-request s key (k ∷ ks) some = grind (arith, nat_tests, stored-request s key ks)
 
+-- it is what the slab has
+pub request_held : (s : Slab LiveRequest) (key : ℕ) (ks : List ℕ) (r : LiveRequest) → IsSome (request_in key (entries_in s ks)) → get s key ≡ Some r → request_in key (entries_in s ks) ≡ Some r
+request_held s key ks r some held = stored-request s key ks some ∙ ap (λ o. Some (unwrap_or o no_request)) held
+
 pub key-there : (s : Slab LiveRequest) (key : ℕ) (ks : List ℕ) → AllByRecursion (ContainsKey s) ks → IsSome (request_in key (entries_in s ks)) → ContainsKey s key
 key-there s key [] there some = absurd (grind (arith, some))
 key-there s key (k ∷ ks) there some = grind (arith, nat_tests, there.0, key-there s key ks there.1)
@@ -112,6 +117,16 @@ pub change-constant : (change : LiveRequest → LiveRequest) (key : ℕ) (entrie
     → change_first (has_key key) (change_entry (λ o. request)) entries ≡ change_first (has_key key) (change_entry change) entries
 change-constant change key [] r request found is = refl
 change-constant change key (entry ∷ entries) r request found is = grind (arith, is, λ (later : request_in key entries ≡ Some r). change-constant change key entries r request later is)
+
+-- the request of a key after a change of it
+pub request_changed : (change : LiveRequest → LiveRequest) (key : ℕ) (entries : List KeyedRequest) (r : LiveRequest) → request_in key entries ≡ Some r
+    → request_in key (change_first (has_key key) (change_entry change) entries) ≡ Some (change r)
+request_changed change key [] r found = absurd (cc (found))
+request_changed change key (entry ∷ entries) r found = grind (arith, λ (later : request_in key entries ≡ Some r). request_changed change key entries r later)
+
+pub request_taken : (change : LiveRequest → LiveRequest) (key : ℕ) (entries after : List KeyedRequest) (r now : LiveRequest) → request_in key entries ≡ Some r
+    → after ≡ change_first (has_key key) (change_entry change) entries → request_in key after ≡ Some now → now ≡ change r
+request_taken change key entries after r now found made is = same_Some now (change r) (sym is ∙ ap (request_in key) made ∙ request_changed change key entries r found)
 
 -- ---- a request less
 
@@ -169,12 +184,6 @@ key_placed s key ks some = placed (position (λ k. k == key) ks) refl
 pub length_requests : (s : Slab LiveRequest) (ks : List ℕ) → length (requests_of (entries_in s ks)) ≡ length ks
 length_requests s [] = refl
 length_requests s (k ∷ ks) = ap suc (length_requests s ks)
-
--- the request of the key at a place
-pub request_placed : (s : Slab LiveRequest) (ks : List ℕ) (place key : ℕ) (d : LiveRequest) → place < length ks → key ≡ get_or ks place key → stored s key ≡ get_or (requests_of (entries_in s ks)) place d
-request_placed s [] place key d within is = absurd (omega (arith, within))
-request_placed s (k ∷ ks) zero key d within is = ap (stored s) is
-request_placed s (k ∷ ks) (suc place) key d within is = request_placed s ks place key d (omega (arith, within)) is
 
 -- the place of a key, and that of a request that passes a test
 pub place_keyed : (s : Slab LiveRequest) (key : ℕ) (ks : List ℕ) → position (has_key key) (entries_in s ks) ≡ position (λ k. k == key) ks

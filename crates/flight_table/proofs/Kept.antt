@@ -1,6 +1,6 @@
 -- What is kept by place stays what it says, through each change of the live requests.
 use Rattle.std.proofs.Common.{◌≡◌, ℕ, zero, suc, ◌+◌, ◌==◌, ◌<◌, ◌≤◌, Bool, true, false, List, [], ◌∷◌, ◌++◌, map, length, get_or, set, Option, Some, None, refl, ap, ap₂, sym, ◌∙◌, arith}
-use Rattle.std.specs.Prelude.{IfSome, IsSomeAnd, if◌then◌else◌, option_map}
+use Rattle.std.specs.Prelude.{IfSome, IsSome, IsSomeAnd, if◌then◌else◌, option_map}
 use Rattle.std.specs.List.{AllByRecursion, filter, find, position, remove}
 use Rattle.std.proofs.lemmas.List.{get_or-map, map-set, map_push, set-get_or}
 use Rattle.bus_words.specs.Places.{change_first, without_first}
@@ -198,6 +198,9 @@ named_request key entries P holds = by_request (request_in key entries) refl hol
     by_request : (o : Option LiveRequest) → request_in key entries ≡ o → IsSomeAnd o P → IsNamed key entries P
     by_request None is holds = absurd holds
     by_request (Some request) is holds = record { request = request; named = is; holds = holds }
+
+pub some_named : (key : ℕ) (entries : List KeyedRequest) (P : LiveRequest → Type 0) → IsSomeAnd (request_in key entries) P → IsSome (request_in key entries)
+some_named key entries P holds = rw (named_request key entries P holds).named refl
 
 -- the count of the request of a key
 pub counted : (depth : ℕ) (key : ℕ) (entries : List KeyedRequest) (able named : List Bool) (counts : List ℕ) (unheld : List Bool) (place count : ℕ) → IsKept depth (requests_of entries) able named counts unheld → position (has_key key) entries ≡ Some place

@@ -6,8 +6,10 @@ pub mod Ready
 pub mod Kept
 pub mod RowLaws
 pub mod Lowered
+pub mod LowerLater
 pub mod Index
 pub mod PhaseLaws
+pub mod StepWorth
 pub mod KeyLaws
 pub mod TableChanges
 pub mod Steps

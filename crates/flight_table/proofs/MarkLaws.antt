@@ -13,7 +13,7 @@ use mir.Val.{bool_byte}
 use Rattle.std.proofs.lemmas.Nat.{and-not, and_comm, and_mask, or_comm, or_shifted, pow_pos, shl_whole}
 use lib.Bits.{bit_and, bit_or, and_self, and_step, and_zero_l, and_zero_r}
 use Rattle.bus_words.proofs.FirstPlaces.{position_is_first}
-use Rattle.flight_table.specs.Marks.{both, marks_of, number_of, without_bit}
+use Rattle.flight_table.specs.Marks.{both, marks_of, number_of, unmarked_to, without_bit}
 use Rattle.std.proofs.lemmas.Bool.Decides.{nat_tests}
 
 abbrev bit : Bool → ℕ
@@ -75,6 +75,18 @@ put_is [] place mark within = absurd (omega (arith, within))
 put_is (m ∷ marks) zero mark within = omega arith
 put_is (m ∷ marks) (suc place) mark within = grind (arith, two-pow-succ place, put_is marks place mark (omega (arith, within)))
 
+-- ---- none up to a place
+
+pub length_unmarked : (place : ℕ) (marks : List Bool) → length (unmarked_to place marks) ≡ length marks
+length_unmarked place [] = refl
+length_unmarked zero (m ∷ marks) = refl
+length_unmarked (suc place) (m ∷ marks) = ap suc (length_unmarked place marks)
+
+unmarked_is : (marks : List Bool) (place : ℕ) → place < length marks → number_of marks / 2 ^ place / 2 * 2 * 2 ^ place ≡ number_of (unmarked_to place marks)
+unmarked_is [] place within = absurd (omega (arith, within))
+unmarked_is (m ∷ marks) zero within = rw (div-one (number_of (m ∷ marks))) (omega (arith, (lowest m (number_of marks)).1))
+unmarked_is (m ∷ marks) (suc place) within = rw (next_half m (number_of marks) place, two-pow-succ place) (omega (arith, unmarked_is marks place (omega (arith, within))))
+
 -- ---- two lists at once
 
 least : (a b : Bool) → min (bit a) (bit b) ≡ bit (a && b)
@@ -103,6 +115,10 @@ pushed_bits marks mark value room is =
 
 pub bits_fit : (marks : List Bool) → length marks ≤ 64 → number_of marks < 18446744073709551616
 bits_fit marks few = omega (arith, below marks, pow_mono {i = length marks} {j = 64} few)
+
+-- the number after the marks up to a place went
+pub unmarked_bits : (marks : List Bool) (place : ℕ) → place < length marks → length marks ≤ 64 → number_of marks / 2 ^ place / 2 * 2 * 2 ^ place % 18446744073709551616 ≡ number_of (unmarked_to place marks)
+unmarked_bits marks place within few = rw (unmarked_is marks place within) (omega (arith, bits_fit (unmarked_to place marks) (omega (arith, few, length_unmarked place marks))))
 
 -- the number after another mark at its place
 bit_at_place : (marks : List Bool) (place : ℕ) → number_of marks / 2 ^ place % 2 ≡ bit (get_or marks place false)

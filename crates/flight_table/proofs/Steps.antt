@@ -8,14 +8,14 @@ use Rattle.std.proofs.lemmas.Bool.{eqb-true, leb-true}
 use Rattle.bus_words.proofs.PlaceChanges.{find-passes}
 use Rattle.bus_words.specs.Places.{change_first}
 use Rattle.tl_messages.specs.Operations.{has_data, reply_has_data}
-use Rattle.flight_table.specs.Inside.{HasOneHolder, IsProgress, MayName}
+use Rattle.flight_table.specs.Inside.{HasOneHolder, MayName}
 use Rattle.flight_table.specs.Laws.{HaveOwnKeys, IsSound, IsSoundRequest, IsSoundTable}
 use Rattle.flight_table.specs.LiveRequests.{LiveRequest, all_sent, awaits_write, finished, is_settled, planned, with_answered, with_sent, with_write}
+use Rattle.flight_table.specs.Progress.{HasAnswers}
 use Rattle.flight_table.specs.Order.{free_id, holds_back, holds_id, id_for, is_free, is_held, is_id, is_ready}
 use Rattle.flight_table.specs.Tables.{FlightTable, KeyedRequest, KeyedTable, change_entry, change_key, change_number, has_key, has_number, key_in, request_at, request_in, requests_of, table_of}
 use Rattle.flight_table.specs.declared.TableLimits.{TableLimits}
 use Rattle.flight_table.proofs.PhaseLaws.{length_reading}
-use Rattle.flight_table.proofs.Index.{change-constant}
 use Rattle.flight_table.proofs.KeyLaws.{by_number, found_by_number, request_listed}
 use Rattle.flight_table.proofs.TableChanges.{IsStep, sound-put}
 use Rattle.std.proofs.lemmas.Bool.Decides.{nat_tests}
@@ -107,6 +107,10 @@ pub record AwaitsWrite (r : LiveRequest) : Type 0 where
 pub awaits_parts : (r : LiveRequest) → awaits_write r ≡ true → AwaitsWrite r
 awaits_parts r awaits = record { carries = grind (arith, awaits); undone = grind (arith, awaits); reads = grind (arith, awaits); settled = grind (arith, awaits) }
 
+-- all bursts of a settled request are answered
+pub has_answers : (limits : TableLimits) (accepted : ℕ) (r : LiveRequest) → IsSoundRequest limits accepted r → is_settled r ≡ true → HasAnswers r
+has_answers limits accepted r sound settled = record { all = leb-true (length (planned r)) r.answered settled; sent = sound.answered }
+
 -- it has sent what it sent before
 pub sent_before : (r : LiveRequest) → AwaitsWrite r → r.answered ≤ r.sent → r.sent ≤ length (planned r) → all_sent (with_write r) ≡ all_sent r
 sent_before r awaits later most =
@@ -171,12 +175,12 @@ number_put change r (x ∷ live) found = grind (arith, number_put change r live)
 abbrev pub with_live : KeyedTable → List LiveRequest → FlightTable
 with_live old live = record { limits = old.limits; accepted = old.accepted; live = live }
 
-changed : (old : KeyedTable) (key : ℕ) (change : LiveRequest → LiveRequest) (r request : LiveRequest) (entries : List KeyedRequest) → IsSound old → request_at key old ≡ Some r → request ≡ change r
-    → entries ≡ change_first (has_key key) (change_entry (λ o. request)) old.entries → HaveOwnKeys entries → IsStep old.limits old.accepted (requests_of old.entries) r (change r)
+changed : (old : KeyedTable) (key : ℕ) (change : LiveRequest → LiveRequest) (r : LiveRequest) (entries : List KeyedRequest) → IsSound old → request_at key old ≡ Some r
+    → entries ≡ change_first (has_key key) (change_entry change) old.entries → HaveOwnKeys entries → IsStep old.limits old.accepted (requests_of old.entries) r (change r)
     → IsChanged old (record old { entries = entries }) key change
-changed old key change r request entries sound found is made own step =
+changed old key change r entries sound found made own step =
     record {
-      state = ap (λ (es : List KeyedRequest). record old { entries = es }) same;
+      state = ap (λ (es : List KeyedRequest). record old { entries = es }) made;
       table = rw found numbered;
       laws = record {
         limits = sound.limits;
@@ -185,24 +189,21 @@ changed old key change r request entries sound found is made own step =
       };
     }
   where
-    same : entries ≡ change_first (has_key key) (change_entry change) old.entries
-    same = made ∙ change-constant change key old.entries r request found is
-
     by_its_number : find (has_number r.number) (requests_of old.entries) ≡ Some r
     by_its_number = found_by_number key old.entries r sound.table.rising found
 
     numbered : table_of (record old { entries = entries }) ≡ change_number r.number change (table_of old)
     numbered =
-        ap (λ (live : List LiveRequest). with_live old live) (ap requests_of same ∙ by_number change key old.entries r sound.table.rising found)
+        ap (λ (live : List LiveRequest). with_live old live) (ap requests_of made ∙ by_number change key old.entries r sound.table.rising found)
 
     put : change_number r.number change (table_of old) ≡ change_number r.number (λ o. change r) (table_of old)
     put = ap (λ (live : List LiveRequest). with_live old live) (number_put change r (requests_of old.entries) by_its_number)
 
-pub change_is : (old now : KeyedTable) (key : ℕ) (change : LiveRequest → LiveRequest) (r request : LiveRequest) (entries : List KeyedRequest) → old ≡ now → IsSound old → request_at key old ≡ Some r → request ≡ change r
-    → entries ≡ change_first (has_key key) (change_entry (λ o. request)) old.entries → HaveOwnKeys entries → IsStep old.limits old.accepted (requests_of old.entries) r (change r)
+pub change_is : (old now : KeyedTable) (key : ℕ) (change : LiveRequest → LiveRequest) (r : LiveRequest) (entries : List KeyedRequest) → old ≡ now → IsSound old → request_at key old ≡ Some r
+    → entries ≡ change_first (has_key key) (change_entry change) old.entries → HaveOwnKeys entries → IsStep old.limits old.accepted (requests_of old.entries) r (change r)
     → IsChanged now (record old { entries = entries }) key change
-change_is old now key change r request entries same sound found is made own step =
-    subst (λ t. IsChanged t (record old { entries = entries }) key change) same (changed old key change r request entries sound found is made own step)
+change_is old now key change r entries same sound found made own step =
+    subst (λ t. IsChanged t (record old { entries = entries }) key change) same (changed old key change r entries sound found made own step)
 
 -- ---- a burst is sent
 
@@ -215,11 +216,6 @@ seen P old now key r same found holds = subst (λ t. IfSome (request_at key t) (
 
 -- ---- what the calls below ask
 
--- a request that only sent or answered
-pub progresses : (change : LiveRequest → LiveRequest) (key : ℕ) (entries : List KeyedRequest) (r new : LiveRequest) → IsProgress r (change r) → request_in key entries ≡ Some r → new ≡ change r
-    → IsSomeAnd (request_in key entries) (λ old. IsProgress old new)
-progresses change key entries r new progress found same = rw (found, same) progress
-
 -- it keeps its ID
 same_name : (ids : ℕ) (live : List LiveRequest) (old now : Option ℕ) → now ≡ old → MayName ids live old now
 same_name ids live None None same = tt
@@ -227,8 +223,9 @@ same_name ids live None (Some id) same = absurd (cc (same))
 same_name ids live (Some held) None same = absurd (cc (same))
 same_name ids live (Some held) (Some id) same = sym (same_Some id held same)
 
-pub keeps_name : (ids : ℕ) (live : List LiveRequest) (key : ℕ) (entries : List KeyedRequest) (r new : LiveRequest) → request_in key entries ≡ Some r → new.id ≡ r.id → IsSomeAnd (request_in key entries) (λ old. MayName ids live old.id new.id)
-keeps_name ids live key entries r new found same = rw found (same_name ids live r.id new.id same)
+pub keeps_name : (ids : ℕ) (live : List LiveRequest) (key : ℕ) (entries : List KeyedRequest) (change : LiveRequest → LiveRequest) (r : LiveRequest) → request_in key entries ≡ Some r → (change r).id ≡ r.id
+    → IsSomeAnd (request_in key entries) (λ old. MayName ids live old.id (change old).id)
+keeps_name ids live key entries change r found same = rw found (same_name ids live r.id (change r).id same)
 
 -- or takes the one that it was told
 takes_name : (limits : TableLimits) (live : List LiveRequest) (old : Option ℕ) (id : ℕ) → option_or old (free_id limits.ids live) ≡ Some id → MayName limits.ids live old (Some id)
@@ -238,9 +235,9 @@ takes_name limits live None id is = (
 )
 takes_name limits live (Some held) id is = cc
 
-pub sent_name : (limits : TableLimits) (live : List LiveRequest) (key : ℕ) (entries : List KeyedRequest) (r new : LiveRequest) (id : ℕ) → request_in key entries ≡ Some r → new ≡ with_sent id r → id_for limits live r ≡ Some id
-    → IsSomeAnd (request_in key entries) (λ old. MayName limits.ids live old.id new.id)
-sent_name limits live key entries r new id found made is = rw (found, made) (takes_name limits live r.id id is)
+pub sent_name : (limits : TableLimits) (live : List LiveRequest) (key : ℕ) (entries : List KeyedRequest) (r : LiveRequest) (id : ℕ) → request_in key entries ≡ Some r → id_for limits live r ≡ Some id
+    → IsSomeAnd (request_in key entries) (λ old. MayName limits.ids live old.id (Some id))
+sent_name limits live key entries r id found is = rw found (takes_name limits live r.id id is)
 
 -- the ID of a request that will be done is its own
 pub gives_name : (keyed : KeyedTable) (key : ℕ) (r : LiveRequest) → IsSound keyed → request_at key keyed ≡ Some r → IsSomeAnd (request_at key keyed) (λ old. IfSome old.id (HasOneHolder keyed.limits.ids (requests_of keyed.entries)))

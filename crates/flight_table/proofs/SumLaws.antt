@@ -1,12 +1,14 @@
 -- The sums over the live requests, through each change of them.
-use Rattle.std.proofs.Common.{◌≡◌, ℕ, ◌+◌, ◌*◌, ◌<◌, ◌≤◌, List, [], ◌∷◌, ◌++◌, length, get_or, set, refl, ap, sym, suc-mul, arith}
+use Rattle.std.proofs.Common.{◌≡◌, ℕ, ◌+◌, ◌*◌, ◌<◌, ◌≤◌, List, [], ◌∷◌, ◌++◌, length, get_or, set, true, refl, ap, sym, suc-mul, arith}
 use Rattle.std.specs.List.{AllByRecursion, filter, remove, sum_by}
 use Rattle.std.proofs.lemmas.List.Sums.{sum_by-cons, sum_by-remove, sum_by-set, sum_by_push}
 use Rattle.bus_words.proofs.PlaceChanges.{all-map}
 use Rattle.flight_table.specs.LiveRequests.{LiveRequest}
-use Rattle.flight_table.specs.Sums.{ArePart, AreSmall, IsSmall, one_undone, sums_of, with_sums}
+use Rattle.flight_table.specs.Progress.{IsWorth, stepped}
+use Rattle.flight_table.specs.Sums.{ArePart, AreSmall, IsSmall, one_undone, plus_sums, sums_of, with_sums}
 use Rattle.flight_table.specs.Tables.{is_undone}
 use Rattle.flight_table.specs.Work.{unsent_work, work_of}
+use Rattle.flight_table.specs.declared.live_request.Step.{Step}
 use Rattle.flight_table.specs.declared.sums.Sums.{Sums}
 
 pub same_sums : (a b : Sums) → a.undone ≡ b.undone → a.work ≡ b.work → a.unsent ≡ b.unsent → a ≡ b
@@ -16,39 +18,32 @@ pub sums_pushed : (live : List LiveRequest) (r : LiveRequest) → with_sums r (s
 sums_pushed live r =
     same_sums (with_sums r (sums_of live)) (sums_of (live ++ r ∷ [])) (sym (sum_by_push one_undone live r)) (sym (sum_by_push work_of live r)) (sym (sum_by_push unsent_work live r))
 
--- one out, another in
-pub sums_set : (live : List LiveRequest) (place : ℕ) (old new : LiveRequest) (less : Sums) → place < length live → get_or live place old ≡ old → with_sums old less ≡ sums_of live → with_sums new less ≡ sums_of (set live place new)
-sums_set live place old new less within there is =
-    same_sums (with_sums new less) (sums_of (set live place new))
-    (moved one_undone less.undone (ap (λ (s : Sums). s.undone) is)) (moved work_of less.work (ap (λ (s : Sums). s.work) is)) (moved unsent_work less.unsent (ap (λ (s : Sums). s.unsent) is))
+-- one takes a step, by which the sums are less
+pub sums_stepped : (live : List LiveRequest) (place : ℕ) (step : Step) (r : LiveRequest) (worth less : Sums) → place < length live → get_or live place r ≡ r → IsWorth step r worth → plus_sums worth less ≡ sums_of live
+    → less ≡ sums_of (set live place (stepped step r))
+sums_stepped live place step r worth less within there is sum =
+    same_sums less (sums_of (set live place (stepped step r)))
+    (moved one_undone less.undone worth.undone is.undone (ap (λ (s : Sums). s.undone) sum)) (moved work_of less.work worth.work is.work (ap (λ (s : Sums). s.work) sum))
+    (moved unsent_work less.unsent worth.unsent is.unsent (ap (λ (s : Sums). s.unsent) sum))
   where
-    moved : (f : LiveRequest → ℕ) (n : ℕ) → n + f old ≡ sum_by f live → n + f new ≡ sum_by f (set live place new)
-    moved f n was = omega (arith, was, rw there at (sum_by-set f live place new old within))
+    moved : (f : LiveRequest → ℕ) (n w : ℕ) → f (stepped step r) + w ≡ f r → n + w ≡ sum_by f live → n ≡ sum_by f (set live place (stepped step r))
+    moved f n w fewer was = omega (arith, fewer, was, rw there at (sum_by-set f live place (stepped step r) r within))
 
--- one has become another
-pub sums_moved : (live : List LiveRequest) (place : ℕ) (old new : LiveRequest) (after : Sums) → place < length live → get_or live place old ≡ old
-    → with_sums old after ≡ with_sums new (sums_of live) → after ≡ sums_of (set live place new)
-sums_moved live place old new after within there is =
-    same_sums after (sums_of (set live place new))
-    (moved one_undone after.undone (ap (λ (s : Sums). s.undone) is)) (moved work_of after.work (ap (λ (s : Sums). s.work) is)) (moved unsent_work after.unsent (ap (λ (s : Sums). s.unsent) is))
+-- one that is done is taken out
+pub sums_removed : (live : List LiveRequest) (place : ℕ) (r : LiveRequest) → place < length live → get_or live place r ≡ r → r.done ≡ true → sums_of live ≡ sums_of (remove live place)
+sums_removed live place r within there done =
+    same_sums (sums_of live) (sums_of (remove live place)) (left one_undone (rw done refl)) (left work_of (rw done refl)) (left unsent_work (rw done refl))
   where
-    moved : (f : LiveRequest → ℕ) (n : ℕ) → n + f old ≡ sum_by f live + f new → n ≡ sum_by f (set live place new)
-    moved f n was = omega (arith, was, rw there at (sum_by-set f live place new old within))
+    left : (f : LiveRequest → ℕ) → f r ≡ 0 → sum_by f live ≡ sum_by f (remove live place)
+    left f none = omega (arith, none, rw there at (sum_by-remove f live place r within))
 
-pub sums_removed : (live : List LiveRequest) (place : ℕ) (old : LiveRequest) (less : Sums) → place < length live → get_or live place old ≡ old → with_sums old less ≡ sums_of live → less ≡ sums_of (remove live place)
-sums_removed live place old less within there is =
-    same_sums less (sums_of (remove live place))
-    (left one_undone less.undone (ap (λ (s : Sums). s.undone) is)) (left work_of less.work (ap (λ (s : Sums). s.work) is)) (left unsent_work less.unsent (ap (λ (s : Sums). s.unsent) is))
+-- what a step of a request is worth is part of the sums
+pub are_part : (live : List LiveRequest) (place : ℕ) (step : Step) (r : LiveRequest) (worth : Sums) → place < length live → get_or live place r ≡ r → IsWorth step r worth → ArePart worth (sums_of live)
+are_part live place step r worth within there is =
+    record { undone = part one_undone worth.undone is.undone; work = part work_of worth.work is.work; unsent = part unsent_work worth.unsent is.unsent }
   where
-    left : (f : LiveRequest → ℕ) (n : ℕ) → n + f old ≡ sum_by f live → n ≡ sum_by f (remove live place)
-    left f n was = omega (arith, was, rw there at (sum_by-remove f live place old within))
-
--- a request at a place is part of the sums
-pub are_part : (live : List LiveRequest) (place : ℕ) (r : LiveRequest) → place < length live → get_or live place r ≡ r → ArePart r (sums_of live)
-are_part live place r within there = record { undone = part one_undone; work = part work_of; unsent = part unsent_work }
-  where
-    part : (f : LiveRequest → ℕ) → f r ≤ sum_by f live
-    part f = omega (arith, rw there at (sum_by-remove f live place r within))
+    part : (f : LiveRequest → ℕ) (w : ℕ) → f (stepped step r) + w ≡ f r → w ≤ sum_by f live
+    part f w fewer = omega (arith, fewer, rw there at (sum_by-remove f live place r within))
 
 -- ---- how large they are
 
@@ -71,14 +66,12 @@ are_small live many all =
       unsent = omega (arith, many, few unsent_work 100000000 live (all-map IsSmall (λ r. unsent_work r ≤ 100000000) live (λ r s. s.unsent) all));
     }
 
--- and those of one request less
-pub less_small : (r : LiveRequest) (less sums : Sums) → with_sums r less ≡ sums → AreSmall sums → AreSmall less
-less_small r less sums is small =
-    record {
-      undone = omega (arith, ap (λ (s : Sums). s.undone) is, small.undone);
-      work = omega (arith, ap (λ (s : Sums). s.work) is, small.work);
-      unsent = omega (arith, ap (λ (s : Sums). s.unsent) is, small.unsent);
-    }
+-- a request that took a step
+pub small_stepped : (step : Step) (r : LiveRequest) (worth : Sums) → IsWorth step r worth → IsSmall r → IsSmall (stepped step r)
+small_stepped step r worth is small = record { work = below work_of worth.work is.work small.work; unsent = below unsent_work worth.unsent is.unsent small.unsent }
+  where
+    below : (f : LiveRequest → ℕ) (w : ℕ) → f (stepped step r) + w ≡ f r → f r ≤ 100000000 → f (stepped step r) ≤ 100000000
+    below f w fewer most = omega (arith, fewer, most)
 
 -- ---- what is read
 pub count_undone : (live : List LiveRequest) → sum_by one_undone live ≡ length (filter is_undone live)

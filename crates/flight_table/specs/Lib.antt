@@ -4,6 +4,7 @@ pub mod Tables
 pub mod Order
 pub mod Work
 pub mod Sums
+pub mod Progress
 pub mod Rows
 pub mod Spans
 pub mod Laws

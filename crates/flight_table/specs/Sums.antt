@@ -1,8 +1,8 @@
 -- Sums over the live requests.
-use Rattle.std.specs.Prelude.{◌≡◌, ℕ, ◌+◌, ◌-◌, ◌*◌, ◌≤◌, ◌<◌, List, drop, length, sum_by, if◌then◌else◌}
+use Rattle.std.specs.Prelude.{◌≡◌, ℕ, ◌+◌, ◌≤◌, List, length, sum_by, if◌then◌else◌}
 use Rattle.std.specs.List.{AllByRecursion}
-use Rattle.flight_table.specs.LiveRequests.{LiveRequest, planned}
-use Rattle.flight_table.specs.Work.{answers_of_burst, beats_of_burst, later_work, unsent_work, work_of}
+use Rattle.flight_table.specs.LiveRequests.{LiveRequest}
+use Rattle.flight_table.specs.Work.{unsent_work, work_of}
 use Rattle.flight_table.specs.declared.sums.Sums.{Sums}
 
 abbrev pub one_undone : LiveRequest → ℕ
@@ -29,24 +29,18 @@ pub record IsSmall (request : LiveRequest) : Type 0 where
   pub work : work_of request ≤ 100000000
   pub unsent : unsent_work request ≤ 100000000
 
--- a request is among those that were summed
-pub record ArePart (request : LiveRequest) (sums : Sums) : Type 0 where
-  pub undone : one_undone request ≤ sums.undone
-  pub work : work_of request ≤ sums.work
-  pub unsent : unsent_work request ≤ sums.unsent
+-- two sums together
+abbrev pub plus_sums : Sums → Sums → Sums
+plus_sums part rest = record { undone = rest.undone + part.undone; work = rest.work + part.work; unsent = rest.unsent + part.unsent }
+
+-- no larger than others
+pub record ArePart (part sums : Sums) : Type 0 where
+  pub undone : part.undone ≤ sums.undone
+  pub work : part.work ≤ sums.work
+  pub unsent : part.unsent ≤ sums.unsent
 
 -- the sums are those of the live requests, of which there are at most 64
 pub record IsSummed (live : List LiveRequest) (sums : Sums) : Type 0 where
   pub sums_are : sums ≡ sums_of live
   pub small : AllByRecursion IsSmall live
   pub few : length live ≤ 64
-
--- what a request's work is reckoned by. Where so many bursts of the phase were sent and so many answered, the bursts to send and the beats and
--- answers to come are as said here; the write of an atomic counts from the start
-pub record IsShape (count each later : ℕ) (request : LiveRequest) : Type 0 where
-  pub work : (sent answered : ℕ) → count - sent + (count - answered) * each + later
-      ≡ length (drop sent (planned request)) + sum_by beats_of_burst (drop answered (planned request))
-      + sum_by answers_of_burst (drop answered (planned request)) + later_work request
-  pub count_small : count < 65536
-  pub each_small : each ≤ 512
-  pub later_small : later ≤ 65536 * 258

@@ -1,5 +1,6 @@
 -- The work that is left (this project's profile): bursts to send, beats to perform, answers to come.
-use Rattle.std.specs.Prelude.{ℕ, ◌+◌, Bool, true, List, length, drop, sum_by, if◌then◌else◌}
+use Rattle.std.specs.Prelude.{◌≡◌, ℕ, ◌+◌, Bool, true, List, length, drop, sum_by, if◌then◌else◌}
+use Rattle.std.specs.List.{AllByRecursion}
 use Rattle.burst_plan.specs.declared.Piece.{Piece}
 use Rattle.flight_table.specs.LiveRequests.{LiveRequest, bursts_of, planned, write_pieces}
 use Rattle.flight_table.specs.Tables.{FlightTable}
@@ -10,6 +11,10 @@ beats_of_burst burst = burst.1.len + 1
 
 abbrev pub answers_of_burst : Bool × Piece → ℕ
 answers_of_burst burst = if burst.0 then 1 else burst.1.len + 1
+
+-- to perform and to answer each of the bursts is so much work
+abbrev pub AreWorth : ℕ → List (Bool × Piece) → Type 0
+AreWorth each bursts = AllByRecursion (λ burst. beats_of_burst burst + answers_of_burst burst ≡ each) bursts
 
 -- the work of bursts of which none was sent: to send each, to perform its beats, to answer it
 abbrev pub work_of_bursts : List (Bool × Piece) → ℕ

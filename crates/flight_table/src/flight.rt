@@ -9,7 +9,7 @@ ghost use Rattle.flight_table.specs.Work.{unsent, work};
 
 use crate::TableLimits;
 use crate::live::Live;
-use crate::live_request::LiveRequest;
+use crate::live_request::{LiveRequest, Step};
 use crate::slots::Key;
 use burst_plan::{Piece, Plan};
 use std::alloc::{AllocError, Global};
@@ -180,9 +180,8 @@ impl Flight {
         ensures table { IfSome (request_at key self.old) (λ request. table_of self.new ≡ change_number request.number (with_sent result) (table_of self.old)) }
         ensures laws { IsSound self.new }
     {
-        let request = self.live.get(key);
-        let id = self.live.id_for(&request).unwrap();
-        self.live.set(key, request.with_sent(id));
+        let id = self.live.id_for(self.live.get(key)).unwrap();
+        self.live.take(key, Step::Sent(id));
         id
     }
 
@@ -193,8 +192,7 @@ impl Flight {
         ensures table { IfSome (request_at key self.old) (λ request. table_of self.new ≡ change_number request.number with_answered (table_of self.old)) }
         ensures laws { IsSound self.new }
     {
-        let request = self.live.get(key);
-        self.live.set(key, request.with_answered());
+        self.live.take(key, Step::Answered);
     }
 
     /// Plans the write of an atomic that isn't done, whose read was answered and whose write isn't planned.
@@ -204,8 +202,7 @@ impl Flight {
         ensures table { IfSome (request_at key self.old) (λ request. table_of self.new ≡ change_number request.number with_write (table_of self.old)) }
         ensures laws { IsSound self.new }
     {
-        let request = self.live.get(key);
-        self.live.set(key, request.with_write());
+        self.live.take(key, Step::Writes);
     }
 
     /// A request is done from here on, and its ID is free again. Nothing of it that is planned is unsent or unanswered.

@@ -1,19 +1,21 @@
 //! The live requests, with what is kept of them by their places in the order of acceptance, so that no question walks over them.
-ghost use Rattle.std.specs.Prelude.{◌≡◌, ◌==◌, ◌<◌, ◌≤◌, ◌^◌, [], ◌∷◌, ◌++◌, Some, None, IfOk, IfSome, IsSome, IsSomeAnd, IsTrue, length, filter, map, position, sum_by};
+ghost use Rattle.std.specs.Prelude.{◌≡◌, ◌==◌, ◌<◌, ◌≤◌, ◌^◌, [], ◌∷◌, ◌++◌, Some, None, IfOk, IfSome, IsFalse, IsSome, IsSomeAnd, IsTrue, length, filter, map, position, sum_by};
 ghost use Rattle.std.specs.List.{AllByRecursion, list_any};
 ghost use Rattle.std.specs.Option.{option_or};
 ghost use Rattle.bus_words.specs.Places.{change_first, without_first};
-ghost use Rattle.flight_table.specs.Inside.{HasOneHolder, IsProgress, MayName, with_entries};
+ghost use Rattle.flight_table.specs.Inside.{HasOneHolder, MayName, with_entries};
 ghost use Rattle.flight_table.specs.LiveRequests.{finished};
+ghost use Rattle.flight_table.specs.Progress.{MayStep, ends, stepped};
+ghost use Rattle.flight_table.specs.declared.live_request.Step.TheVariants.{Done};
 ghost use Rattle.flight_table.specs.Order.{free_id, holds_back, holds_id, may_send};
 ghost use Rattle.flight_table.specs.Tables.{change_entry, has_key, has_number, has_source, is_done_of, is_of, is_undone, key_in, request_in, requests_of};
-ghost use Rattle.flight_table.specs.Laws.{HaveOwnKeys};
+ghost use Rattle.flight_table.specs.Laws.{AreRising, HaveOwnKeys};
 ghost use Rattle.flight_table.specs.Work.{unsent_work, work_of};
 
 use crate::TableLimits;
 use crate::clients::{Clients, OwnRequest};
 use crate::ids::Ids;
-use crate::live_request::LiveRequest;
+use crate::live_request::{LiveRequest, Step};
 use crate::marks::Marks;
 use crate::rows::Rows;
 use crate::slots::{Key, ROOM, Slots};
@@ -118,10 +120,10 @@ impl Live {
         key
     }
 
-    /// The request of a key.
-    pub(crate) fn get(&self, key: Key) -> LiveRequest
+    /// The request of a key, where it lies.
+    pub(crate) fn get(&self, key: Key) -> &LiveRequest
         requires { IsSome (request_in key self.now.entries) }
-        ensures request { request_in key self.now.entries ≡ Some result }
+        ensures request { request_in key self.now.entries ≡ Some result.now }
         ensures keys { HaveOwnKeys self.now.entries }
     {
         self.slots.get(key)
@@ -136,39 +138,53 @@ impl Live {
         }
     }
 
-    /// Puts a request in the place of that of a key, of which it is what sending and answering make. It is inline, so that a
-    /// request that was just made isn't written down and read again.
+    /// The place of the request of a key.
+    fn place_of(&self, key: Key) -> usize
+        requires { IsSome (request_in key self.now.entries) }
+        ensures place { position (has_key key) self.now.entries ≡ Some result }
+        ensures within { result < length (requests_of self.now.entries) }
+    {
+        let guess = self.guess(self.slots.get(key).number);
+        self.slots.place_of(key, guess)
+    }
+
+    /// The request of a key takes a step by which it isn't done. It is inline as the step is.
     #[inline(always)]
-    pub(crate) fn set(&mut self, key: Key, request: LiveRequest)
-        requires progress { IsSomeAnd (request_in key self.old.entries) (λ old. IsProgress old request) }
-        requires id { IsSomeAnd (request_in key self.old.entries) (λ old. MayName self.old.limits.ids (requests_of self.old.entries) old.id request.id) }
-        ensures table { self.new ≡ with_entries (change_first (has_key key) (change_entry (λ r. request)) self.old.entries) self.old }
+    pub(crate) fn take(&mut self, key: Key, step: Step)
+        requires step { IsSomeAnd (request_in key self.old.entries) (MayStep step) }
+        requires goes_on { IsFalse (ends step) }
+        requires id { IsSomeAnd (request_in key self.old.entries) (λ old. MayName self.old.limits.ids (requests_of self.old.entries) old.id (stepped step old).id) }
+        ensures table { self.new ≡ with_entries (change_first (has_key key) (change_entry (stepped step)) self.old.entries) self.old }
         ensures keys { HaveOwnKeys self.new.entries }
     {
+        let place = self.place_of(key);
         let old = self.slots.get(key);
-        let guess = self.guess(old.number);
-        let place = self.slots.place_of(key, guess);
+        let id = old.id;
+        let worth = old.worth(step);
+        self.slots.take(key, step);
+        let request = self.slots.get(key);
         let able = request.is_open(self.limits.depth);
         self.able.put(place, able);
         self.named.put(place, request.is_named(able));
-        self.ids.rename(key, old.id, request.id);
-        self.sums = self.sums.moved(&old, &request);
-        self.slots.set(key, request);
+        self.ids.rename(key, id, request.id);
+        self.sums = self.sums.less(worth);
     }
 
     /// The request of a key is done from here on, holds back none, and holds no ID.
     pub(crate) fn finish(&mut self, key: Key)
-        requires { IsSomeAnd (request_in key self.old.entries) (λ old. IfSome old.id (HasOneHolder self.old.limits.ids (requests_of self.old.entries))) }
+        requires step { IsSomeAnd (request_in key self.old.entries) (MayStep Done) }
+        requires rising { AreRising (map (λ request. request.number) (requests_of self.old.entries)) }
+        requires id { IsSomeAnd (request_in key self.old.entries) (λ old. IfSome old.id (HasOneHolder self.old.limits.ids (requests_of self.old.entries))) }
         ensures table { self.new ≡ with_entries (change_first (has_key key) (change_entry finished) self.old.entries) self.old }
         ensures keys { HaveOwnKeys self.new.entries }
     {
+        let place = self.place_of(key);
         let request = self.slots.get(key);
-        let guess = self.guess(request.number);
-        let place = self.slots.place_of(key, guess);
-        let done = request.finished();
-        self.able.put(place, false);
-        self.named.put(place, false);
-        let row = self.rows.row(request.page(), self.slots.count());
+        let client = request.client;
+        let id = request.id;
+        let worth = request.worth(Step::Done);
+        let mut row = self.rows.row(request.page(), self.slots.count());
+        row.clear_to(place);
         lower(
             &self.spans,
             &request.span(),
@@ -176,11 +192,13 @@ impl Live {
             &mut self.holders,
             &mut self.unheld,
         );
-        self.ids.rename(key, request.id, None);
-        self.sums = self.sums.without(&request).with(&done);
-        self.clients.finish(request.client, key);
-        self.spans[place] = done.span();
-        self.slots.set(key, done);
+        self.slots.take(key, Step::Done);
+        self.able.put(place, false);
+        self.named.put(place, false);
+        self.ids.rename(key, id, None);
+        self.sums = self.sums.less(worth);
+        self.clients.finish(client, key);
+        self.spans[place].done = true;
     }
 
     /// Takes the request of a key out, which is done.
@@ -190,10 +208,8 @@ impl Live {
         ensures table { self.new ≡ with_entries (without_first (has_key key) self.old.entries) self.old }
         ensures keys { HaveOwnKeys self.new.entries }
     {
-        let request = self.slots.get(key);
-        let guess = self.guess(request.number);
-        let place = self.slots.place_of(key, guess);
-        self.sums = self.sums.without(&request);
+        let place = self.place_of(key);
+        let client = self.slots.get(key).client;
         self.able.remove(place);
         self.named.remove(place);
         self.holders.remove(place);
@@ -201,7 +217,7 @@ impl Live {
         self.rows.remove(place);
         self.spans.remove(place);
         self.slots.remove(key, place);
-        self.clients.remove(request.client, key);
+        self.clients.remove(client, key);
     }
 
     /// How many live requests a client has.
@@ -224,8 +240,7 @@ impl Live {
         requires { IsSome (request_in key self.now.entries) }
         ensures { IfSome (request_in key self.now.entries) (λ request. result ≡ length (filter (holds_back request) (requests_of self.now.entries))) }
     {
-        let guess = self.guess(self.slots.get(key).number);
-        self.holders[self.slots.place_of(key, guess)]
+        self.holders[self.place_of(key)]
     }
 
     /// Whether a live request of a client has this source.

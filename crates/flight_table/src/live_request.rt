@@ -1,27 +1,31 @@
 //! One live request.
 ghost use Rattle.std.specs.Prelude.{◌≡◌, ℕ, ◌↔◌, ◌&&◌, ◌+◌, ◌-◌, ◌*◌, ◌<◌, ◌≤◌, IfSome, IsTrue, Some, drop, if◌then◌else◌, is_some, length, slice_get, sum_by};
-ghost use Rattle.flight_table.specs.LiveRequests.{awaits_write, finished, flight_for, reads_then_writes, is_settled, next_burst, pieces_planned, plan_for, planned, read_pieces, unanswered, with_answered, with_sent, with_write, write_pieces};
+ghost use Rattle.flight_table.specs.LiveRequests.{awaits_write, flight_for, reads_then_writes, is_settled, next_burst, pieces_planned, plan_for, planned, read_pieces, unanswered, write_pieces};
 ghost use Rattle.flight_table.specs.Inside.{is_open};
 ghost use Rattle.std.specs.List.{AllByRecursion};
 ghost use Rattle.burst_plan.specs.Pieces.{IsPlannable, range_end};
 ghost use Rattle.flight_table.specs.Rows.{page_of};
 ghost use Rattle.flight_table.specs.Spans.{span_of};
-ghost use Rattle.flight_table.specs.Sums.{IsShape};
-ghost use Rattle.flight_table.specs.Work.{unsent_work, work_of};
+ghost use Rattle.flight_table.specs.Progress.{IsWorth, MayStep, stepped};
+ghost use Rattle.flight_table.specs.Work.{AreWorth, later_work, unsent_work, work_of};
 
 use crate::spans::Span;
-use crate::sums::Works;
+use crate::sums::{Sums, Works};
 use burst_plan::{Piece, Plan};
 use std::marker::Model;
 use tl_messages::{Operation, Request};
 
-/// What a request's work is reckoned by: how many bursts its phase has, the beats of each with the answers to it, and the work
-/// of a write that isn't planned yet. It stays the same while bursts of the phase are sent and answered.
-#[derive(Drop)]
-pub(crate) struct Shape {
-    count: u64,
-    each: u64,
-    later: u64,
+/// What becomes of a live request.
+#[derive(Clone, Copy)]
+pub(crate) enum Step {
+    /// One more burst is sent, under an ID that the request keeps.
+    Sent(u8),
+    /// One more burst is answered.
+    Answered,
+    /// The write of an atomic is planned: the request writes from here on.
+    Writes,
+    /// The request is done, and its ID free again.
+    Done,
 }
 
 /// A live request: whose it is, what it sends, and how far it has come. It reads, as a Get and at first an atomic do, or
@@ -223,50 +227,28 @@ impl LiveRequest {
         Some((self.writing, self.piece(self.sent as u16)))
     }
 
-    /// The request with one more burst sent, under an ID that it keeps.
-    pub(crate) fn with_sent(self, id: u8) -> Self
-        requires { self.sent < length (planned self) }
-        ensures { result ≡ with_sent id self }
+    /// Takes a step. It is inline, so that of the steps only the one that a call takes is there.
+    #[inline(always)]
+    pub(crate) fn take(&mut self, step: Step)
+        requires { MayStep step self.old }
+        ensures { self.new ≡ stepped step self.old }
     {
-        prove!(self.sent < self.planned());
-        LiveRequest {
-            id: Some(id),
-            sent: self.sent + 1,
-            ..self
-        }
-    }
-
-    /// The request with one more burst answered.
-    pub(crate) fn with_answered(self) -> Self
-        requires { self.answered < self.sent }
-        ensures { result ≡ with_answered self }
-    {
-        LiveRequest {
-            answered: self.answered + 1,
-            ..self
-        }
-    }
-
-    /// The request with its write planned: it writes from here on.
-    pub(crate) fn with_write(self) -> Self
-        ensures { result ≡ with_write self }
-    {
-        LiveRequest {
-            writing: true,
-            sent: 0,
-            answered: 0,
-            ..self
-        }
-    }
-
-    /// The request done, and its ID free again.
-    pub(crate) fn finished(self) -> Self
-        ensures { result ≡ finished self }
-    {
-        LiveRequest {
-            id: None,
-            done: true,
-            ..self
+        match step {
+            Step::Sent(id) => {
+                prove!(self.sent < self.planned());
+                self.id = Some(id);
+                self.sent += 1;
+            }
+            Step::Answered => self.answered += 1,
+            Step::Writes => {
+                self.writing = true;
+                self.sent = 0;
+                self.answered = 0;
+            }
+            Step::Done => {
+                self.id = None;
+                self.done = true;
+            }
         }
     }
 
@@ -319,49 +301,28 @@ impl LiveRequest {
         u64::from(self.piece(0).len) + 1
     }
 
-    /// How many bursts it has still to write with once it has read.
-    fn later(&self) -> u32
-        ensures count { result ≡ (if self.now.writing then 0 else length (write_pieces self.now)) }
-        ensures bound { result < 65536 }
+    /// How much work it is to perform and to answer a burst of its phase.
+    fn each(&self) -> u64
+        ensures each { AreWorth result (planned self.now) }
+        ensures bound { result ≤ 512 }
+    {
+        let beats = self.piece_beats();
+        if self.writing {
+            beats + 1
+        } else {
+            beats + beats
+        }
+    }
+
+    /// The work of what it has still to write once it has read.
+    fn later_work(&self) -> u64
+        ensures work { result ≡ later_work self.now }
+        ensures bound { result ≤ 65536 * 258 }
     {
         if self.writing {
             return 0;
         }
-        self.writes()
-    }
-
-    /// What its work is reckoned by.
-    pub(crate) fn shape(&self) -> Shape
-        ensures { IsShape result.count result.each result.later self.now }
-    {
-        let beats = self.piece_beats();
-        let answers = if self.writing { 1 } else { beats };
-        Shape {
-            count: u64::from(self.planned()),
-            each: beats + answers,
-            later: u64::from(self.later()) * (beats + 2),
-        }
-    }
-
-    /// The bursts to send, beats to perform and answers to come, as though no beat of an unanswered burst was performed or
-    /// answered; and of that the work of the bursts that aren't sent. The shape is the request's.
-    #[inline(always)]
-    pub(crate) fn works_in(&self, shape: &Shape) -> Works
-        requires { IsShape shape.now.count shape.now.each shape.now.later self.now }
-        ensures work { result.work ≡ work_of self.now }
-        ensures unsent { result.unsent ≡ unsent_work self.now }
-        ensures most_work { result.work ≤ 100000000 }
-        ensures most_unsent { result.unsent ≤ 100000000 }
-    {
-        if self.done {
-            return Works { work: 0, unsent: 0 };
-        }
-        let unsent = shape.count.saturating_sub(u64::from(self.sent));
-        let unanswered = shape.count.saturating_sub(u64::from(self.answered));
-        Works {
-            work: unsent + unanswered * shape.each + shape.later,
-            unsent: unsent + unsent * shape.each + shape.later,
-        }
+        u64::from(self.writes()) * (self.piece_beats() + 2)
     }
 
     /// The bursts to send, beats to perform and answers to come, as though no beat of an unanswered burst was performed or
@@ -375,6 +336,46 @@ impl LiveRequest {
         if self.done {
             return Works { work: 0, unsent: 0 };
         }
-        self.works_in(&self.shape())
+        let count = u64::from(self.planned());
+        let each = self.each();
+        let later = self.later_work();
+        let unsent = count.saturating_sub(u64::from(self.sent));
+        let unanswered = count.saturating_sub(u64::from(self.answered));
+        Works {
+            work: unsent + unanswered * each + later,
+            unsent: unsent + unsent * each + later,
+        }
+    }
+
+    /// By how much a step of it lowers the sums. It is inline as `take` is.
+    #[inline(always)]
+    pub(crate) fn worth(&self, step: Step) -> Sums
+        requires { MayStep step self.now }
+        ensures { IsWorth step self.now result }
+    {
+        if self.done {
+            return Sums::new();
+        }
+        match step {
+            Step::Sent(_) => Sums {
+                undone: 0,
+                work: 1,
+                unsent: 1 + self.each(),
+            },
+            Step::Answered => Sums {
+                undone: 0,
+                work: self.each(),
+                unsent: 0,
+            },
+            Step::Writes => Sums::new(),
+            Step::Done => {
+                let later = self.later_work();
+                Sums {
+                    undone: 1,
+                    work: later,
+                    unsent: later,
+                }
+            }
+        }
     }
 }

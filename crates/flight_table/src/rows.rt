@@ -82,6 +82,15 @@ fn take_out(rows: &mut [Row], place: usize)
     }
 }
 
+/// The same of the first place, by a shift of each row.
+fn take_first_out(rows: &mut [Row])
+    ensures { rows.new ≡ map (cut 0) rows.old }
+{
+    for row in rows.iter_mut() {
+        row.places /= 2;
+    }
+}
+
 impl Rows {
     /// No rows, with room for 64.
     pub(crate) fn new(alloc: Global) -> Result<Self, AllocError>
@@ -154,6 +163,10 @@ impl Rows {
         requires { place < 64 }
         ensures { self.new ≡ map (cut place) self.old }
     {
-        take_out(&mut self.rows, place);
+        if place == 0 {
+            take_first_out(&mut self.rows);
+        } else {
+            take_out(&mut self.rows, place);
+        }
     }
 }

@@ -1,13 +1,14 @@
 //! The live requests in a slab, and their keys by rising number.
-ghost use Rattle.std.specs.Prelude.{◌≡◌, ◌==◌, ◌<◌, ◌≤◌, Bool, [], ◌∷◌, ◌++◌, Some, None, IfOk, IfSome, IsSome, length, position, slice_index_or};
+ghost use Rattle.std.specs.Prelude.{◌≡◌, ◌==◌, ◌<◌, ◌≤◌, Bool, [], ◌∷◌, ◌++◌, Some, None, IfOk, IfSome, IsSome, IsSomeAnd, length, position};
 ghost use Rattle.flight_table.specs.LiveRequests.{LiveRequest};
 ghost use Rattle.std.specs.Vec.{vec_len, vec_capacity};
 ghost use Rattle.bus_words.specs.Places.{AreDistinct, change_first, without_first};
 ghost use Rattle.flight_table.specs.Tables.{change_entry, has_key, has_number, key_in, request_in, requests_of};
 ghost use Rattle.flight_table.specs.Laws.{HaveOwnKeys};
+ghost use Rattle.flight_table.specs.Progress.{MayStep, stepped};
 
-use crate::live_request::LiveRequest;
-use crate::scans::{key_at, of_number, stored};
+use crate::live_request::{LiveRequest, Step};
+use crate::scans::{key_at, of_number};
 use slab::Slab;
 use std::alloc::{AllocError, Global};
 use std::marker::Model;
@@ -128,22 +129,23 @@ impl Slots {
         self.order.len()
     }
 
-    /// The request of a key.
-    pub(crate) fn get(&self, key: Key) -> LiveRequest
+    /// The request of a key, where it lies.
+    pub(crate) fn get(&self, key: Key) -> &LiveRequest
         requires { IsSome (request_in key self.now) }
-        ensures request { request_in key self.now ≡ Some result }
+        ensures request { request_in key self.now ≡ Some result.now }
         ensures keys { HaveOwnKeys self.now }
     {
-        stored(&self.requests, key)
+        &self.requests[key.slot]
     }
 
-    /// Puts a request in the place of that of a key.
-    pub(crate) fn set(&mut self, key: Key, request: LiveRequest)
-        requires { IsSome (request_in key self.old) }
-        ensures entries { self.new ≡ change_first (has_key key) (change_entry (λ r. request)) self.old }
+    /// The request of a key takes a step, where it lies.
+    #[inline(always)]
+    pub(crate) fn take(&mut self, key: Key, step: Step)
+        requires { IsSomeAnd (request_in key self.old) (MayStep step) }
+        ensures entries { self.new ≡ change_first (has_key key) (change_entry (stepped step)) self.old }
         ensures keys { HaveOwnKeys self.new }
     {
-        self.requests[key.slot] = request;
+        self.requests[key.slot].take(step);
     }
 
     /// The place of a key in the order of acceptance; where it stands at `guess`, no other place is looked at.
@@ -153,14 +155,6 @@ impl Slots {
         ensures within { result < length (requests_of self.now) }
     {
         place_from(&self.order, key, guess).unwrap()
-    }
-
-    /// The request at a place.
-    pub(crate) fn at(&self, place: usize) -> LiveRequest
-        requires { place < length (requests_of self.now) }
-        ensures { (d : LiveRequest) → result ≡ slice_index_or (requests_of self.now) place d }
-    {
-        stored(&self.requests, self.order[place])
     }
 
     /// The key at a place, where there is one.

@@ -32,7 +32,7 @@ impl Span {
     fn holds_back(&self, later: &Span) -> bool
         ensures { result ≡ span_holds later.now self.now }
     {
-        self.number < later.number && !self.done && (self.meets(later) && !(self.get && later.get))
+        self.meets(later) && self.number < later.number && !self.done && !(self.get && later.get)
     }
 }
 

@@ -1,7 +1,6 @@
 //! Sums over the live requests.
 ghost use Rattle.std.specs.Prelude.{◌≡◌};
-ghost use Rattle.flight_table.specs.Inside.{IsProgress};
-ghost use Rattle.flight_table.specs.Sums.{ArePart, AreSmall, IsSmall, no_sums, with_sums};
+ghost use Rattle.flight_table.specs.Sums.{ArePart, AreSmall, IsSmall, no_sums, plus_sums, with_sums};
 
 use crate::live_request::LiveRequest;
 
@@ -46,39 +45,16 @@ impl Sums {
         }
     }
 
-    /// The sums with one request less, which is one of those summed.
-    pub(crate) fn without(self, request: &LiveRequest) -> Self
-        requires { ArePart request.now self }
-        ensures { with_sums request.now result ≡ self }
-    {
-        let works = request.works();
-        Sums {
-            undone: self.undone - u64::from(!request.done),
-            work: self.work - works.work,
-            unsent: self.unsent - works.unsent,
-        }
-    }
-
-    /// The sums where one of those summed has become what sending and answering make of it. It is inline, as its caller is.
+    /// The sums with so much less, which is part of them.
     #[inline(always)]
-    pub(crate) fn moved(self, old: &LiveRequest, new: &LiveRequest) -> Self
-        requires part { ArePart old.now self }
-        requires small { AreSmall self }
-        requires progress { IsProgress old.now new.now }
-        ensures sums { with_sums old.now result ≡ with_sums new.now self }
-        ensures small { IsSmall new.now }
+    pub(crate) fn less(self, part: Sums) -> Self
+        requires { ArePart part self }
+        ensures { plus_sums part result ≡ self }
     {
-        let shape = old.shape();
-        let was = old.works_in(&shape);
-        let is = if old.writing == new.writing {
-            new.works_in(&shape)
-        } else {
-            new.works()
-        };
         Sums {
-            undone: self.undone,
-            work: self.work - was.work + is.work,
-            unsent: self.unsent - was.unsent + is.unsent,
+            undone: self.undone - part.undone,
+            work: self.work - part.work,
+            unsent: self.unsent - part.unsent,
         }
     }
 }

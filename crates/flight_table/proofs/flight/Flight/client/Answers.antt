@@ -6,4 +6,4 @@ use Rattle.flight_table.proofs.flight.Flight.client.Goals as goal
 pub returns : goal.returns
 returns c =
     rw (← c.self.view_is)
-    (ap (option_map (λ (request : LiveRequest). request.client)) c.get.ensures.request ∙ ap (λ (request : LiveRequest). Some request.client) (sym c.result.view_is))
+    (ap (option_map (λ (request : LiveRequest). request.client)) c.get.ensures.request ∙ ap (λ (request : LiveRequest). Some request.client) (sym c.behind-self.view_is))

@@ -1,16 +1,21 @@
-use Rattle.std.proofs.Common.{refl, sym}
+use Rattle.std.proofs.Common.{refl}
 use Rattle.bus_words.specs.Places.{change_first}
 use Rattle.flight_table.specs.Inside.{keyed_of}
 use Rattle.flight_table.specs.LiveRequests.{finished, is_settled}
 use Rattle.flight_table.specs.Tables.{KeyedTable, change_entry, has_key, table_of}
 use Rattle.std.specs.Prelude.{IsTrue}
-use Rattle.flight_table.proofs.Index.{change-constant}
 use Rattle.flight_table.proofs.Kept.{named_request}
-use Rattle.flight_table.proofs.Steps.{IsChanged, change_is, gives_name, known, step_finished}
+use Rattle.flight_table.proofs.Steps.{IsChanged, change_is, gives_name, has_answers, known, step_finished}
 use Rattle.flight_table.proofs.flight.Flight.finished.Goals as goal
 
-pub finish-requires : goal.finish-requires
-finish-requires c =
+pub finish-requires-clause-step : goal.finish-requires-clause-step
+finish-requires-clause-step c =
+    let old : KeyedTable = keyed_of c.self.inside.accepted c.self.inside.live in
+    let named = named_request c.args.key old.entries (λ r. IsTrue (is_settled r)) (rw (← c.self.view_is) at c.requires) in
+    rw named.named (has_answers old.limits old.accepted named.request (known old c.args.key named.request c.self.invariant named.named).0 named.holds)
+
+pub finish-requires-clause-id : goal.finish-requires-clause-id
+finish-requires-clause-id c =
     let old : KeyedTable = keyed_of c.self.inside.accepted c.self.inside.live in
     let named = named_request c.args.key old.entries (λ r. IsTrue (is_settled r)) (rw (← c.self.view_is) at c.requires) in
     gives_name old c.args.key named.request c.self.invariant named.named
@@ -22,8 +27,8 @@ made c =
     let r = named.request in
     let facts = known old c.args.key r c.self.invariant named.named in
     rw c.finish.ensures.table
-    (change_is old c.args.self.now c.args.key finished r (finished r) (change_first (has_key c.args.key) (change_entry finished) old.entries) c.self.view_is c.self.invariant named.named refl
-    (sym (change-constant finished c.args.key old.entries r (finished r) named.named refl)) (rw c.finish.ensures.table at c.finish.ensures.keys) (step_finished (table_of old) r facts.0))
+    (change_is old c.args.self.now c.args.key finished r (change_first (has_key c.args.key) (change_entry finished) old.entries) c.self.view_is c.self.invariant named.named refl (rw c.finish.ensures.table at c.finish.ensures.keys)
+    (step_finished (table_of old) r facts.0))
 
 pub invariant_of-self : goal.invariant_of-self
 invariant_of-self c = (made c).laws

@@ -1,0 +1,20 @@
+use Rattle.std.proofs.Common.{◌≡◌, ◌-◌, ◌∙◌, ap, arith, length, sym}
+use Rattle.flight_table.specs.LiveRequests.{LiveRequest, planned}
+use Rattle.flight_table.proofs.PhaseLaws.{undone_unsent, undone_work}
+use Rattle.flight_table.proofs.live_request.LiveRequest.works.Goals as goal
+
+unsent : (c : goal.After-saturating_sub-unanswered) → c.saturating_sub-unsent.result ≡ length (planned c.args.self.now) - c.args.self.now.sent
+unsent c = omega (arith, ap (λ (r : LiveRequest). r.sent) c.self.view_is, c.planned.ensures.count)
+
+unanswered : (c : goal.After-saturating_sub-unanswered) → c.saturating_sub-unanswered.result ≡ length (planned c.args.self.now) - c.args.self.now.answered
+unanswered c = omega (arith, ap (λ (r : LiveRequest). r.answered) c.self.view_is, c.planned.ensures.count)
+
+pub returns-clause-work : goal.returns-clause-work
+returns-clause-work c =
+    rw (unsent c, unanswered c, c.later_work-later.ensures.work)
+    (sym (undone_work c.args.self.now c.each-each.result (ap (λ (r : LiveRequest). r.done) (sym c.self.view_is) ∙ c.if-self.false) c.each-each.ensures.each))
+
+pub returns-clause-unsent : goal.returns-clause-unsent
+returns-clause-unsent c =
+    rw (unsent c, c.later_work-later.ensures.work)
+    (sym (undone_unsent c.args.self.now c.each-each.result (ap (λ (r : LiveRequest). r.done) (sym c.self.view_is) ∙ c.if-self.false) c.each-each.ensures.each))
