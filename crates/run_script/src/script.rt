@@ -215,7 +215,10 @@ impl Kind for RunScript {
         writer: &mut W,
     ) -> Result<bool, ScriptFault> {
         let Some(form) = Form::named(words.at(1)) else {
-            return Err(ScriptFault::Script { line: number, word: 1 });
+            return Err(ScriptFault::Script {
+                line: number,
+                word: 1,
+            });
         };
         match line(world, &mut self.reply, form, words, writer) {
             Ok(written) => {
