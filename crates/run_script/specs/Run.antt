@@ -1,5 +1,6 @@
 -- `tlbridge run`: what each line of its script does (this project's profile).
-use Rattle.std.specs.Prelude.{ℕ, Bool, true, false, List, [], ◌∷◌, ◌++◌, None, Result, Ok, Err}
+use Rattle.std.specs.Prelude.{ℕ, ◌≡◌, Bool, true, false, List, [], ◌∷◌, ◌++◌, Option, None, Result, Ok, Err, OnOk}
+use Rattle.std.specs.Io.KnownBytes.{Appends, Keeps}
 use Rattle.tl_messages.specs.Lines.{a_text}
 use Rattle.setups.specs.Setups.{SetupLists, setup_fault}
 use Rattle.world.specs.World.{WorldState, Outcome, opening_world, next, byte_of, drained, work_left}
@@ -69,6 +70,12 @@ commanded world (Event s) = (event_text s (next world s), (next world s).state)
 commanded world Drain = (drained_text (drained world).0, (drained world).1)
 commanded world (Mem address) = (mem_text (byte_of world address), world)
 commanded world Work = (work_text (work_left world), world)
+
+-- a line's command was carried out and its text written, but where the writer failed; or the line's first wrong word is told
+abbrev pub TellsLine : {E : Type 0} → Result Command ℕ → WorldState → WorldState → Option (List ℕ) → Option (List ℕ) → Result (Result (Unit {0}) E) ℕ → Type 0
+TellsLine told old new before after (Ok written) =
+    (command : Command) × (told ≡ Ok command) × OnOk written (Appends before after (commanded old command).0) × OnOk written (new ≡ (commanded old command).1)
+TellsLine told old new before after (Err word) = (told ≡ Err word) × Keeps before after
 
 -- ---- `tlbridge run`
 

@@ -30,7 +30,8 @@ fn offer(words: &Words<'_>) -> Result<Command, u32>
 }
 
 /// `do SERIAL BEAT`.
-fn perform(words: &Words<'_>) -> Result<Step, u32>
+#[inline(always)]
+pub(crate) fn perform(words: &Words<'_>) -> Result<Step, u32>
     ensures { result ≡ perform_line words.now }
 {
     let serial = words.dec(2, u64::MAX)?;
@@ -40,7 +41,8 @@ fn perform(words: &Words<'_>) -> Result<Step, u32>
 }
 
 /// A line with one field, a number to 255: `b ID`, `r ID` or `take CLIENT`.
-fn one_byte(words: &Words<'_>) -> Result<u8, u32>
+#[inline(always)]
+pub(crate) fn one_byte(words: &Words<'_>) -> Result<u8, u32>
     ensures { result ≡ byte_line words.now }
 {
     let byte = words.byte(2)?;
@@ -49,7 +51,8 @@ fn one_byte(words: &Words<'_>) -> Result<u8, u32>
 }
 
 /// `mem ADDRESS`.
-fn mem(words: &Words<'_>) -> Result<u32, u32>
+#[inline(always)]
+pub(crate) fn mem(words: &Words<'_>) -> Result<u32, u32>
     ensures { result ≡ mem_command words.now }
 {
     let address = words.address(2)?;

@@ -4,12 +4,13 @@ ghost use Rattle.std.specs.Io.KnownBytes.{Appends};
 ghost use Rattle.world.specs.World.{is_reply, next};
 ghost use Rattle.script_text.specs.Scripts.{EndsAs, text_of, text_before_failure};
 ghost use Rattle.script_text.specs.Stages.{Opening};
-ghost use Rattle.run_script.specs.Run.{before_answer, commanded, event_text, run_reading};
+ghost use Rattle.run_script.specs.Run.{before_answer, TellsLine, command_of, commanded, event_text, run_reading};
 
 use crate::answer_writer::answer_line;
-use crate::lines::{Command, command_of};
+use crate::lines::{Command, command_of, mem, one_byte, perform};
 use line_text::{
-    Words, WriteFault, a_line, burst_lines, drained_line, mem_line, reply_lines, work_line,
+    Words, WriteFault, a_line, burst_lines, drained_line, mem_line, offer_line, reply_lines,
+    work_line,
 };
 use script_text::{Form, Kind, ScriptFault, ScriptSetup, StagedScript, read_script};
 use std::alloc::Global;
@@ -46,6 +47,7 @@ fn made(world: &mut World, step: &Step, reply: &mut ReplyBox) -> Answer
 
 /// Carries out an event and writes what it gave: the beat that was offered, the answer, and the burst that was sent or
 /// the reply.
+#[inline(always)]
 fn event<W: Write>(
     world: &mut World,
     reply: &mut ReplyBox,
@@ -81,6 +83,45 @@ fn command<W: Write>(
         Command::Mem(address) => mem_line(world.byte(*address), writer),
         Command::Work => work_line(world.work_left(), writer),
     }
+}
+
+/// Carries out the command that a line of this form says and writes its text, or answers the line's first wrong word. Each form has
+/// its own way from the line to the world, so that no value has to hold whatever command there is.
+#[inline(always)]
+fn line<W: Write>(
+    world: &mut World,
+    reply: &mut ReplyBox,
+    form: Form,
+    words: &Words<'_>,
+    writer: &mut W,
+) -> Result<Result<(), WriteFault>, u32>
+    ensures { TellsLine (command_of form words.now) world.old world.new (W.contents writer.old) (W.contents writer.new) result }
+{
+    let written = match form {
+        Form::Offer => {
+            let (client, beat) = offer_line(words)?;
+            event(world, reply, &Step::Offer(client, beat), writer)
+        }
+        Form::Pump => {
+            words.end(1)?;
+            event(world, reply, &Step::Pump, writer)
+        }
+        Form::Perform => event(world, reply, &perform(words)?, writer),
+        Form::AnswerB => event(world, reply, &Step::AnswerB(one_byte(words)?), writer),
+        Form::AnswerR => event(world, reply, &Step::AnswerR(one_byte(words)?), writer),
+        Form::Take => event(world, reply, &Step::Take(one_byte(words)?), writer),
+        Form::Drain => {
+            words.end(1)?;
+            drained_line(world.drain(), writer)
+        }
+        Form::Mem => mem_line(world.byte(mem(words)?), writer),
+        Form::Work => {
+            words.end(1)?;
+            work_line(world.work_left(), writer)
+        }
+        _ => return Err(1),
+    };
+    Ok(written)
 }
 
 impl Kind for RunScript {
@@ -164,6 +205,28 @@ impl Kind for RunScript {
     ) -> Result<bool, ScriptFault> {
         command(world, &mut self.reply, asked, writer)?;
         Ok(true)
+    }
+
+    fn carry_line<W: Write>(
+        &mut self,
+        world: &mut World,
+        number: u32,
+        words: &Words<'_>,
+        writer: &mut W,
+    ) -> Result<bool, ScriptFault> {
+        let Some(form) = Form::named(words.at(1)) else {
+            return Err(ScriptFault::Script {
+                line: number,
+                word: 1,
+            });
+        };
+        match line(world, &mut self.reply, form, words, writer) {
+            Ok(written) => {
+                written?;
+                Ok(true)
+            }
+            Err(word) => Err(ScriptFault::Script { line: number, word }),
+        }
     }
 
     fn end<W: Write>(&mut self, _world: &mut World, _writer: &mut W) -> Result<bool, ScriptFault> {

@@ -5,11 +5,13 @@ use Rattle.burst_plan.specs.PageMap.{region_fault}
 use Rattle.config.specs.Configs.{is_valid}
 use Rattle.script_text.specs.Forms.{told_as}
 use Rattle.script_text.specs.Scripts.{LineStep}
-use Rattle.script_text.specs.Stages.{GivesSome, Kind, OpensAs, OpensStage, Opening, Running, SettingUp, Stage, Writes, command_step, commanded_step, is_misplaced, nothing_written, reading_of, set_up_as, set_up_with, setup_step, unless_refused, world_at, wrong_first, wrong_opened, wrong_word}
+use Rattle.script_text.specs.Stages.{GivesSome, Kind, OpensAs, OpensStage, Opening, Running, SettingUp, Stage, Writes, command_step, commanded_step, is_misplaced, line_commanded, nothing_written, reading_of, set_up_as, set_up_with, setup_step, stage_as, stage_of, stage_step, told_step, unless_refused, world_at, wrong_first, wrong_opened, wrong_word}
 use Rattle.script_text.specs.Steps.{GivesText, Stands, TakesStep}
 use Rattle.script_text.specs.declared.faults.ScriptFault.{ScriptFault}
 use Rattle.script_text.specs.declared.faults.ScriptFault.TheVariants.{Script, Setup, Read, Write, NoMemory}
 use Rattle.script_text.specs.declared.keywords.Form.{Form}
+use Rattle.script_text.specs.declared.stages.Stage.{Stage as StageHeld}
+use Rattle.script_text.specs.declared.stages.Stage.TheVariants as held
 use Rattle.setups.proofs.SetupFaults.{memory_never}
 use Rattle.setups.specs.Setups.{SetupLists, setup_fault}
 use Rattle.setups.specs.declared.SetupFault.{SetupFault}
@@ -47,16 +49,15 @@ OpensStage-running kind stage world number there = (world, ap (λ s. world_at ki
 
 -- ---- commands
 
--- what it writes, where it may stand
-abbrev stands_so : {Z S W C : Type 0} (kind : Kind Z S W C) (found : Result W ScriptFault) (number : ℕ) (command : C) (given : List ℕ × W) → command_step kind found number command ≡ Ok (given.0, Running given.1)
-    → Stands (reading_of kind) (command_step kind found number command)
-stands_so kind found number command given is = record { text = given.0; next = Running given.1; step_is = is; may_end = λ n. refl }
+-- what a line writes, where it may stand
+abbrev stands_so : {Z S W C : Type 0} (kind : Kind Z S W C) (step : LineStep (Stage Z S W)) (given : List ℕ × W) → step ≡ Ok (given.0, Running given.1) → Stands (reading_of kind) step
+stands_so kind step given is = record { text = given.0; next = Running given.1; step_is = is; may_end = λ n. refl }
 
 -- a command of what was made, by what it gives
 given_by : {Z S W C : Type 0} (kind : Kind Z S W C) (world : W) (number : ℕ) (command : C) → GivesSome kind → (r : Result (List ℕ × W) ℕ) → kind.commanded world number command ≡ r → wrong_word r ≡ None
     → GivesText (reading_of kind) (command_step kind (Ok world) number command)
 given_by kind world number command some (Ok given) is right =
-    (stands_so kind (Ok world) number command given (ap (commanded_step number) is), λ n. some world number command given is)
+    (stands_so kind (command_step kind (Ok world) number command) given (ap (commanded_step number) is), λ n. some world number command given is)
 given_by kind world number command some (Err word) is right = search rules
 
 -- the first that may stand gives text
@@ -101,11 +102,10 @@ TakesStep-unopened kind grows stage next number command writer Read some right r
 TakesStep-unopened kind grows stage next number command writer Write some right refused = absurd refused
 TakesStep-unopened kind grows stage next number command writer NoMemory some right (silent, ok) = (inl (silent, gives kind stage number command some right silent ok), Keeps-refl writer)
 
--- a command's text was written, or it wasn't carried out, by what it gives
-carried_by : {Z S W C : Type 0} (kind : Kind Z S W C) (grows : Bool) (stage : Stage Z S W) (found : Result W ScriptFault) (number : ℕ) (next : W) (command : C) (before after : Option (List ℕ)) (r : Result (List ℕ × W) ℕ) (result : Result Bool ScriptFault)
-    → command_step kind found number command ≡ commanded_step number r → Writes grows number r next before after result
-    → TakesStep (reading_of kind) grows (command_step kind found number command) nothing_written stage (Running next) before after result
-carried_by kind grows stage found number next command before after (Ok given) (Ok wrote) is (written, made, quiet, speaks) =
+-- a line's text was written, or it wasn't carried out, by what it gives
+carried_by : {Z S W C : Type 0} (kind : Kind Z S W C) (grows : Bool) (stage : Stage Z S W) (step : LineStep (Stage Z S W)) (number : ℕ) (next : W) (before after : Option (List ℕ)) (r : Result (List ℕ × W) ℕ) (result : Result Bool ScriptFault)
+    → step ≡ commanded_step number r → Writes grows number r next before after result → TakesStep (reading_of kind) grows step nothing_written stage (Running next) before after result
+carried_by kind grows stage step number next before after (Ok given) (Ok wrote) is (written, made, quiet, speaks) =
     record {
       text = given.0;
       step_is = is ∙ ap (λ w. Ok (given.0, Running w)) (sym made);
@@ -114,21 +114,39 @@ carried_by kind grows stage found number next command before after (Ok given) (O
       speaks = λ some. (speaks some, λ n. refl);
       silent = λ still. search rules;
     }
-carried_by kind grows stage found number next command before after (Ok given) (Err (Script line word)) is fails = absurd fails
-carried_by kind grows stage found number next command before after (Ok given) (Err (Setup fault)) is fails = absurd fails
-carried_by kind grows stage found number next command before after (Ok given) (Err Read) is fails = absurd fails
-carried_by kind grows stage found number next command before after (Ok given) (Err Write) is some = (stands_so kind found number command given is, some)
-carried_by kind grows stage found number next command before after (Ok given) (Err NoMemory) is (may, kept) = (inr (may, stands_so kind found number command given is), kept)
-carried_by kind grows stage found number next command before after (Err word) (Ok wrote) is fails = absurd fails
-carried_by kind grows stage found number next command before after (Err word) (Err fault) is (wrong, kept) =
+carried_by kind grows stage step number next before after (Ok given) (Err (Script line word)) is fails = absurd fails
+carried_by kind grows stage step number next before after (Ok given) (Err (Setup fault)) is fails = absurd fails
+carried_by kind grows stage step number next before after (Ok given) (Err Read) is fails = absurd fails
+carried_by kind grows stage step number next before after (Ok given) (Err Write) is some = (stands_so kind step given is, some)
+carried_by kind grows stage step number next before after (Ok given) (Err NoMemory) is (may, kept) = (inr (may, stands_so kind step given is), kept)
+carried_by kind grows stage step number next before after (Err word) (Ok wrote) is fails = absurd fails
+carried_by kind grows stage step number next before after (Err word) (Err fault) is (wrong, kept) =
     rw wrong (is, kept)
 
 pub TakesStep-carried : {Z S W C : Type 0} (kind : Kind Z S W C) (grows : Bool) (stage : Stage Z S W) (number : ℕ) (world next : W) (command : C) (before after : Option (List ℕ)) (result : Result Bool ScriptFault) → world_at kind stage number ≡ Ok world
     → Writes grows number (kind.commanded world number command) next before after result
     → TakesStep (reading_of kind) grows (command_step kind (world_at kind stage number) number command) nothing_written stage (Running next) before after result
 TakesStep-carried kind grows stage number world next command before after result found =
-    carried_by kind grows stage (world_at kind stage number) number next command before after (kind.commanded world number command) result
+    carried_by kind grows stage (command_step kind (world_at kind stage number) number command) number next before after (kind.commanded world number command) result
     (ap (λ w. command_step kind w number command) found)
+
+-- a line behind the first command, by what it says
+told_is : {Z S W C : Type 0} (kind : Kind Z S W C) (world : W) (number : ℕ) (told : Result C ℕ) → told_step kind (Running world) number told ≡ commanded_step number (line_commanded kind world number told)
+told_is kind world number (Ok command) = refl
+told_is kind world number (Err word) = refl
+
+-- no command was carried out where there is nothing that commands work on
+pub early_where : {H Z S V W : Type 0} (lists : H → Z) (said : V → W) (stage : StageHeld H S V) → ((world : V) → stage ≡ held.Running world → ⊥) → nothing_written (stage_as lists said (stage_of stage)) ≡ true
+early_where lists said held.Opening never = refl
+early_where lists said (held.SettingUp setup own) never = refl
+early_where lists said (held.Running world) never = absurd (never world refl)
+
+pub TakesStep-line : {Z S W C : Type 0} (kind : Kind Z S W C) (grows : Bool) (number : ℕ) (world next : W) (words : List (List ℕ)) (before after : Option (List ℕ)) (result : Result Bool ScriptFault)
+    → Writes grows number (line_commanded kind world number (kind.command_of words)) next before after result
+    → TakesStep (reading_of kind) grows (stage_step kind (Running world) number words) nothing_written (Running world) (Running next) before after result
+TakesStep-line kind grows number world next words before after result =
+    carried_by kind grows (Running world) (stage_step kind (Running world) number words) number next before after (line_commanded kind world number (kind.command_of words)) result
+    (told_is kind world number (kind.command_of words))
 
 abbrev world_in : {Z S W : Type 0} → W → Stage Z S W → W
 world_in other Opening = other

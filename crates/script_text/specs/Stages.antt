@@ -131,6 +131,11 @@ abbrev pub told_step : {Z S W C : Type 0} → Kind Z S W C → Stage Z S W → �
 told_step kind stage number (Ok command) = command_step kind (world_at kind stage number) number command
 told_step kind stage number (Err word) = Err (Script number word)
 
+-- what the command does that a line says, where there is a world for it, or the line's first wrong word
+abbrev pub line_commanded : {Z S W C : Type 0} → Kind Z S W C → W → ℕ → Result C ℕ → Result (List ℕ × W) ℕ
+line_commanded kind world number (Ok command) = kind.commanded world number command
+line_commanded kind world number (Err word) = Err word
+
 -- what the words of a command's line say by the form that the first of them names, if it names one, or the first wrong word
 abbrev pub command_by_form : {C : Type 0} → (Form → List (List ℕ) → Result C ℕ) → List (List ℕ) → Option Form → Result C ℕ
 command_by_form command_of words None = Err 1

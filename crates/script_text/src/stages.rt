@@ -17,7 +17,7 @@ use std::marker::Model;
 /// A kind of script: the lines that it has, and what its commands do.
 pub trait Kind {
     ghost use Rattle.std.specs.Prelude.{Bool};
-    ghost use Rattle.script_text.specs.Stages.{GivesSome, Kind as Rules, wrong_opened};
+    ghost use Rattle.script_text.specs.Stages.{GivesSome, Kind as Rules, line_commanded, wrong_opened};
 
     /// What its set-up lines add up to.
     type Setup: Drop;
@@ -116,6 +116,27 @@ pub trait Kind {
     ) -> Result<bool, ScriptFault>
         ensures { Writes grows number (rules.commanded (said world.old) number command.now) (said world.new) (W.contents writer.old) (W.contents writer.new) result };
 
+    /// Carries out the command that a line behind the first command says, and writes its text: `command_of` and `carry_out` in one,
+    /// where no value has to hold whatever command there is. Answer and fault are those of both.
+    fn carry_line<W: Write>(
+        &mut self,
+        world: &mut Self::World,
+        number: u32,
+        words: &Words<'_>,
+        writer: &mut W,
+    ) -> Result<bool, ScriptFault>
+        ensures { Writes grows number (line_commanded rules (said world.old) number (rules.command_of words.now)) (said world.new) (W.contents writer.old) (W.contents writer.new) result }
+    {
+        let read = Self::command_of(words);
+        match &read {
+            Err(word) => Err(ScriptFault::Script {
+                line: number,
+                word: *word,
+            }),
+            Ok(command) => self.carry_out(world, number, command, writer),
+        }
+    }
+
     /// Writes the text of the input's end. The answer is what the script answers; a fault is as above.
     fn end<W: Write>(
         &mut self,
@@ -163,13 +184,6 @@ impl<K: Kind> StagedScript<K> {
             kind,
             stage: Stage::Opening,
         }
-    }
-
-    /// Whether no command was carried out yet.
-    fn nothing_written(&self) -> bool
-        ensures { result ≡ nothing_written (stage_as K.lists K.said self.now) }
-    {
-        !matches!(self.stage, Stage::Running(_))
     }
 
     /// Whether a set-up line of this form may not stand here.
@@ -420,10 +434,11 @@ impl<K: Kind + Drop> Script for StagedScript<K> {
         words: &Words<'_>,
         writer: &mut W,
     ) -> Result<bool, ScriptFault> {
-        if self.nothing_written() {
-            return self.take_early(alloc, number, words, writer);
+        let StagedScript { kind, stage } = self;
+        if let Stage::Running(world) = stage {
+            return kind.carry_line(world, number, words, writer);
         }
-        self.take_command(alloc, number, words, writer)
+        self.take_early(alloc, number, words, writer)
     }
 
     fn end<W: Write>(

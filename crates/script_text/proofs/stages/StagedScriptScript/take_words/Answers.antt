@@ -1,8 +1,14 @@
-use Rattle.std.proofs.Common.{sym, ◌∙◌}
+use Rattle.std.proofs.Common.{ap, sym, ◌∙◌}
+use Rattle.script_text.proofs.StageSteps.{TakesStep-line, early_where}
+use Rattle.script_text.specs.Stages.{stage_as, stage_of}
 use Rattle.script_text.proofs.stages.StagedScriptScript.take_words.Goals as goal
 
-pub returns-then-nothing_written : goal.returns-then-nothing_written
-returns-then-nothing_written g c = rw (sym c.nothing_written.ensures ∙ c.if-nothing_written.true) c.take_early.ensures
+pub returns-in-Running : goal.returns-in-Running
+returns-in-Running g c =
+    rw (ap (stage_as g.K.Kind.lists g.K.Kind.said) (sym c.self.view_is ∙ ap stage_of c.in-Running.is))
+    (TakesStep-line g.K.Kind.rules g.K.Kind.grows c.args.number (g.K.Kind.said c.in-Running.world) (g.K.Kind.said c.carry_line.new.world) c.args.words.now (g.W.Write.contents c.args.writer.now) (g.W.Write.contents c.carry_line.new.writer) c.carry_line.result
+    c.carry_line.ensures)
 
 pub returns : goal.returns
-returns g c = rw (sym c.nothing_written.ensures ∙ c.if-nothing_written.false) c.take_command.ensures
+returns g c =
+    rw (sym c.self.view_is) (rw (early_where g.K.Kind.lists g.K.Kind.said c.self.inside.stage c.in_default.not-Running) c.take_early.ensures)
