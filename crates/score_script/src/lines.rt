@@ -1,5 +1,6 @@
 //! The lines of observed beats, and of the answers between them.
-ghost use Rattle.std.specs.Prelude.{◌≡◌, ◌<◌, ◌||◌};
+ghost use Rattle.std.specs.Prelude.{◌≡◌, ◌<◌, ◌||◌, IfSome, Ok};
+ghost use Rattle.score_script.specs.declared.score.Command.TheVariants.{Observed};
 ghost use Rattle.line_text.specs.Fields.{Reads, address_field, byte_field, flag_field};
 ghost use Rattle.line_text.specs.Words.{word_at};
 ghost use Rattle.score_script.specs.UnknownDigits.{StandsAt, payload_field, unknown_field};
@@ -39,13 +40,13 @@ impl Channel {
         ensures { result ≡ channel_of word.now }
     {
         match word {
-            b"A" => Some(Channel::A),
-            b"D" => Some(Channel::D),
-            b"AW" => Some(Channel::Aw),
-            b"W" => Some(Channel::W),
-            b"B" => Some(Channel::B),
-            b"AR" => Some(Channel::Ar),
-            b"R" => Some(Channel::R),
+            [b'A'] => Some(Channel::A),
+            [b'D'] => Some(Channel::D),
+            [b'A', b'W'] => Some(Channel::Aw),
+            [b'W'] => Some(Channel::W),
+            [b'B'] => Some(Channel::B),
+            [b'A', b'R'] => Some(Channel::Ar),
+            [b'R'] => Some(Channel::R),
             _ => None,
         }
     }
@@ -472,4 +473,18 @@ pub(crate) fn command_of(words: &Words<'_>) -> Result<Command, u32>
         return Ok(answer_command(words.at(2)));
     }
     asked_command(words, Channel::named(words.at(1)))
+}
+
+/// The beat that a line says, where nobody need know more of it than its fields; none of any other line.
+#[inline(always)]
+pub(crate) fn known_beat(words: &Words<'_>) -> Option<SeenBeat>
+    ensures { IfSome result (λ seen. command_of words.now ≡ Ok (Observed seen)) }
+{
+    let Some(channel) = Channel::named(words.at(1)) else {
+        return None;
+    };
+    match seen_line(channel, words) {
+        Ok(seen) => Some(seen),
+        Err(_) => None,
+    }
 }

@@ -9,6 +9,7 @@ ghost use Rattle.score_script.specs.Profiles.{byte_in, filled_in};
 ghost use Rattle.score_script.specs.declared.profiles.Asked.{Asked};
 ghost use Rattle.score_script.specs.Scores.{FailsBy, Leaves, LeavesBy, begins_after, called_score, counts_of, finds_at_once, judged_behind, commanded, commanded_score, unanswered_by, wrong_command, wrong_fill, beats_judged, client_of, closing, counted, ended_score, finds, judging, line_at, misplaced_in, observing, opening_score, reset_score, settling, unclear, unknown_on, with_more, without_data, wrong_behind};
 ghost use Rattle.score_script.specs.ScoreStates.{score_of};
+ghost use Rattle.score_script.specs.declared.score.Command.TheVariants.{Observed};
 ghost use Rattle.score_script.specs.FindingTexts.{WritesText};
 ghost use Rattle.score_script.specs.UnansweredTexts.{unanswered_text};
 
@@ -499,7 +500,28 @@ impl Score {
         Ok(())
     }
 
-    /// The same, and then the line has come.
+    /// The same of a beat that was observed, and then its line has come.
+    #[inline(always)]
+    fn take_seen(
+        &mut self,
+        number: u32,
+        seen: &SeenBeat,
+        findings: &mut Findings,
+    ) -> Result<(), ScriptFault>
+        ensures may { OnOk result (wrong_behind (score_of self.old) ≡ None) }
+        ensures held { OnOk result (findings.new.held ≡ (finds (score_of self.old) number (Observed seen.now)).held) }
+        ensures own { OnOk result (findings.new.own ≡ (finds (score_of self.old) number (Observed seen.now)).own) }
+        ensures state { OnOk result (score_of self.new ≡ commanded_score (score_of self.old) number (Observed seen.now)) }
+        ensures kept { OnErr result (score_of self.new ≡ score_of self.old) }
+        ensures fault { IfErr result (λ fault. FailsBy number (wrong_behind (score_of self.old)) fault) }
+    {
+        self.check_open(number)?;
+        self.observe(self.line_at(number), seen, findings)?;
+        self.begins = false;
+        Ok(())
+    }
+
+    /// The same of any command.
     pub(crate) fn take(
         &mut self,
         number: u32,
@@ -623,6 +645,21 @@ impl Score {
         let found = findings_lines(&findings, writer)?;
         let left = self.unanswered(number, command, writer)?;
         Ok(found | left)
+    }
+
+    /// The same of a beat that was observed. It is apart, so that no command has to hold the beat.
+    #[inline(always)]
+    pub(crate) fn see<W: Write>(
+        &mut self,
+        number: u32,
+        seen: &SeenBeat,
+        writer: &mut W,
+    ) -> Result<bool, ScriptFault>
+        ensures { Writes true number (commanded (score_of self.old) number (Observed seen.now)) (score_of self.new) (W.contents writer.old) (W.contents writer.new) result }
+    {
+        let mut findings = Findings::none();
+        self.take_seen(number, seen, &mut findings)?;
+        Ok(findings_lines(&findings, writer)?)
     }
 
     /// Judges the beat that is held, and writes the last line. The answer is whether a beat is wrong. A fault is that of the

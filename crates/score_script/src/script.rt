@@ -3,7 +3,7 @@ ghost use Rattle.std.specs.Prelude.{true};
 ghost use Rattle.script_text.specs.Scripts.{EndsOrStops, text_before_failure, text_of};
 ghost use Rattle.score_script.specs.Scores.{opening_state, score_reading};
 
-use crate::lines::{command_of, only_settles};
+use crate::lines::{command_of, known_beat, only_settles};
 use crate::profiles::Asked;
 use crate::score::{Command, Score, wrong_at_first};
 use line_text::Words;
@@ -110,6 +110,26 @@ impl Kind for ScoreScript {
         writer: &mut W,
     ) -> Result<bool, ScriptFault> {
         score.carry_out(number, command, writer)
+    }
+
+    fn carry_line<W: Write>(
+        &mut self,
+        score: &mut Score,
+        number: u32,
+        words: &Words<'_>,
+        writer: &mut W,
+    ) -> Result<bool, ScriptFault> {
+        if let Some(seen) = known_beat(words) {
+            return score.see(number, &seen, writer);
+        }
+        let read = command_of(words);
+        match &read {
+            Err(word) => Err(ScriptFault::Script {
+                line: number,
+                word: *word,
+            }),
+            Ok(command) => score.carry_out(number, command, writer),
+        }
     }
 
     fn end<W: Write>(&mut self, score: &mut Score, writer: &mut W) -> Result<bool, ScriptFault> {
