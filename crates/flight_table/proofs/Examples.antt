@@ -9,7 +9,7 @@ use Rattle.tl_messages.specs.declared.Operation.TheVariants.{PutFull, PutPartial
 use Rattle.burst_plan.specs.PageMap.{translated}
 use Rattle.burst_plan.specs.Pieces.{PlannedRange}
 use Rattle.burst_plan.specs.declared.Region.{Region}
-use Rattle.flight_table.specs.LiveRequests.{LiveRequest, awaits_write, finished, flight_for, next_burst, with_answered, with_sent, with_write}
+use Rattle.flight_table.specs.LiveRequests.{LiveRequest, awaits_write, finished, flight_for, next_piece, with_answered, with_sent, with_write}
 use Rattle.flight_table.specs.Order.{IsSmallestDone, IsSmallestReady, conflict, free_id, holder_of, holders, id_for, is_ready, next_ready}
 use Rattle.flight_table.specs.Tables.{FlightTable, KeyedTable, change_key, change_number, flight_of, has_room, in_flight, is_busy, key_where, oldest_done, request_at, table_of, with_entry, without_number}
 use Rattle.flight_table.specs.Work.{spared_work, unsent, work, work_of}
@@ -196,10 +196,12 @@ write_planned = with_write read_answered
 abbrev write_sent : LiveRequest
 write_sent = with_sent 0 write_planned
 
--- true is a write
-it_reads_and_then_writes : map next_burst (add ∷ read_sent ∷ read_answered ∷ write_planned ∷ write_sent ∷ [])
-    ≡ Some (false, record { address = 0x10014; len = 0; size = 2 }) ∷ None ∷ None ∷ Some (true, record { address = 0x10014; len = 0; size = 2 }) ∷ None ∷ []
+it_reads_and_then_writes : map (λ r. r.writing) (add ∷ read_sent ∷ read_answered ∷ write_planned ∷ write_sent ∷ []) ≡ false ∷ false ∷ false ∷ true ∷ true ∷ []
 it_reads_and_then_writes = refl
+
+its_pieces : map next_piece (add ∷ read_sent ∷ read_answered ∷ write_planned ∷ write_sent ∷ [])
+    ≡ Some (record { address = 0x10014; len = 0; size = 2 }) ∷ None ∷ None ∷ Some (record { address = 0x10014; len = 0; size = 2 }) ∷ None ∷ []
+its_pieces = refl
 
 its_write_waits_for_its_read : map awaits_write (add ∷ read_sent ∷ read_answered ∷ write_planned ∷ []) ≡ false ∷ false ∷ true ∷ false ∷ []
 its_write_waits_for_its_read = refl

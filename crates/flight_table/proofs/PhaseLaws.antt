@@ -1,69 +1,27 @@
 -- The bursts of a request's phase, by their places, and the work that they are.
-use Rattle.std.proofs.Common.{◌≡◌, ℕ, zero, suc, ◌+◌, ◌-◌, ◌*◌, ◌<◌, Bool, true, false, List, [], ◌∷◌, map, length, drop, Some, refl, ap, sym, ◌∙◌, suc-mul, arith, length-drop}
-use Rattle.std.proofs.lemmas.List.{length-map}
-use Rattle.std.specs.Prelude.{option_map, if◌then◌else◌}
+use Rattle.std.proofs.Common.{◌≡◌, ℕ, zero, suc, ◌+◌, ◌-◌, ◌*◌, Bool, true, false, List, [], ◌∷◌, map, length, drop, Some, refl, ap, ◌∙◌, suc-mul, arith, length-drop}
+use Rattle.std.specs.Prelude.{if◌then◌else◌}
 use Rattle.std.specs.List.{AllByRecursion, range_with_len, slice_get, sum_by}
 use Rattle.std.proofs.lemmas.List.Sums.{sum_by-cons}
-use Rattle.std.proofs.lemmas.Option.{same_Some, slice_get-map, slice_get_within}
 use Rattle.burst_plan.specs.Pieces.{IsPlannable, PlannedRange, pieces}
 use Rattle.burst_plan.specs.PlannedTransfers.{burst_beats}
 use Rattle.burst_plan.specs.declared.Piece.{Piece}
 use Rattle.burst_plan.proofs.PieceLaws.{burst_count, divides_evenly, piece_at, piece_listed, pieces_are}
-use Rattle.flight_table.specs.LiveRequests.{LiveRequest, bursts_of, phase_pieces, pieces_planned, planned, read_pieces, write_pieces}
+use Rattle.flight_table.specs.LiveRequests.{LiveRequest, pieces_planned, planned, read_pieces, write_pieces}
 use Rattle.flight_table.specs.Work.{AreWorth, answers_of_burst, beats_of_burst, later_work, unsent_work, work_of}
 use Rattle.tl_messages.specs.Operations.{has_data, reply_has_data}
-
--- ---- bursts of one side
-
-pub length_bursts : (write : Bool) (parts : List Piece) → length (bursts_of write parts) ≡ length parts
-length_bursts write parts = length-map parts (λ piece. (write, piece))
-
--- a burst is of that side, and its piece stands at its place
-pub burst_at : (write side : Bool) (parts : List Piece) (k : ℕ) (piece : Piece) → slice_get (bursts_of write parts) k ≡ Some (side, piece) → (write ≡ side) × (slice_get parts k ≡ Some piece)
-burst_at write side [] k piece there = absurd (cc (there))
-burst_at write side (p ∷ parts) zero piece there =
-    let same = same_Some (write, p) (side, piece) there in
-    (ap (λ (burst : Bool × Piece). burst.0) same, ap (λ (burst : Bool × Piece). Some burst.1) same)
-burst_at write side (p ∷ parts) (suc k) piece there = burst_at write side parts k piece there
 
 -- ---- the phase of a request
 
 pub length_reading : (request : LiveRequest) → request.writing ≡ false → length (planned request) ≡ length (read_pieces request)
-length_reading request reads = length_bursts request.writing (phase_pieces request) ∙ rw reads refl
+length_reading request reads = rw reads refl
 
 pub length_writing : (request : LiveRequest) → request.writing ≡ true → length (planned request) ≡ length (write_pieces request)
-length_writing request writes = length_bursts request.writing (phase_pieces request) ∙ rw writes refl
+length_writing request writes = rw writes refl
 
--- a burst that is a read is one of its reads, and one that is a write is one of its writes
-pub read_at : (request : LiveRequest) (k : ℕ) (piece : Piece) → slice_get (planned request) k ≡ Some (false, piece) → (request.writing ≡ false) × (slice_get (read_pieces request) k ≡ Some piece)
-read_at request k piece there =
-    let at = burst_at request.writing false (phase_pieces request) k piece there in
-    (at.0, rw at.0 at at.1)
-
-pub write_at : (request : LiveRequest) (k : ℕ) (piece : Piece) → slice_get (planned request) k ≡ Some (true, piece) → (request.writing ≡ true) × (slice_get (write_pieces request) k ≡ Some piece)
-write_at request k piece there =
-    let at = burst_at request.writing true (phase_pieces request) k piece there in
-    (at.0, rw at.0 at at.1)
-
--- the other way round: a piece that is written
-pub write_planned : (request : LiveRequest) (k : ℕ) (piece : Piece) → request.writing ≡ true → slice_get (write_pieces request) k ≡ Some piece → slice_get (planned request) k ≡ Some (true, piece)
-write_planned request k piece writes there = rw writes (slice_get-map (λ (p : Piece). (true, p)) (write_pieces request) k ∙ ap (option_map (λ (p : Piece). (true, p))) there)
-
--- the pieces of a phase are those of the plan
-of_plan_by : (writing carries replies : Bool) (parts : List Piece) (k : ℕ) → k < length (if writing then (if carries then parts else []) else (if replies then parts else []))
-    → (if writing then (if carries then parts else []) else (if replies then parts else [])) ≡ parts
-of_plan_by writing carries replies parts k within = grind (arith, within)
-
-of_plan : (request : LiveRequest) (k : ℕ) → k < length (planned request) → phase_pieces request ≡ pieces_planned request.plan
-of_plan request k within =
-    of_plan_by request.writing (has_data request.operation) (reply_has_data request.operation) (pieces_planned request.plan) k
-    (omega (arith, within, length_bursts request.writing (phase_pieces request)))
-
--- a burst is a piece of the plan
-pub piece_planned : (request : LiveRequest) (k : ℕ) (side : Bool) (piece : Piece) → slice_get (planned request) k ≡ Some (side, piece) → slice_get (pieces_planned request.plan) k ≡ Some piece
-piece_planned request k side piece there =
-    ap (λ (parts : List Piece). slice_get parts k) (sym (of_plan request k (slice_get_within (planned request) k (side, piece) there)))
-    ∙ (burst_at request.writing side (phase_pieces request) k piece there).1
+-- its pieces are those of the plan
+pub piece_planned : (request : LiveRequest) (k : ℕ) (piece : Piece) → slice_get (planned request) k ≡ Some piece → slice_get (pieces_planned request.plan) k ≡ Some piece
+piece_planned request k piece there = grind (arith, there)
 
 -- ---- work
 
@@ -95,41 +53,43 @@ minus_zero : (n : ℕ) → n - 0 ≡ n
 minus_zero n = omega arith
 
 -- the bursts of one side, each of which has as many transfers
-worth_bursts : (beats : ℕ) (write : Bool) (parts : List Piece) → AreAlike beats parts → AreWorth (beats + (if write then 1 else beats)) (bursts_of write parts)
+worth_bursts : (beats : ℕ) (write : Bool) (parts : List Piece) → AreAlike beats parts → AreWorth (beats + (if write then 1 else beats)) write parts
 worth_bursts beats write [] same = tt
 worth_bursts beats true (p ∷ parts) same = (ap (λ n. n + 1) same.0, worth_bursts beats true parts same.1)
 worth_bursts beats false (p ∷ parts) same = (ap (λ n. n + n) same.0, worth_bursts beats false parts same.1)
 
 -- the bursts of a phase
-pub worth_is : (request : LiveRequest) (beats answers : ℕ) → AreAlike beats (pieces_planned request.plan) → answers ≡ (if request.writing then 1 else beats) → AreWorth (beats + answers) (planned request)
+pub worth_is : (request : LiveRequest) (beats answers : ℕ) → AreAlike beats (pieces_planned request.plan) → answers ≡ (if request.writing then 1 else beats)
+    → AreWorth (beats + answers) request.writing (planned request)
 worth_is request beats answers same is =
     rw is
-    (worth_bursts beats request.writing (phase_pieces request)
+    (worth_bursts beats request.writing (planned request)
     (alike-either beats request.writing (write_pieces request) (read_pieces request) (alike-if beats (has_data request.operation) (pieces_planned request.plan) same)
     (alike-if beats (reply_has_data request.operation) (pieces_planned request.plan) same)))
 
 -- what bursts are worth, from one on
-pub sums_worth : (each : ℕ) (bursts : List (Bool × Piece)) (a : ℕ) → AreWorth each bursts → sum_by beats_of_burst (drop a bursts) + sum_by answers_of_burst (drop a bursts) ≡ (length bursts - a) * each
-sums_worth each [] zero worth = omega arith
-sums_worth each [] (suc a) worth = let none : 0 - suc a ≡ 0 = omega arith in rw none (omega arith)
-sums_worth each (b ∷ bursts) zero worth =
-    let rest : sum_by beats_of_burst bursts + sum_by answers_of_burst bursts ≡ length bursts * each = sums_worth each bursts 0 worth.1 ∙ ap (λ n. n * each) (minus_zero (length bursts)) in
-    rw (sum_by-cons beats_of_burst b bursts, sum_by-cons answers_of_burst b bursts, minus_zero (suc (length bursts))) (omega (arith, rest, worth.0, suc-mul (length bursts) each))
-sums_worth each (b ∷ bursts) (suc a) worth = let less : suc (length bursts) - suc a ≡ length bursts - a = omega arith in rw less (sums_worth each bursts a worth.1)
+pub sums_worth : (each : ℕ) (write : Bool) (parts : List Piece) (a : ℕ) → AreWorth each write parts
+    → sum_by beats_of_burst (drop a parts) + sum_by (answers_of_burst write) (drop a parts) ≡ (length parts - a) * each
+sums_worth each write [] zero worth = omega arith
+sums_worth each write [] (suc a) worth = let none : 0 - suc a ≡ 0 = omega arith in rw none (omega arith)
+sums_worth each write (p ∷ parts) zero worth =
+    let rest : sum_by beats_of_burst parts + sum_by (answers_of_burst write) parts ≡ length parts * each = sums_worth each write parts 0 worth.1 ∙ ap (λ n. n * each) (minus_zero (length parts)) in
+    rw (sum_by-cons beats_of_burst p parts, sum_by-cons (answers_of_burst write) p parts, minus_zero (suc (length parts))) (omega (arith, rest, worth.0, suc-mul (length parts) each))
+sums_worth each write (p ∷ parts) (suc a) worth = let less : suc (length parts) - suc a ≡ length parts - a = omega arith in rw less (sums_worth each write parts a worth.1)
 
 -- the work of a request that isn't done, and that of its unsent bursts
-pub undone_work : (request : LiveRequest) (each : ℕ) → request.done ≡ false → AreWorth each (planned request)
+pub undone_work : (request : LiveRequest) (each : ℕ) → request.done ≡ false → AreWorth each request.writing (planned request)
     → work_of request ≡ length (planned request) - request.sent + (length (planned request) - request.answered) * each + later_work request
 undone_work request each undone worth =
-    rw (undone, length-drop request.sent (planned request)) (both _ _ _ _ (later_work request) (sums_worth each (planned request) request.answered worth))
+    rw (undone, length-drop request.sent (planned request)) (both _ _ _ _ (later_work request) (sums_worth each request.writing (planned request) request.answered worth))
   where
     both : (n a b m more : ℕ) → a + b ≡ m → n + a + b + more ≡ n + m + more
     both n a b m more sum = omega (arith, sum)
 
-pub undone_unsent : (request : LiveRequest) (each : ℕ) → request.done ≡ false → AreWorth each (planned request)
+pub undone_unsent : (request : LiveRequest) (each : ℕ) → request.done ≡ false → AreWorth each request.writing (planned request)
     → unsent_work request ≡ length (planned request) - request.sent + (length (planned request) - request.sent) * each + later_work request
 undone_unsent request each undone worth =
-    rw (undone, length-drop request.sent (planned request)) (both _ _ _ _ (later_work request) (sums_worth each (planned request) request.sent worth))
+    rw (undone, length-drop request.sent (planned request)) (both _ _ _ _ (later_work request) (sums_worth each request.writing (planned request) request.sent worth))
   where
     both : (n a b m more : ℕ) → a + b ≡ m → n + a + b + more ≡ n + m + more
     both n a b m more sum = omega (arith, sum)
@@ -137,11 +97,11 @@ undone_unsent request each undone worth =
 -- the work that is to be planned later, as the code counts it
 pub later_is : (request : LiveRequest) (writes beats : ℕ) → request.writing ≡ false → writes ≡ length (write_pieces request) → AreAlike beats (pieces_planned request.plan) → writes * (beats + 2) ≡ later_work request
 later_is request writes beats reads is same =
-    let bursts = bursts_of true (write_pieces request) in
-    let worth = worth_bursts beats true (write_pieces request) (alike-if beats (has_data request.operation) (pieces_planned request.plan) same) in
-    let count : writes ≡ length bursts = is ∙ sym (length_bursts true (write_pieces request)) in
-    let sums : sum_by beats_of_burst bursts + sum_by answers_of_burst bursts ≡ length bursts * (beats + 1) = sums_worth (beats + 1) bursts 0 worth ∙ ap (λ n. n * (beats + 1)) (minus_zero (length bursts)) in
-    rw (reads, count) (all _ _ (length bursts) sums)
+    let parts = write_pieces request in
+    let worth = worth_bursts beats true parts (alike-if beats (has_data request.operation) (pieces_planned request.plan) same) in
+    let sums : sum_by beats_of_burst parts + sum_by (answers_of_burst true) parts ≡ length parts * (beats + 1) =
+    sums_worth (beats + 1) true parts 0 worth ∙ ap (λ n. n * (beats + 1)) (minus_zero (length parts)) in
+    rw (reads, is) (all _ _ (length parts) sums)
   where
     all : (a b n : ℕ) → a + b ≡ n * (beats + 1) → n * (beats + 2) ≡ n + a + b
     all a b n sum = omega (arith, sum)

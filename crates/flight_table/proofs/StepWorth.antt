@@ -26,7 +26,7 @@ one_less : (each n k : ℕ) → k < n → (n - (k + 1)) * each + each ≡ (n - k
 one_less each n k below = let more : n - k ≡ suc (n - (k + 1)) = omega arith in rw more (omega (arith, suc-mul (n - (k + 1)) each))
 
 -- one more burst is sent
-pub worth_sent : (r : LiveRequest) (id each : ℕ) → r.done ≡ false → r.sent < length (planned r) → AreWorth each (planned r) → IsWorth (Sent id) r (record { undone = 0; work = 1; unsent = 1 + each })
+pub worth_sent : (r : LiveRequest) (id each : ℕ) → r.done ≡ false → r.sent < length (planned r) → AreWorth each r.writing (planned r) → IsWorth (Sent id) r (record { undone = 0; work = 1; unsent = 1 + each })
 worth_sent r id each undone more worth =
     record {
       undone = plus_zero (one_undone r);
@@ -42,7 +42,7 @@ worth_sent r id each undone more worth =
     both n k l below less = omega (arith, less)
 
 -- one more is answered
-pub worth_answered : (r : LiveRequest) (each : ℕ) → r.done ≡ false → r.answered < length (planned r) → AreWorth each (planned r) → IsWorth Answered r (record { undone = 0; work = each; unsent = 0 })
+pub worth_answered : (r : LiveRequest) (each : ℕ) → r.done ≡ false → r.answered < length (planned r) → AreWorth each r.writing (planned r) → IsWorth Answered r (record { undone = 0; work = each; unsent = 0 })
 worth_answered r each undone more worth =
     record {
       undone = plus_zero (one_undone r);

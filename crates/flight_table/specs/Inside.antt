@@ -4,7 +4,7 @@ use Rattle.std.specs.List.{AllByRecursion, list_any, range_with_len}
 use Rattle.bus_words.specs.Places.{AreDistinct}
 use Rattle.slab.specs.Slab.{Slab, get, ContainsKey, slab_len}
 use Rattle.tl_messages.specs.declared.Operation.TheVariants.{Get}
-use Rattle.flight_table.specs.LiveRequests.{LiveRequest, next_burst, unanswered}
+use Rattle.flight_table.specs.LiveRequests.{LiveRequest, next_piece, unanswered}
 use Rattle.flight_table.specs.Order.{holders, holds_back, holds_id}
 use Rattle.flight_table.specs.Tables.{KeyedRequest, KeyedTable, key_in}
 use Rattle.flight_table.specs.declared.TableLimits.{TableLimits}
@@ -46,7 +46,7 @@ keyed_of accepted live = record { limits = live.limits; accepted = accepted; ent
 
 -- whether a burst is open: planned, unsent and within the depth
 abbrev pub is_open : ℕ → LiveRequest → Bool
-is_open depth request = not request.done && is_some (next_burst request) && nat_lt (unanswered request) depth
+is_open depth request = not request.done && is_some (next_piece request) && nat_lt (unanswered request) depth
 
 -- and its request holds an ID
 abbrev pub is_named : ℕ → LiveRequest → Bool

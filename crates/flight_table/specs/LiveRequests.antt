@@ -1,5 +1,5 @@
 -- A live request: it was accepted, and its reply wasn't taken yet (this project's profile).
-use Rattle.std.specs.Prelude.{ℕ, ◌+◌, ◌-◌, Bool, true, ◌&&◌, not, List, [], map, length, Option, Some, None, is_none, if◌then◌else◌, slice_get, nat_le}
+use Rattle.std.specs.Prelude.{ℕ, ◌+◌, ◌-◌, Bool, true, ◌&&◌, not, List, [], length, Option, Some, None, is_none, if◌then◌else◌, slice_get, nat_le}
 use Rattle.tl_messages.specs.Operations.{has_data, reply_has_data}
 use Rattle.tl_messages.specs.Requests.{HeldMessage}
 use Rattle.tl_messages.specs.declared.Operation.{Operation}
@@ -64,25 +64,17 @@ read_pieces request = if reply_has_data request.operation then pieces_planned re
 abbrev pub write_pieces : LiveRequest → List Piece
 write_pieces request = if has_data request.operation then pieces_planned request.plan else []
 
--- those of its phase
-abbrev pub phase_pieces : LiveRequest → List Piece
-phase_pieces request = if request.writing then write_pieces request else read_pieces request
-
--- pieces as bursts of one side; true is a write
-abbrev pub bursts_of : Bool → List Piece → List (Bool × Piece)
-bursts_of write parts = map (λ piece. (write, piece)) parts
-
--- the bursts of its phase
-abbrev pub planned : LiveRequest → List (Bool × Piece)
-planned request = bursts_of request.writing (phase_pieces request)
+-- the pieces of its phase, each of which is a burst: a write where the request writes, else a read
+abbrev pub planned : LiveRequest → List Piece
+planned request = if request.writing then write_pieces request else read_pieces request
 
 -- how many bursts it has sent since it was accepted: while it writes, its reads too
 abbrev pub all_sent : LiveRequest → ℕ
 all_sent request = (if request.writing then length (read_pieces request) else 0) + request.sent
 
--- the next burst, if one is planned and unsent
-abbrev pub next_burst : LiveRequest → Option (Bool × Piece)
-next_burst request = slice_get (planned request) request.sent
+-- that of the next burst, if one is planned and unsent
+abbrev pub next_piece : LiveRequest → Option Piece
+next_piece request = slice_get (planned request) request.sent
 
 -- how many bursts are sent and unanswered
 abbrev pub unanswered : LiveRequest → ℕ

@@ -6,7 +6,7 @@ use Rattle.tl_messages.specs.declared.Operation.{Operation}
 use Rattle.tl_messages.specs.declared.Operation.TheVariants.{PutFull, PutPartial, Atomic, Get, Intent}
 use Rattle.burst_plan.specs.Pieces.{PlannedRange, range_end}
 use Rattle.burst_plan.specs.PlannedTransfers.{HasAddress}
-use Rattle.flight_table.specs.LiveRequests.{LiveRequest, next_burst, unanswered}
+use Rattle.flight_table.specs.LiveRequests.{LiveRequest, next_piece, unanswered}
 use Rattle.flight_table.specs.Tables.{FlightTable}
 use Rattle.flight_table.specs.declared.TableLimits.{TableLimits}
 
@@ -73,7 +73,7 @@ id_for limits live request = option_or request.id (free_id limits.ids live)
 -- whether a request may send its next burst
 abbrev pub may_send : TableLimits → List LiveRequest → LiveRequest → Bool
 may_send limits live request =
-    not request.done && is_some (next_burst request) && nat_lt (unanswered request) limits.depth && is_some (id_for limits live request)
+    not request.done && is_some (next_piece request) && nat_lt (unanswered request) limits.depth && is_some (id_for limits live request)
     && not (is_held live request)
 
 abbrev pub is_ready : FlightTable → LiveRequest → Bool

@@ -1,7 +1,7 @@
 //! The table.
 ghost use Rattle.std.specs.Prelude.{◌≡◌, ℕ, ◌<◌, ◌≤◌, ◌^◌, false, [], Some, None, IfOk, IfSome, IsFalse, IsSome, IsSomeAnd, IsTrue, is_some, length, option_map};
 ghost use Rattle.std.specs.List.{AllByRecursion};
-ghost use Rattle.flight_table.specs.LiveRequests.{finished, flight_for, awaits_write, is_settled, next_burst, with_answered, with_sent, with_write};
+ghost use Rattle.flight_table.specs.LiveRequests.{finished, flight_for, awaits_write, is_settled, next_piece, with_answered, with_sent, with_write};
 ghost use Rattle.flight_table.specs.Laws.{IsSound};
 ghost use Rattle.flight_table.specs.Order.{IsSmallestDone, IsSmallestReady, holder_of, holders, holds_id, id_for, is_ready, next_ready};
 ghost use Rattle.flight_table.specs.Tables.{change_key, change_number, flight_of, has_number, has_room, in_flight, is_busy, is_done_of, key_where, oldest_done, request_at, request_named, table_of, with_entry, with_request, without_key, without_number};
@@ -158,17 +158,17 @@ impl Flight {
     /// The piece of a request's next burst. The request may send it.
     pub fn next_piece(&self, key: Key) -> Piece
         requires { IsSomeAnd (request_at key self.now) (λ request. IsTrue (is_ready (table_of self.now) request)) }
-        ensures { IfSome (request_at key self.now) (λ request. option_map (λ burst. burst.1) (next_burst request) ≡ Some result) }
+        ensures { IfSome (request_at key self.now) (λ request. next_piece request ≡ Some result) }
     {
-        self.live.get(key).next().unwrap().1
+        self.live.get(key).next().unwrap()
     }
 
     /// Whether a request's next burst is a write. The request may send it.
     pub fn next_is_write(&self, key: Key) -> bool
         requires { IsSomeAnd (request_at key self.now) (λ request. IsTrue (is_ready (table_of self.now) request)) }
-        ensures { IfSome (request_at key self.now) (λ request. option_map (λ burst. burst.0) (next_burst request) ≡ Some result) }
+        ensures { IfSome (request_at key self.now) (λ request. request.writing ≡ result) }
     {
-        self.live.get(key).next().unwrap().0
+        self.live.get(key).writing
     }
 
     /// A request's next burst is sent, under the ID that is answered: its own, or with its first burst the smallest that

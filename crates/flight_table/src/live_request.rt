@@ -1,6 +1,6 @@
 //! One live request.
 ghost use Rattle.std.specs.Prelude.{◌≡◌, ℕ, ◌↔◌, ◌&&◌, ◌+◌, ◌-◌, ◌*◌, ◌<◌, ◌≤◌, IfSome, IsTrue, Some, drop, if◌then◌else◌, is_some, length, slice_get, sum_by};
-ghost use Rattle.flight_table.specs.LiveRequests.{awaits_write, flight_for, reads_then_writes, is_settled, next_burst, pieces_planned, plan_for, planned, read_pieces, unanswered, write_pieces};
+ghost use Rattle.flight_table.specs.LiveRequests.{awaits_write, flight_for, reads_then_writes, is_settled, next_piece, pieces_planned, plan_for, planned, read_pieces, unanswered, write_pieces};
 ghost use Rattle.flight_table.specs.Inside.{is_open};
 ghost use Rattle.std.specs.List.{AllByRecursion};
 ghost use Rattle.burst_plan.specs.Pieces.{IsPlannable, range_end};
@@ -184,7 +184,7 @@ impl LiveRequest {
 
     /// Whether a burst is planned and unsent.
     pub(crate) fn has_next(&self) -> bool
-        ensures { result ≡ is_some (next_burst self.now) }
+        ensures { result ≡ is_some (next_piece self.now) }
     {
         self.sent < self.planned()
     }
@@ -217,14 +217,14 @@ impl LiveRequest {
         }
     }
 
-    /// The next burst, if one is planned and unsent: whether it is a write, and its piece.
-    pub(crate) fn next(&self) -> Option<(bool, Piece)>
-        ensures { result ≡ next_burst self.now }
+    /// The piece of the next burst, if one is planned and unsent.
+    pub(crate) fn next(&self) -> Option<Piece>
+        ensures { result ≡ next_piece self.now }
     {
         if self.sent >= self.planned() {
             return None;
         }
-        Some((self.writing, self.piece(self.sent as u16)))
+        Some(self.piece(self.sent as u16))
     }
 
     /// Takes a step. It is inline, so that of the steps only the one that a call takes is there.
@@ -303,7 +303,7 @@ impl LiveRequest {
 
     /// How much work it is to perform and to answer a burst of its phase.
     fn each(&self) -> u64
-        ensures each { AreWorth result (planned self.now) }
+        ensures each { AreWorth result self.now.writing (planned self.now) }
         ensures bound { result ≤ 512 }
     {
         let beats = self.piece_beats();
