@@ -9,7 +9,7 @@ use Rattle.tl_messages.specs.Requests.{HeldMessage}
 use Rattle.axi_beats.specs.declared.RBeat.{RBeat}
 use Rattle.axi_beats.specs.declared.Resp.{Resp}
 use Rattle.flight_table.specs.Tables.{has_source, is_busy}
-use Rattle.bridge_core.specs.Laws.{IsFreeFront, AreLinked, IsSoundBridge, IsSoundRequestTable}
+use Rattle.bridge_core.specs.Laws.{IsFreeFront, AreLinked, IsSoundBridge, IsSoundRequestTable, came_of_next}
 use Rattle.bridge_core.specs.HeldRequests.{BridgedRequest, RequestTable, after_read, after_response, flight_table_of, flights_of, is_done_for, newly_live, with_read, with_request, with_response, with_sent_burst, without_done, holder}
 use Rattle.axi_beats.specs.declared.BBeat.{BBeat}
 use Rattle.axi_checker.specs.OpenBursts.{OpenBursts, write_to_fill}
@@ -24,7 +24,7 @@ use Rattle.config.specs.Configs.{axi_port_of}
 use Rattle.bridge_core.specs.Inside.{ArePorts, AwaitsAnswer, AwaitsBeat, bridge_kept}
 use Rattle.bridge_core.specs.Sending.{Sending, next_sending}
 use Rattle.config.specs.declared.Config.{Config}
-use Rattle.bridge_core.proofs.AnswerLinks.{answered_reader, answered_writer}
+use Rattle.bridge_core.proofs.AnswerLinks.{finds_reader, finds_writer}
 use Rattle.bridge_core.proofs.ReadLinks.{linked_read}
 use Rattle.bridge_core.proofs.ResponseLinks.{filled_response, linked_response}
 use Rattle.bridge_core.proofs.SendingLinks.{linked_taken}
@@ -147,19 +147,20 @@ unbroken state port beat taken same is = ap (λ (p : AxiPortLimits). axi_fault p
 
 pub awaits_b : (state : BridgeState) (b : BBeat) → IsSoundBridge state → b_fault state b ≡ None → IsSomeAnd (holder b.id state.requests.live) (AwaitsAnswer true)
 awaits_b state b sound none =
-    let found = answered_writer state b sound none in
-    rw found.held (record { piece = found.piece; live = found.live; unanswered = found.sent; next = found.burst })
+    let found = finds_writer state b sound none in
+    rw found.holder.held (record { side = found.writes; piece = found.piece; live = found.holder.live; unanswered = found.next.within; next = found.next.at })
 
 pub awaits_r : (state : BridgeState) (r : RBeat) → IsSoundBridge state → r_fault state r ≡ None → IsSomeAnd (holder r.id state.requests.live) (AwaitsBeat state.requests.config.axi_bytes r)
 awaits_r state r sound none =
-    let found = answered_reader state r sound none in
-    rw found.held (
+    let found = finds_reader state r sound none in
+    let reader = found.reader in
+    rw reader.holder.held (
     record {
-      awaits = record { piece = found.piece; live = found.live; unanswered = found.sent; next = found.burst };
-      beats = found.count;
-      came = found.came;
-      within = found.few;
-      last = found.last;
-      place = found.place;
+      awaits = record { side = reader.reads; piece = found.piece; live = reader.holder.live; unanswered = reader.next.within; next = reader.next.at };
+      beats = came_of_next found.request;
+      came = omega (arith, reader.holder.served.came);
+      within = reader.few;
+      last = reader.last;
+      place = reader.place;
     }
     )

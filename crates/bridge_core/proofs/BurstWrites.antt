@@ -1,26 +1,17 @@
 -- A plan's pieces as writes, transfer by transfer.
-use Rattle.std.proofs.Common.{◌≡◌, ℕ, zero, suc, ◌+◌, ◌-◌, ◌/◌, ◌^◌, ◌<◌, ◌≤◌, true, List, map, length, Option, Some, None, if◌then◌else◌, refl, sym, ◌∙◌, ap, arith, lit<}
-use Rattle.std.specs.Prelude.{unwrap_or}
+use Rattle.std.proofs.Common.{◌≡◌, ℕ, ◌+◌, ◌-◌, ◌/◌, ◌^◌, ◌<◌, ◌≤◌, true, List, map, length, Option, Some, refl, ◌∙◌, arith}
 use Rattle.std.specs.List.{range_with_len, slice_get}
 use Rattle.std.proofs.lemmas.Bool.{and_from, and_parts, le-leb}
 use Rattle.std.proofs.lemmas.List.FromFn.{length-map-range_with_len, map-range_with_len_more}
-use Rattle.std.proofs.lemmas.Option.{slice_get-get_or}
-use Rattle.std.proofs.lemmas.Simd.{map-map}
 use Rattle.std.proofs.Math.Pow.{pow-add, pow_mono}
-use Rattle.bus_words.specs.Lanes.{given_at, lane_byte}
-use Rattle.tl_messages.specs.Lanes.{lane_of}
-use Rattle.tl_messages.specs.Operations.{beats_of, has_data}
-use Rattle.tl_messages.specs.Requests.{HeldMessage, beat_at, byte_given, request_of}
-use Rattle.tl_messages.specs.declared.MaskedWord.{MaskedWord}
+use Rattle.bus_words.specs.Lanes.{given_at}
+use Rattle.tl_messages.specs.Operations.{beats_of}
 use Rattle.tl_messages.proofs.BeatCounts.{beats_of-le}
 use Rattle.axi_beats.specs.Boxes.{w_beats_of, with_w_beat}
 use Rattle.axi_beats.specs.Bursts.{Burst, WriteBurst}
 use Rattle.axi_beats.specs.Transfers.{fits_bus, transfer_address, transfer_end, transfer_has}
 use Rattle.axi_beats.specs.declared.WBeat.{WBeat}
 use Rattle.axi_beats.proofs.TransferLaws.{transfer_address_le_transfer_end}
-use Rattle.data_unit.specs.Words.{merged, operand_in, value}
-use Rattle.data_unit.proofs.ByteLaws.{lane_byte-past}
-use Rattle.data_unit.proofs.WordLaws.{lane_byte-merged}
 use Rattle.burst_plan.specs.Pieces.{PlannedRange, IsPlannable, beat_size, pieces}
 use Rattle.burst_plan.specs.PlannedBursts.{w_beat}
 use Rattle.burst_plan.specs.PlannedTransfers.{HasAddress}
@@ -28,7 +19,6 @@ use Rattle.burst_plan.specs.declared.Piece.{Piece}
 use Rattle.burst_plan.proofs.PieceLaws.{divides_evenly, piece_listed}
 use Rattle.burst_plan.proofs.TransferPlaces.{holds_each_byte_once}
 use Rattle.burst_plan.proofs.WriteLaws.{listed_part}
-use Rattle.data_unit.specs.Atomics.{operand_of}
 
 -- ---- transfers of a listed piece
 

@@ -1,5 +1,5 @@
 -- The burst that goes next, found with what is kept of its request, and what its sending changes.
-use Rattle.std.proofs.Common.{◌≡◌, ◌<◌, ℕ, ◌%◌, Bool, true, List, Option, Some, None, IsSome, refl, sym, ◌∙◌, ap, subst, arith}
+use Rattle.std.proofs.Common.{◌≡◌, ◌<◌, ℕ, ◌%◌, Bool, true, List, Some, None, IsSome, refl, sym, ◌∙◌, ap, subst, arith}
 use Rattle.std.specs.Prelude.{IfSome, option_map}
 use Rattle.std.specs.List.{find}
 use Rattle.std.proofs.lemmas.List.{set-get_or}
@@ -10,8 +10,7 @@ use Rattle.burst_plan.specs.Pieces.{PlannedRange}
 use Rattle.burst_plan.specs.declared.Piece.{Piece}
 use Rattle.burst_plan.proofs.TranslationLaws.{same_byte-mod}
 use Rattle.flight_table.specs.Laws.{IsSound}
-use Rattle.flight_table.specs.LiveRequests.{LiveRequest, next_burst, with_sent}
-use Rattle.flight_table.proofs.PhaseLaws.{write_at}
+use Rattle.flight_table.specs.LiveRequests.{LiveRequest, next_piece, with_sent}
 use Rattle.flight_table.specs.Order.{id_for, is_ready}
 use Rattle.flight_table.specs.Tables.{FlightTable, KeyedRequest, KeyedTable, change_key, has_number, request_at, requests_of, table_of}
 use Rattle.bridge_core.specs.Inside.{CanFill, HeldRequest, IsFirstAt, IsKept, KeptTable, bridged, held_in, nothing_held, shown_table}
@@ -43,11 +42,11 @@ some_ready kept table key view is at = rw (← view, ready_found kept key is at)
 
 -- ---- the burst that goes next
 
--- what is told of the request at a key: its plan, its next burst, and the ID for it
+-- what is told of the request at a key: its plan, whether it writes, its next piece, and the ID for its burst
 pub record IsTold (flight : KeyedTable) (key : ℕ) (range : PlannedRange) (write : Bool) (piece : Piece) (id : ℕ) : Type 0 where
   pub plan_is : option_map (λ r. r.plan) (request_at key flight) ≡ Some (Some range)
-  pub write_is : IfSome (request_at key flight) (λ r. option_map (λ (burst : Bool × Piece). burst.0) (next_burst r) ≡ Some write)
-  pub piece_is : IfSome (request_at key flight) (λ r. option_map (λ (burst : Bool × Piece). burst.1) (next_burst r) ≡ Some piece)
+  pub write_is : IfSome (request_at key flight) (λ r. r.writing ≡ write)
+  pub piece_is : IfSome (request_at key flight) (λ r. next_piece r ≡ Some piece)
   pub id_is : IfSome (request_at key flight) (λ r. id_for flight.limits (table_of flight).live r ≡ Some id)
 
 -- the request that goes next, with what is kept of it
@@ -56,12 +55,10 @@ pub record IsGoing (kept : KeptTable) (key : ℕ) (range : PlannedRange) (write 
   pub named : request_at key kept.flight ≡ Some request
   pub served : IsServed kept.config kept.regions (bridged request (held_in kept.helds key))
   pub plan : request.plan ≡ Some range
-  pub next : next_burst request ≡ Some (write, piece)
+  pub writes : request.writing ≡ write
+  pub next : next_piece request ≡ Some piece
   pub sending : next_sending (shown_table kept)
-      ≡ Some (record { request = bridged request (held_in kept.helds key); id = id; burst = burst_of_piece id (bridged request (held_in kept.helds key)) range (write, piece) })
-
-both_parts : (o : Option (Bool × Piece)) (write : Bool) (piece : Piece) → option_map (λ (burst : Bool × Piece). burst.0) o ≡ Some write → option_map (λ (burst : Bool × Piece). burst.1) o ≡ Some piece → o ≡ Some (write, piece)
-both_parts o write piece first second = grind arith
+      ≡ Some (record { request = bridged request (held_in kept.helds key); id = id; burst = burst_of_piece id (bridged request (held_in kept.helds key)) range piece })
 
 pub going : (kept : KeptTable) (key : ℕ) (range : PlannedRange) (write : Bool) (piece : Piece) (id : ℕ) → IsKept kept → IsSoundRequestTable (shown_table kept) → IsFirstAt (is_ready (table_of kept.flight)) kept.flight key
     → IsTold kept.flight key range write piece id → IsGoing kept key range write piece id
@@ -70,30 +67,31 @@ going kept key range write piece id is sound at told =
     let one = bridged at.request (held_in kept.helds key) in
     let found = ready_found kept key is at in
     let plan : at.request.plan ≡ Some range = same_Some at.request.plan (Some range) (rw at.named at told.plan_is) in
-    let next = both_parts (next_burst at.request) write piece (rw at.named at told.write_is) (rw at.named at told.piece_is) in
+    let next : next_piece at.request ≡ Some piece = rw at.named at told.piece_is in
     let id_is = subst (λ (t : FlightTable). id_for t.limits t.live at.request ≡ Some id) (table_seen kept is) (rw at.named at told.id_is) in
     record {
       request = at.request;
       named = at.named;
       served = all-find (IsServed kept.config kept.regions) (may_send table) table.live one sound.served found;
       plan = plan;
+      writes = rw at.named at told.write_is;
       next = next;
-      sending = sends table one id range (write, piece) found id_is plan next;
+      sending = sends table one id range piece found id_is plan next;
     }
 
 -- ---- a write can be filled
 
 -- only what has data writes
-writes_data : (flight : LiveRequest) (piece : Piece) → next_burst flight ≡ Some (true, piece) → has_data flight.operation ≡ true
-writes_data flight piece next = grind (arith, (write_at flight flight.sent piece next).1)
+writes_data : (flight : LiveRequest) (piece : Piece) → flight.writing ≡ true → next_piece flight ≡ Some piece → has_data flight.operation ≡ true
+writes_data flight piece writes next = grind (arith, next, writes)
 
 pub can_fill : (kept : KeptTable) (key : ℕ) (range : PlannedRange) (piece : Piece) (id : ℕ) → IsGoing kept key range true piece id → CanFill (held_in kept.helds key) range piece
 can_fill kept key range piece id goes =
     let held = held_in kept.helds key in
     let of = range_served kept.config kept.regions (bridged goes.request held) range goes.served goes.plan in
-    let carries : has_data held.message.operation ≡ true = ap has_data (sym goes.served.flight.operation) ∙ writes_data goes.request piece goes.next in
+    let carries : has_data held.message.operation ≡ true = ap has_data (sym goes.served.flight.operation) ∙ writes_data goes.request piece goes.writes goes.next in
     record {
-      listed = piece_of_plan goes.request range true piece goes.plan goes.next;
+      listed = piece_of_plan goes.request range piece goes.plan goes.next;
       carries = carries;
       beats = goes.served.message.beats ∙ ap (λ b. beats_of held.message.size b) carries;
       size = sym (ap (λ (p : PlannedRange). p.size) of.is);

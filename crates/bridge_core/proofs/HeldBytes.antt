@@ -1,16 +1,10 @@
 -- The bytes that are kept to be written, by operation, and how small an atomic's old value is.
-use Rattle.std.proofs.Common.{◌≡◌, ◌≢◌, ℕ, ◌*◌, ◌%◌, ◌^◌, ◌<◌, ◌≤◌, true, arith}
-use Rattle.std.specs.Prelude.{unwrap_or}
-use Rattle.std.proofs.Math.Pow.{pow_mono}
-use Rattle.tl_messages.specs.Operations.{beats_of, has_data}
+use Rattle.std.proofs.Common.{◌≡◌, ◌≢◌, ℕ, true, arith}
+use Rattle.tl_messages.specs.Operations.{has_data}
 use Rattle.tl_messages.specs.Requests.{WholeRequest}
 use Rattle.tl_messages.specs.declared.AtomicOp.{AtomicOp}
 use Rattle.tl_messages.specs.declared.Operation.{Operation}
 use Rattle.tl_messages.specs.declared.Operation.TheVariants.{Atomic}
-use Rattle.data_unit.specs.Atomics.{modulus}
-use Rattle.data_unit.proofs.WordLaws.{operand_in-lt}
-use Rattle.responses.specs.Gathered.{Gathering, old_value}
-use Rattle.responses.specs.declared.gather.Outline.{Outline}
 use Rattle.bridge_core.specs.Sending.{bytes_written}
 
 -- what isn't an atomic and has data writes the bytes that it gives

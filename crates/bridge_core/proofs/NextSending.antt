@@ -1,5 +1,5 @@
 -- What is known of the burst that goes next, and when one goes.
-use Rattle.std.proofs.Common.{◌≡◌, ℕ, Bool, true, false, is_some, get_or, Option, Some, None, refl, ap, sym, ◌∙◌, subst, arith}
+use Rattle.std.proofs.Common.{◌≡◌, ℕ, true, is_some, get_or, Option, Some, None, refl, ap, sym, ◌∙◌, subst, arith}
 use Rattle.std.specs.Prelude.{option_map, option_and_then}
 use Rattle.std.specs.List.{find}
 use Rattle.std.proofs.lemmas.Option.{option_and_then_some, slice_get-get_or}
@@ -9,7 +9,7 @@ use Rattle.axi_beats.specs.Bursts.{Burst}
 use Rattle.burst_plan.specs.Pieces.{PlannedRange}
 use Rattle.burst_plan.specs.declared.Piece.{Piece}
 use Rattle.flight_table.specs.Laws.{IsSoundRequest}
-use Rattle.flight_table.specs.LiveRequests.{next_burst, planned}
+use Rattle.flight_table.specs.LiveRequests.{next_piece, planned}
 use Rattle.flight_table.specs.Order.{id_for}
 use Rattle.flight_table.proofs.Steps.{IsReady, ready_parts}
 use Rattle.bridge_core.specs.HeldRequests.{table_limits_of, BridgedRequest, RequestTable, flight_table_of, flights_of, may_send}
@@ -17,17 +17,16 @@ use Rattle.bridge_core.specs.Laws.{IsServed, IsSoundRequestTable}
 use Rattle.bridge_core.specs.Sending.{Sending, burst_for, burst_of_piece, next_sending, sending_of}
 use Rattle.bridge_core.proofs.SendingLinks.{sound_requests}
 
--- a request that may send, the ID and the burst with which it sends, and the piece of its plan that this is; true is a write
+-- a request that may send, the ID and the burst with which it sends, and the piece of its plan that this is
 pub record IsNext (table : RequestTable) (sending : Sending) : Type 0 where
   pub range : PlannedRange
-  pub write : Bool
   pub piece : Piece
   pub found : find (may_send table) table.live ≡ Some sending.request
   pub id : id_for (table_limits_of table.config) (flights_of table.live) sending.request.flight ≡ Some sending.id
   pub of_request : burst_for sending.id sending.request ≡ Some sending.burst
   pub plan : sending.request.flight.plan ≡ Some range
-  pub next : next_burst sending.request.flight ≡ Some (write, piece)
-  pub burst : sending.burst ≡ burst_of_piece sending.id sending.request range (write, piece)
+  pub next : next_piece sending.request.flight ≡ Some piece
+  pub burst : sending.burst ≡ burst_of_piece sending.id sending.request range piece
   pub ready : IsReady (flight_table_of table) sending.request.flight
 
 abbrev pub sending_with : BridgedRequest → ℕ → Burst → Sending
@@ -36,12 +35,11 @@ sending_with request id burst = record { request = request; id = id; burst = bur
 next_parts : (table : RequestTable) (request : BridgedRequest) (id : ℕ) (burst : Burst) → find (may_send table) table.live ≡ Some request
     → id_for (table_limits_of table.config) (flights_of table.live) request.flight ≡ Some id → burst_for id request ≡ Some burst → IsNext table (sending_with request id burst)
 next_parts table request id burst found id_is is =
-    option_and_then_some (λ range. option_map (burst_of_piece id request range) (next_burst request.flight)) request.flight.plan burst is
-    (λ range plan made. map_some (burst_of_piece id request range) (next_burst request.flight) burst made
+    option_and_then_some (λ range. option_map (burst_of_piece id request range) (next_piece request.flight)) request.flight.plan burst is
+    (λ range plan made. map_some (burst_of_piece id request range) (next_piece request.flight) burst made
     (λ piece next same. record {
       range = range;
-      write = piece.0;
-      piece = piece.1;
+      piece = piece;
       found = found;
       id = id_is;
       of_request = is;
@@ -77,14 +75,14 @@ IsPresent {X = X} o = (x : X) × (o ≡ Some x)
 pub present : {X : Type 0} (o : Option X) → is_some o ≡ true → IsPresent o
 present o some = grind arith
 
-pub sends : (table : RequestTable) (request : BridgedRequest) (id : ℕ) (range : PlannedRange) (next : Bool × Piece) → find (may_send table) table.live ≡ Some request
-    → id_for (table_limits_of table.config) (flights_of table.live) request.flight ≡ Some id → request.flight.plan ≡ Some range → next_burst request.flight ≡ Some next
-    → next_sending table ≡ Some (sending_with request id (burst_of_piece id request range next))
-sends table request id range next found id_is plan next_is =
+pub sends : (table : RequestTable) (request : BridgedRequest) (id : ℕ) (range : PlannedRange) (piece : Piece) → find (may_send table) table.live ≡ Some request
+    → id_for (table_limits_of table.config) (flights_of table.live) request.flight ≡ Some id → request.flight.plan ≡ Some range → next_piece request.flight ≡ Some piece
+    → next_sending table ≡ Some (sending_with request id (burst_of_piece id request range piece))
+sends table request id range piece found id_is plan next =
     ap (option_and_then (sending_of table)) found
     ∙ ap (λ o. option_and_then (λ i. option_map (sending_with request i) (burst_for i request)) o) id_is
     ∙ ap (option_map (sending_with request id))
-    (ap (λ o. option_and_then (λ r. option_map (burst_of_piece id request r) (next_burst request.flight)) o) plan ∙ ap (option_map (burst_of_piece id request range)) next_is)
+    (ap (λ o. option_and_then (λ r. option_map (burst_of_piece id request r) (next_piece request.flight)) o) plan ∙ ap (option_map (burst_of_piece id request range)) next)
 
 pub next_sending-some : (table : RequestTable) (request : BridgedRequest) → IsSoundRequestTable table → find (may_send table) table.live ≡ Some request
     → (sending : Sending) × (next_sending table ≡ Some sending)
@@ -93,6 +91,6 @@ next_sending-some table request sound found =
     let each = all-find (λ (r : BridgedRequest). IsSoundRequest (flight_table_of table).limits table.accepted r.flight) (may_send table) table.live request (sound_requests table sound) found in
     let (range, plan) = present request.flight.plan (grind (arith, each.no_plan, ready.undone)) in
     let (id, id_is) = present (id_for (table_limits_of table.config) (flights_of table.live) request.flight) ready.some in
-    let blank : Bool × Piece = (false, record { address = 0; len = 0; size = 0 }) in
-    let next = slice_get-get_or (planned request.flight) request.flight.sent blank ready.more in
-    (sending_with request id (burst_of_piece id request range (get_or (planned request.flight) request.flight.sent blank)), sends table request id range (get_or (planned request.flight) request.flight.sent blank) found id_is plan next)
+    let piece = get_or (planned request.flight) request.flight.sent (record { address = 0; len = 0; size = 0 }) in
+    let next = slice_get-get_or (planned request.flight) request.flight.sent (record { address = 0; len = 0; size = 0 }) ready.more in
+    (sending_with request id (burst_of_piece id request range piece), sends table request id range piece found id_is plan next)

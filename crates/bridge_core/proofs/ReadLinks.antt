@@ -1,5 +1,5 @@
 -- After an R the outstanding bursts are those of the live requests.
-use Rattle.std.proofs.Common.{◌≡◌, ◌≢◌, ℕ, ◌+◌, ◌==◌, ◌≤◌, Bool, true, false, List, length, refl, ap, sym, ◌∙◌, arith, inl, inr}
+use Rattle.std.proofs.Common.{◌≡◌, ◌≢◌, ℕ, ◌+◌, ◌==◌, ◌≤◌, Bool, true, false, List, ◌∷◌, length, refl, ap, sym, ◌∙◌, arith, inl, inr}
 use Rattle.std.specs.Prelude.{None, Some}
 use Rattle.std.specs.List.{filter, find}
 use Rattle.std.proofs.lemmas.Bool.{cases_eq, eq-eqb, eqb-true}
@@ -13,10 +13,10 @@ use Rattle.burst_plan.specs.declared.Piece.{Piece}
 use Rattle.flight_table.specs.LiveRequests.{planned, with_answered}
 use Rattle.responses.specs.Gathered.{after_r}
 use Rattle.bridge_core.specs.Bridge.{BridgeState, after_r_beat, r_fault}
-use Rattle.bridge_core.specs.Laws.{AreLinked, IsLinked, IsSoundBridge, came_of_next, open_read, open_reads, outstanding}
+use Rattle.bridge_core.specs.Laws.{AreLinked, IsLinked, IsSoundBridge, came_of_next, open_read, open_reads, outstanding, reads_held, writes_held}
 use Rattle.bridge_core.specs.HeldRequests.{BridgedRequest, after_read, holder, holds, outline_in, settled}
-use Rattle.bridge_core.proofs.AnswerLinks.{IsReader, finds_reader, open_writes-reads}
-use Rattle.bridge_core.proofs.ResponseLinks.{IsLeft, holder-other, left_after, one_holder}
+use Rattle.bridge_core.proofs.AnswerLinks.{IsReader, finds_reader, reads_are, writes_none}
+use Rattle.bridge_core.proofs.ResponseLinks.{holder-other, left_after, one_holder}
 
 -- ---- a request with an R counted, before it is settled
 
@@ -63,51 +63,45 @@ reads_after-other id other reads came piece apart found few = by_flag (came == p
 
 -- ---- what is left outstanding
 
-module _ (state : BridgeState) (r : RBeat) (request : BridgedRequest) (piece : Piece) (rest : List (Bool × Piece)) (sound : IsSoundBridge state) (reader : IsReader state r request piece rest) where
+module _ (state : BridgeState) (r : RBeat) (request : BridgedRequest) (piece : Piece) (rest : List Piece) (sound : IsSoundBridge state) (reader : IsReader state r request piece rest) where
   linked : IsLinked r.id state.requests.live state.open_bursts
   linked = sound.linked r.id
 
-  -- the request that holds the ID, after an R
-  left : (answered : BridgedRequest) → after_read state.requests.config.axi_bytes r request ≡ settled answered → answered.flight.id ≡ Some r.id → answered.flight.sent ≤ length (planned answered.flight)
-      → IsLeft r.id (holder r.id (after_r_beat state r).requests.live) answered
-  left answered is has sent =
-      left_after r.id state.requests.live (after_read state.requests.config.axi_bytes r) request answered reader.holder.held is has sent (one_holder state sound r.id)
+  -- the reads of the ID before it
+  before : filter (read_of_id r.id) state.open_bursts.reads ≡ open_reads r.id false (came_of_next request) (piece ∷ rest)
+  before =
+      linked.reads ∙ ap (reads_held r.id) reader.holder.held
+      ∙ reads_are r.id request.flight.writing (came_of_next request) (outstanding request.flight) (piece ∷ rest) reader.reads reader.first
+
+  -- and what is left of them: the request that holds the ID, after an R, reads on
+  linked_own : (answered : BridgedRequest) (came : ℕ) (pieces : List Piece) → after_read state.requests.config.axi_bytes r request ≡ settled answered → answered.flight.id ≡ Some r.id
+      → answered.flight.sent ≤ length (planned answered.flight) → answered.flight.writing ≡ false → came_of_next answered ≡ came → outstanding answered.flight ≡ pieces
+      → filter (read_of_id r.id) (reads_after r.id state.open_bursts.reads) ≡ open_reads r.id false came pieces → IsLinked r.id (after_r_beat state r).requests.live (after_r_beat state r).open_bursts
+  linked_own answered came pieces is has sent reads now left listed =
+      let after = left_after r.id state.requests.live (after_read state.requests.config.axi_bytes r) request answered reader.holder.held is has sent (one_holder state sound r.id) in
+      record {
+        writes = linked.writes ∙ ap (writes_held r.id) reader.holder.held ∙ writes_none r.id request.flight.writing (outstanding request.flight) reader.reads
+            ∙ sym (after.writes ∙ writes_none r.id answered.flight.writing (outstanding answered.flight) reads);
+        reads = listed ∙ sym (after.reads ∙ reads_are r.id answered.flight.writing (came_of_next answered) (outstanding answered.flight) pieces reads left ∙ ap (λ n. open_reads r.id false n pieces) now);
+      }
 
   linked_read-last : r.last ≡ true → IsLinked r.id (after_r_beat state r).requests.live (after_r_beat state r).open_bursts
   linked_read-last is =
-      let reads = state.open_bursts.reads in
       let answered = closed_by state.requests.config.axi_bytes r request in
-      let after = left answered (after_read-last state.requests.config.axi_bytes r request is) reader.holder.has_id reader.holder.sound.sent in
       let whole : (came_of_next request == piece.len) ≡ true = sym reader.last ∙ is in
       let all : came_of_next request ≡ piece.len = eqb-true (came_of_next request) piece.len whole in
-      let none : came_of_next answered ≡ 0 = omega (arith, all, reader.more, reader.place, reader.holder.served.came) in
-      record {
-        writes = cc (linked.writes, reader.holder.held, reader.first, reader.next.less, after.writes, open_writes-reads r.id rest reader.alike);
-        reads =
-            rw (reads_less r.id reads (came_of_next request) piece reader.found whole, filter-without, linked.reads, reader.holder.held, reader.first)
-            (ap (open_reads r.id 0) (sym reader.next.less) ∙ ap (λ came. open_reads r.id came (outstanding answered.flight)) (sym none) ∙ sym after.reads);
-      }
+      linked_own answered 0 rest (after_read-last state.requests.config.axi_bytes r request is) reader.holder.has_id reader.holder.sound.sent reader.reads
+      (omega (arith, all, reader.more, reader.place, reader.holder.served.came)) reader.next.less
+      (rw (reads_less r.id state.open_bursts.reads (came_of_next request) piece reader.found whole, filter-without, before) refl)
 
   linked_read-more : r.last ≡ false → IsLinked r.id (after_r_beat state r).requests.live (after_r_beat state r).open_bursts
   linked_read-more is =
-      let reads = state.open_bursts.reads in
       let answered = counted_by state.requests.config.axi_bytes r request in
-      let after = left answered (after_read-more state.requests.config.axi_bytes r request is) reader.holder.has_id reader.holder.sound.sent in
       let part : (came_of_next request == piece.len) ≡ false = sym reader.last ∙ is in
-      let one : came_of_next answered ≡ came_of_next request + 1 = omega (arith, reader.place, reader.holder.served.came) in
-      record {
-        writes = cc (linked.writes, reader.holder.held, reader.first, after.writes);
-        reads =
-            cc (
-              reads_more r.id reads (came_of_next request) piece reader.found part reader.few,
-              filter-changed (read_of_id r.id) one_more reads (open_read r.id (came_of_next request) piece) reader.found (eq-eqb r.id r.id refl),
-              linked.reads,
-              reader.holder.held,
-              reader.first,
-              one,
-              after.reads,
-            );
-      }
+      let changed = filter-changed (read_of_id r.id) one_more state.open_bursts.reads (open_read r.id (came_of_next request) piece) reader.found (eq-eqb r.id r.id refl) in
+      linked_own answered (came_of_next request + 1) (piece ∷ rest) (after_read-more state.requests.config.axi_bytes r request is) reader.holder.has_id reader.holder.sound.sent reader.reads
+      (omega (arith, reader.place, reader.holder.served.came)) reader.first
+      (rw (reads_more r.id state.open_bursts.reads (came_of_next request) piece reader.found part reader.few, changed, before) refl)
 
   linked_read-own : (last : Bool) → r.last ≡ last → IsLinked r.id (after_r_beat state r).requests.live (after_r_beat state r).open_bursts
   linked_read-own true is = linked_read-last is

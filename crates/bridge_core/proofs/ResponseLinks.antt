@@ -1,12 +1,12 @@
 -- After an answer of the memory the outstanding bursts are those of the live requests: what settling a request leaves, and a B.
-use Rattle.std.proofs.Common.{◌≡◌, ◌≢◌, ℕ, ◌≤◌, Bool, true, false, not, List, length, refl, arith, inl, inr, ◌⊎◌}
+use Rattle.std.proofs.Common.{◌≡◌, ◌≢◌, ℕ, ◌≤◌, Bool, true, false, not, List, [], ◌∷◌, drop, length, refl, ap, sym, ◌∙◌, arith, inl, inr, ◌⊎◌}
 use Rattle.std.specs.Prelude.{None, Option, Some}
 use Rattle.std.specs.List.{filter}
 use Rattle.std.proofs.lemmas.Bool.{cases_eq, leb-true}
 use Rattle.std.proofs.lemmas.Bool.Decides.{nat_tests}
 use Rattle.bus_words.specs.Places.{change_first}
 use Rattle.bus_words.proofs.PlaceChanges.{find-without_first-none}
-use Rattle.bus_words.proofs.FoundChanges.{filter-without, filter-without-other, find-changed, find-changed-gone, find-changed-other, part-empty, part-next}
+use Rattle.bus_words.proofs.FoundChanges.{filter-without, filter-without-other, find-changed, find-changed-gone, find-changed-other, part-empty}
 use Rattle.bus_words.proofs.MappedPlaces.{length-filter-map}
 use Rattle.axi_beats.specs.declared.BBeat.{BBeat}
 use Rattle.axi_beats.specs.declared.Resp.{Resp}
@@ -16,9 +16,9 @@ use Rattle.flight_table.specs.LiveRequests.{finished, is_settled, planned, with_
 use Rattle.flight_table.specs.Order.{holds_id, is_id}
 use Rattle.responses.specs.Gathered.{after_b}
 use Rattle.bridge_core.specs.Bridge.{BridgeState, after_b_beat, b_fault}
-use Rattle.bridge_core.specs.Laws.{AreLinked, IsLinked, IsPartWay, IsSoundBridge, came_of, came_of_next, open_reads, open_writes, outstanding, outstanding_of}
+use Rattle.bridge_core.specs.Laws.{AreLinked, IsLinked, IsPartWay, IsSoundBridge, came_of_next, open_reads, open_writes, outstanding, reads_held, writes_held}
 use Rattle.bridge_core.specs.HeldRequests.{BridgedRequest, after_response, holder, holds, settled}
-use Rattle.bridge_core.proofs.AnswerLinks.{FindsWriter, finds_writer, open_reads-writes}
+use Rattle.bridge_core.proofs.AnswerLinks.{FindsWriter, finds_writer, reads_none, writes_are}
 
 -- ---- a request is settled
 
@@ -47,8 +47,15 @@ nothing_left request is sent = omega (arith, sent, leb-true (length (planned req
 
 -- the same as the request before it was settled
 pub record IsLeft (id : ℕ) (held : Option BridgedRequest) (request : BridgedRequest) : Type 0 where
-  pub writes : open_writes id (outstanding_of held) ≡ open_writes id (outstanding request.flight)
-  pub reads : open_reads id (came_of held) (outstanding_of held) ≡ open_reads id (came_of_next request) (outstanding request.flight)
+  pub writes : writes_held id held ≡ writes_held id (Some request)
+  pub reads : reads_held id held ≡ reads_held id (Some request)
+
+-- of no outstanding pieces there are none open
+pub no_writes : (id : ℕ) (write : Bool) → open_writes id write [] ≡ []
+no_writes id write = grind arith
+
+pub no_reads : (id : ℕ) (write : Bool) (came : ℕ) → open_reads id write came [] ≡ []
+no_reads id write came = grind arith
 
 -- the request that holds an ID, after an answer
 pub holds_it : (id : ℕ) (own : Option ℕ) → own ≡ Some id → is_id id own ≡ true
@@ -61,10 +68,12 @@ left_after id live change old answered held changed has sent one =
       | inl going ↦ rw (find-changed (holds id) change live old held (rw (changed, going.1) (holds_it id answered.flight.id has)), changed, going.1) (record { writes = refl; reads = refl })
       | inr at_end ↦
           let none = part-empty (planned answered.flight) answered.flight.answered answered.flight.sent (nothing_left answered at_end.answered sent) in
+          let no_write : [] ≡ writes_held id (Some answered) = rw none (sym (no_writes id answered.flight.writing)) in
+          let no_read : [] ≡ reads_held id (Some answered) = rw none (sym (no_reads id answered.flight.writing (came_of_next answered))) in
           elim at_end.becomes [
             | inl writes ↦
-                rw (find-changed (holds id) change live old held (rw (changed, writes.1) (holds_it id answered.flight.id has)), changed, writes.1) (record { writes = rw none refl; reads = rw none refl })
-            | inr ends ↦ rw (find-changed-gone (holds id) change live old held (rw (changed, ends) refl) one) (record { writes = rw none refl; reads = rw none refl })
+                rw (find-changed (holds id) change live old held (rw (changed, writes.1) (holds_it id answered.flight.id has)), changed, writes.1) (record { writes = no_write; reads = no_read })
+            | inr ends ↦ rw (find-changed-gone (holds id) change live old held (rw (changed, ends) refl) one) (record { writes = no_write; reads = no_read })
           ]
     ]
 
@@ -84,8 +93,8 @@ holder-other id other live change apart keeps =
 
 -- ---- how far the next read is
 
-pub part_way-zero : (bursts : List (Bool × Piece)) → IsPartWay 0 bursts
-part_way-zero bursts = grind arith
+pub part_way-zero : (write : Bool) (pieces : List Piece) → IsPartWay write 0 pieces
+part_way-zero write pieces = grind arith
 
 -- ---- a B
 
@@ -108,20 +117,13 @@ linked_response-own state b sound found =
     let flight = found.request.flight in
     let answered = answered_by b.resp found.request in
     let linked = sound.linked b.id in
-    let next = part-next (planned flight) flight.answered flight.sent (true, found.next.piece) found.next.rest found.next.is in
     let left = left_after b.id state.requests.live (after_response b.resp) found.request answered found.holder.held refl found.holder.has_id found.holder.sound.sent (one_holder state sound b.id) in
+    let before = linked.writes ∙ ap (writes_held b.id) found.holder.held ∙ writes_are b.id flight.writing (outstanding flight) (found.piece ∷ found.rest) found.writes found.first in
     record {
-      writes = cc (filter-without (write_of_id b.id) state.open_bursts.writes, found.next.is, next.less, left.writes, linked.writes, found.holder.held);
-      reads =
-          cc (
-            next.less,
-            found.next.is,
-            left.reads,
-            linked.reads,
-            found.holder.held,
-            open_reads-writes b.id (came_of_next answered) found.next.rest found.next.alike,
-            open_reads-writes b.id (came_of_next found.request) found.next.rest found.next.alike,
-          );
+      writes = filter-without (write_of_id b.id) state.open_bursts.writes ∙ ap (drop 1) before
+          ∙ sym (left.writes ∙ writes_are b.id flight.writing (outstanding answered.flight) found.rest found.writes found.next.less);
+      reads = linked.reads ∙ ap (reads_held b.id) found.holder.held ∙ reads_none b.id flight.writing (came_of_next found.request) (outstanding flight) found.writes
+          ∙ sym (left.reads ∙ reads_none b.id flight.writing (came_of_next answered) (outstanding answered.flight) found.writes);
     }
 
 linked_response-other : (state : BridgeState) (b : BBeat) (other : ℕ) → IsSoundBridge state → b.id ≢ other → IsLinked other (after_b_beat state b).requests.live (after_b_beat state b).open_bursts

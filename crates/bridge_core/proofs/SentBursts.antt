@@ -1,8 +1,9 @@
 -- The burst that goes next is legal, and breaks no rule of the port.
-use Rattle.std.proofs.Common.{◌≡◌, ℕ, ◌-◌, ◌^◌, ◌<◌, ◌≤◌, Bool, true, false, List, [], ◌∷◌, length, take, Option, Some, None, refl, ap, sym, ◌∙◌, arith, subst, length-drop, length-take}
+use Rattle.std.proofs.Common.{◌≡◌, ℕ, ◌-◌, ◌^◌, ◌<◌, ◌≤◌, Bool, true, List, [], ◌∷◌, length, take, Option, Some, None, refl, ap, sym, ◌∙◌, arith, subst, length-drop, length-take}
 use Rattle.std.specs.Prelude.{if◌then◌else◌, unwrap_or}
 use Rattle.std.specs.List.{range_with_len, slice_get}
 use Rattle.std.specs.Option.{option_and_then}
+use Rattle.std.proofs.lemmas.List.{length-map}
 use Rattle.std.proofs.lemmas.List.Elements.{All-map}
 use Rattle.tl_messages.specs.Operations.{has_data}
 use Rattle.tl_messages.specs.Requests.{HeldMessage, byte_given, bytes_given, given_in, request_of}
@@ -22,19 +23,19 @@ use Rattle.burst_plan.specs.PlannedBursts.{AreBytes}
 use Rattle.burst_plan.specs.declared.Piece.{Piece}
 use Rattle.burst_plan.specs.declared.Region.{Region}
 use Rattle.burst_plan.proofs.WriteLaws.{puts_given_bytes, reads_are_legal}
-use Rattle.flight_table.specs.LiveRequests.{LiveRequest, next_burst, pieces_planned, planned}
+use Rattle.flight_table.specs.LiveRequests.{LiveRequest, next_piece, pieces_planned, planned}
 use Rattle.flight_table.proofs.PhaseLaws.{piece_planned}
 use Rattle.flight_table.proofs.Steps.{takes_id}
 use Rattle.bridge_core.specs.Bridge.{BridgeState}
 use Rattle.config.specs.Configs.{axi_port_of, is_valid}
-use Rattle.bridge_core.specs.HeldRequests.{table_limits_of, BridgedRequest, RequestTable, flights_of, holder}
-use Rattle.bridge_core.specs.Laws.{IsLinked, IsServed, IsSoundBridge, IsSoundRequestTable, came_of, open_reads, open_writes, outstanding, outstanding_of}
+use Rattle.bridge_core.specs.HeldRequests.{table_limits_of, BridgedRequest, RequestTable, flights_of}
+use Rattle.bridge_core.specs.Laws.{IsLinked, IsServed, IsSoundBridge, IsSoundRequestTable, came_of_next, open_reads, open_write, open_writes, outstanding}
 use Rattle.bridge_core.specs.Sending.{Sending, burst_of_piece, bytes_to_write, bytes_written, next_sending}
 use Rattle.config.specs.declared.Config.{Config}
 use Rattle.bridge_core.proofs.NextSending.{next_found, next_served, next_sound}
 use Rattle.bridge_core.proofs.ReadCounts.{config_parts, range_served}
 use Rattle.bridge_core.proofs.ReadCounts as counts
-use Rattle.bridge_core.proofs.SentLinks.{taken_by}
+use Rattle.bridge_core.proofs.SentLinks.{IsTakenBy, taken_by}
 
 -- ---- the bytes that a request writes are bytes
 
@@ -74,44 +75,50 @@ plannable config regions request range valid map_of served plan =
 abbrev pub IsListed : List Piece → Piece → Type 0
 IsListed parts piece = (k : ℕ) × (slice_get parts k ≡ Some piece)
 
-pub piece_of_plan : (flight : LiveRequest) (range : PlannedRange) (write : Bool) (piece : Piece) → flight.plan ≡ Some range → next_burst flight ≡ Some (write, piece) → IsListed (pieces range) piece
-piece_of_plan flight range write piece plan next =
-    (flight.sent, ap (λ (p : Option PlannedRange). slice_get (pieces_planned p) flight.sent) (sym plan) ∙ piece_planned flight flight.sent write piece next)
+pub piece_of_plan : (flight : LiveRequest) (range : PlannedRange) (piece : Piece) → flight.plan ≡ Some range → next_piece flight ≡ Some piece → IsListed (pieces range) piece
+piece_of_plan flight range piece plan next =
+    (flight.sent, ap (λ (p : Option PlannedRange). slice_get (pieces_planned p) flight.sent) (sym plan) ∙ piece_planned flight flight.sent piece next)
 
 -- ---- so it is legal
 
-burst_legal : (id : ℕ) (request : BridgedRequest) (range : PlannedRange) (write : Bool) (piece : Piece) → IsPlannable range → IsListed (pieces range) piece
-    → IsLegal range.bus_bytes (burst_of_piece id request range (write, piece))
-burst_legal id request range true piece has_plan (k, listed) =
-    (puts_given_bytes range (bytes_to_write request) has_plan (written_are_bytes request.message request.message.operation _)).legal k id piece listed
-burst_legal id request range false piece has_plan (k, listed) = reads_are_legal range has_plan k id piece listed
+burst_legal : (id : ℕ) (request : BridgedRequest) (range : PlannedRange) (piece : Piece) → IsPlannable range → IsListed (pieces range) piece → IsLegal range.bus_bytes (burst_of_piece id request range piece)
+burst_legal id request range piece has_plan (k, listed) =
+    let writes = (puts_given_bytes range (bytes_to_write request) has_plan (written_are_bytes request.message request.message.operation _)).legal k id piece listed in
+    grind (arith, writes, reads_are_legal range has_plan k id piece listed)
 
 pub sent_legal : (table : RequestTable) (sending : Sending) → IsSoundRequestTable table → next_sending table ≡ Some sending → IsLegal table.config.axi_bytes sending.burst
 sent_legal table sending sound is =
     let next = next_found table sending is in
     let served = next_served table sending sound next in
     let (has_plan, bus) = plannable table.config table.regions sending.request next.range sound.config served.pages served next.plan in
-    let legal = burst_legal sending.id sending.request next.range next.write next.piece has_plan (piece_of_plan sending.request.flight next.range next.write next.piece next.plan next.next) in
-    subst (IsLegal table.config.axi_bytes) (sym next.burst) (rw bus at legal)
+    let legal = burst_legal sending.id sending.request next.range next.piece has_plan (piece_of_plan sending.request.flight next.range next.piece next.plan next.next) in
+    rw next.burst (subst (λ bus_bytes. IsLegal bus_bytes (burst_of_piece sending.id sending.request next.range next.piece)) bus legal)
 
 -- ---- its ID has room for it
 
-pub id_of_piece : (id : ℕ) (request : BridgedRequest) (range : PlannedRange) (burst : Bool × Piece) → id_of (burst_of_piece id request range burst) ≡ id
-id_of_piece id request range burst = grind arith
+pub id_of_piece : (id : ℕ) (request : BridgedRequest) (range : PlannedRange) (piece : Piece) → id_of (burst_of_piece id request range piece) ≡ id
+id_of_piece id request range piece = grind arith
 
-length_open_writes : (id : ℕ) (bursts : List (Bool × Piece)) → length (open_writes id bursts) ≤ length bursts
-length_open_writes id [] = omega arith
-length_open_writes id (burst ∷ bursts) = grind (arith, length_open_writes id bursts)
+length_open_writes : (id : ℕ) (write : Bool) (pieces : List Piece) → length (open_writes id write pieces) ≤ length pieces
+length_open_writes id write pieces = grind (arith, length-map pieces (open_write id))
 
-length_open_reads : (id came : ℕ) (bursts : List (Bool × Piece)) → length (open_reads id came bursts) ≤ length bursts
-length_open_reads id came [] = omega arith
-length_open_reads id came (burst ∷ bursts) = grind (arith, length_open_reads id came bursts, length_open_reads id 0 bursts)
+length_open_reads : (id : ℕ) (write : Bool) (came : ℕ) (pieces : List Piece) → length (open_reads id write came pieces) ≤ length pieces
+length_open_reads id write came [] = grind arith
+length_open_reads id write came (piece ∷ pieces) = grind (arith, length_open_reads id write 0 pieces)
 
--- no more bursts of an ID are open on a side than its holder has outstanding
-few_beside : (id : ℕ) (live : List BridgedRequest) (open_bursts : OpenBursts) (request : BridgedRequest) (range : PlannedRange) (burst : Bool × Piece) → IsLinked id live open_bursts
-    → outstanding_beside open_bursts (burst_of_piece id request range burst) ≤ length (outstanding_of (holder id live))
-few_beside id live open_bursts request range (true, piece) linked = omega (arith, ap length linked.writes, length_open_writes id (outstanding_of (holder id live)))
-few_beside id live open_bursts request range (false, piece) linked = omega (arith, ap length linked.reads, length_open_reads id (came_of (holder id live)) (outstanding_of (holder id live)))
+-- no more bursts of its ID are open on a side than a request has outstanding
+few_beside : (id : ℕ) (live : List BridgedRequest) (open_bursts : OpenBursts) (request : BridgedRequest) (range : PlannedRange) (piece : Piece) → IsLinked id live open_bursts → IsTakenBy id live request
+    → outstanding_beside open_bursts (burst_of_piece id request range piece) ≤ length (outstanding request.flight)
+few_beside id live open_bursts request range piece linked taken =
+    let writes = ap length (linked.writes ∙ taken.writes) in
+    let reads = ap length (linked.reads ∙ taken.reads) in
+    grind (
+      arith,
+      writes,
+      reads,
+      length_open_writes id request.flight.writing (outstanding request.flight),
+      length_open_reads id request.flight.writing (came_of_next request) (outstanding request.flight),
+    )
 
 pub few_outstanding : (flight : LiveRequest) → length (outstanding flight) ≤ flight.sent - flight.answered
 few_outstanding flight = omega (arith, length-drop flight.answered (take flight.sent (planned flight)), length-take flight.sent (planned flight))
@@ -128,10 +135,10 @@ sent_within state sending sound is =
     let next = next_found requests sending is in
     let flight = sending.request.flight in
     let takes = takes_id (table_limits_of requests.config) (flights_of requests.live) flight sending.id flight.id refl (next_sound requests sending sound.requests next).id next.id in
-    let beside = few_beside sending.id requests.live state.open_bursts sending.request next.range (next.write, next.piece) (sound.linked sending.id) in
+    let beside = few_beside sending.id requests.live state.open_bursts sending.request next.range next.piece (sound.linked sending.id) (taken_by requests sending sound.requests next) in
     rw next.burst (record {
-      id = omega (arith, id_of_piece sending.id sending.request next.range (next.write, next.piece), takes.below);
-      depth = omega (arith, beside, ap length (taken_by requests sending sound.requests next).bursts, few_outstanding flight, next.ready.depth);
+      id = omega (arith, id_of_piece sending.id sending.request next.range next.piece, takes.below);
+      depth = omega (arith, beside, few_outstanding flight, next.ready.depth);
     })
 
 -- ---- so it breaks no rule

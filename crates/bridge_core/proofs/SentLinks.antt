@@ -1,5 +1,5 @@
 -- After a burst was sent the outstanding bursts are those of the live requests.
-use Rattle.std.proofs.Common.{◌≡◌, ℕ, suc, ◌+◌, ◌==◌, ◌<◌, ◌≤◌, Bool, true, false, List, [], ◌∷◌, ◌++◌, map, length, drop, take, Option, Some, None, refl, ap, sym, ◌∙◌, arith, subst, inl, inr, ◌⊎◌}
+use Rattle.std.proofs.Common.{◌≡◌, ℕ, suc, ◌+◌, ◌==◌, ◌<◌, ◌≤◌, Bool, true, false, List, [], ◌∷◌, ◌++◌, map, length, drop, take, Option, Some, None, refl, ap, sym, ◌∙◌, arith, inl, inr, ◌⊎◌}
 use Rattle.std.specs.Prelude.{if◌then◌else◌}
 use Rattle.std.specs.List.{AllByRecursion, filter, find, list_any, slice_get}
 use Rattle.std.proofs.lemmas.Bool.{eq-eqb}
@@ -14,18 +14,18 @@ use Rattle.bus_words.proofs.FoundChanges.{find-alone, find-changed-found, find-c
 use Rattle.burst_plan.specs.Pieces.{PlannedRange}
 use Rattle.burst_plan.specs.declared.Piece.{Piece}
 use Rattle.flight_table.specs.Laws.{AreRising, IsSoundRequest}
-use Rattle.flight_table.specs.LiveRequests.{LiveRequest, next_burst, planned}
+use Rattle.flight_table.specs.LiveRequests.{LiveRequest, next_piece, planned}
 use Rattle.flight_table.specs.Order.{holds_id}
 use Rattle.flight_table.specs.declared.TableLimits.{TableLimits}
 use Rattle.flight_table.proofs.Steps.{takes_id}
-use Rattle.axi_checker.specs.OpenBursts.{OpenBursts, read_of_id, write_of_id}
+use Rattle.axi_checker.specs.OpenBursts.{OpenBursts, OpenRead, OpenWrite, read_of_id, write_of_id}
 use Rattle.axi_checker.specs.Rules.{open_with_burst}
 use Rattle.bridge_core.specs.Bridge.{BridgeState, after_sent}
 use Rattle.bridge_core.specs.HeldRequests.{table_limits_of, BridgedRequest, RequestTable, after_sending, flights_of, holder, holds, is_numbered, may_send}
-use Rattle.bridge_core.specs.Laws.{AreLinked, IsLinked, IsPartWay, IsSoundBridge, IsSoundRequestTable, came_of, came_of_next, open_reads, open_writes, outstanding, outstanding_of}
+use Rattle.bridge_core.specs.Laws.{AreLinked, IsLinked, IsPartWay, IsSoundBridge, IsSoundRequestTable, came_of_next, open_read, open_reads, open_writes, outstanding, reads_held, writes_held}
 use Rattle.bridge_core.specs.Sending.{Sending, burst_of_piece, next_sending}
 use Rattle.bridge_core.proofs.NextSending.{IsNext, next_found, next_served, next_sound}
-use Rattle.bridge_core.proofs.ResponseLinks.{part_way-zero}
+use Rattle.bridge_core.proofs.ResponseLinks.{no_reads, no_writes, part_way-zero}
 
 -- ---- searches among live requests
 
@@ -61,98 +61,64 @@ drop_take_more xs a s x below there =
     let inside : a ≤ length (take s xs) = rw (length-take-le s xs (omega (arith, within))) below in
     ap (λ n. drop a (take n xs)) one ∙ ap (drop a) (take-suc xs s x within) ∙ drop-append-le a (take s xs) _ inside ∙ ap (λ y. drop a (take s xs) ++ y ∷ []) (get_or_from_slice_get xs s x x there)
 
-open_writes-append : (id : ℕ) (bursts : List (Bool × Piece)) (burst : Bool × Piece) → open_writes id (bursts ++ burst ∷ []) ≡ open_writes id bursts ++ open_writes id (burst ∷ [])
-open_writes-append id [] burst = refl
-open_writes-append id (first ∷ bursts) burst = grind (arith, open_writes-append id bursts burst)
+open_writes-append : (id : ℕ) (write : Bool) (pieces : List Piece) (piece : Piece) → open_writes id write (pieces ++ piece ∷ []) ≡ open_writes id write pieces ++ open_writes id write (piece ∷ [])
+open_writes-append id write [] piece = grind arith
+open_writes-append id write (first ∷ pieces) piece = grind (arith, open_writes-append id write pieces piece)
 
-open_reads-append : (id came : ℕ) (bursts : List (Bool × Piece)) (burst : Bool × Piece) → IsPartWay came bursts → open_reads id came (bursts ++ burst ∷ []) ≡ open_reads id came bursts ++ open_reads id 0 (burst ∷ [])
-open_reads-append id came [] burst way = ap (λ n. open_reads id n (burst ∷ [])) way
-open_reads-append id came (first ∷ bursts) burst way = grind (arith, open_reads-append id 0 bursts burst (part_way-zero bursts))
+open_reads-append : (id : ℕ) (write : Bool) (came : ℕ) (pieces : List Piece) (piece : Piece) → IsPartWay write came pieces
+    → open_reads id write came (pieces ++ piece ∷ []) ≡ open_reads id write came pieces ++ open_reads id write 0 (piece ∷ [])
+open_reads-append id true came pieces piece way = refl
+open_reads-append id false came [] piece way = ap (λ n. open_reads id false n (piece ∷ [])) way
+open_reads-append id false came (first ∷ pieces) piece way = ap (λ reads. open_read id came first ∷ reads) (open_reads-append id false 0 pieces piece (part_way-zero false pieces))
 
-pub outstanding_sent : (id : ℕ) (request : BridgedRequest) (burst : Bool × Piece) → request.flight.answered ≤ request.flight.sent → next_burst request.flight ≡ Some burst
-    → outstanding (after_sending id request).flight ≡ outstanding request.flight ++ burst ∷ []
-outstanding_sent id request burst below next = drop_take_more (planned request.flight) request.flight.answered request.flight.sent burst below next
+pub outstanding_sent : (id : ℕ) (request : BridgedRequest) (piece : Piece) → request.flight.answered ≤ request.flight.sent → next_piece request.flight ≡ Some piece
+    → outstanding (after_sending id request).flight ≡ outstanding request.flight ++ piece ∷ []
+outstanding_sent id request piece below next = drop_take_more (planned request.flight) request.flight.answered request.flight.sent piece below next
 
 -- a burst as it stands open
-writes_after : (open_bursts : OpenBursts) (id : ℕ) (request : BridgedRequest) (range : PlannedRange) (burst : Bool × Piece)
-    → (open_with_burst open_bursts (burst_of_piece id request range burst)).writes ≡ open_bursts.writes ++ open_writes id (burst ∷ [])
-writes_after open_bursts id request range burst = grind (arith, append-nil open_bursts.writes)
+module _ (id : ℕ) (request : BridgedRequest) (range : PlannedRange) (piece : Piece) (open_bursts : OpenBursts) where
+  abbrev one_write : List OpenWrite
+  one_write = open_writes id request.flight.writing (piece ∷ [])
 
-reads_after : (open_bursts : OpenBursts) (id : ℕ) (request : BridgedRequest) (range : PlannedRange) (burst : Bool × Piece)
-    → (open_with_burst open_bursts (burst_of_piece id request range burst)).reads ≡ open_bursts.reads ++ open_reads id 0 (burst ∷ [])
-reads_after open_bursts id request range burst = grind (arith, append-nil open_bursts.reads)
+  abbrev one_read : List OpenRead
+  one_read = open_reads id request.flight.writing 0 (piece ∷ [])
 
--- it is of its ID alone
-writes_of_id : (id j : ℕ) (b : Bool) (burst : Bool × Piece) → (id == j) ≡ b → filter (write_of_id j) (open_writes id (burst ∷ [])) ≡ (if b then open_writes id (burst ∷ []) else [])
-writes_of_id id j b burst is = grind arith
+  abbrev with_it : OpenBursts
+  with_it = open_with_burst open_bursts (burst_of_piece id request range piece)
 
-reads_of_id : (id j : ℕ) (b : Bool) (burst : Bool × Piece) → (id == j) ≡ b → filter (read_of_id j) (open_reads id 0 (burst ∷ [])) ≡ (if b then open_reads id 0 (burst ∷ []) else [])
-reads_of_id id j b burst is = grind arith
+  writes_after : with_it.writes ≡ open_bursts.writes ++ one_write
+  writes_after = grind (arith, append-nil open_bursts.writes)
+
+  reads_after : with_it.reads ≡ open_bursts.reads ++ one_read
+  reads_after = grind (arith, append-nil open_bursts.reads)
+
+  -- it is of its ID alone
+  writes_of_id : (j : ℕ) (b : Bool) → (id == j) ≡ b → filter (write_of_id j) one_write ≡ (if b then one_write else [])
+  writes_of_id j b is = grind arith
+
+  reads_of_id : (j : ℕ) (b : Bool) → (id == j) ≡ b → filter (read_of_id j) one_read ≡ (if b then one_read else [])
+  reads_of_id j b is = grind arith
 
 -- ---- the link
-
--- the ID of the burst: the request holds it afterwards, and has one more outstanding
-linked-own : (id : ℕ) (live after : List BridgedRequest) (request : BridgedRequest) (open_bursts : OpenBursts) (range : PlannedRange) (burst : Bool × Piece) → IsLinked id live open_bursts
-    → outstanding_of (holder id live) ≡ outstanding request.flight → came_of (holder id live) ≡ came_of_next request → IsPartWay (came_of_next request) (outstanding request.flight)
-    → holder id after ≡ Some (after_sending id request) → outstanding (after_sending id request).flight ≡ outstanding request.flight ++ burst ∷ []
-    → IsLinked id after (open_with_burst open_bursts (burst_of_piece id request range burst))
-linked-own id live after request open_bursts range burst linked bursts came way held more =
-    record {
-      writes =
-          cc (
-            writes_after open_bursts id request range burst,
-            filter-append (write_of_id id) open_bursts.writes (open_writes id (burst ∷ [])),
-            writes_of_id id id true burst (eq-eqb id id refl),
-            linked.writes,
-            open_writes-append id (outstanding request.flight) burst,
-          );
-      reads =
-          cc (
-            reads_after open_bursts id request range burst,
-            filter-append (read_of_id id) open_bursts.reads (open_reads id 0 (burst ∷ [])),
-            reads_of_id id id true burst (eq-eqb id id refl),
-            linked.reads,
-            open_reads-append id (came_of_next request) (outstanding request.flight) burst way,
-          );
-    }
-
--- another ID
-linked-other : (id j : ℕ) (live after : List BridgedRequest) (request : BridgedRequest) (open_bursts : OpenBursts) (range : PlannedRange) (burst : Bool × Piece) → IsLinked j live open_bursts
-    → (id == j) ≡ false → holder j after ≡ holder j live → IsLinked j after (open_with_burst open_bursts (burst_of_piece id request range burst))
-linked-other id j live after request open_bursts range burst linked other held =
-    record {
-      writes =
-          cc (
-            writes_after open_bursts id request range burst,
-            filter-append (write_of_id j) open_bursts.writes (open_writes id (burst ∷ [])),
-            writes_of_id id j false burst other,
-            append-nil (filter (write_of_id j) open_bursts.writes),
-            linked.writes,
-          );
-      reads =
-          cc (
-            reads_after open_bursts id request range burst,
-            filter-append (read_of_id j) open_bursts.reads (open_reads id 0 (burst ∷ [])),
-            reads_of_id id j false burst other,
-            append-nil (filter (read_of_id j) open_bursts.reads),
-            linked.reads,
-          );
-    }
 
 -- who holds the ID of the next burst: its request, or nobody, and then none of the request's bursts is outstanding
 pub record IsTakenBy (id : ℕ) (live : List BridgedRequest) (request : BridgedRequest) : Type 0 where
   pub held : (holder id live ≡ None) ⊎ (holder id live ≡ Some request)
-  pub bursts : outstanding_of (holder id live) ≡ outstanding request.flight
-  pub came : came_of (holder id live) ≡ came_of_next request
+  pub free : holder id live ≡ None → outstanding request.flight ≡ []
+  pub writes : writes_held id (holder id live) ≡ writes_held id (Some request)
+  pub reads : reads_held id (holder id live) ≡ reads_held id (Some request)
 
 held_by : (id : ℕ) (live : List BridgedRequest) (request : BridgedRequest) → holder id live ≡ Some request → IsTakenBy id live request
-held_by id live request is = record { held = inr is; bursts = ap outstanding_of is; came = ap came_of is }
+held_by id live request is = record { held = inr is; free = λ none. absurd (cc (none, is)); writes = ap (writes_held id) is; reads = ap (reads_held id) is }
 
-free_for : (id : ℕ) (live : List BridgedRequest) (request : BridgedRequest) → holder id live ≡ None → outstanding request.flight ≡ [] → IsPartWay (came_of_next request) (outstanding request.flight)
-    → IsTakenBy id live request
-free_for id live request is none way =
-    let came : came_of_next request ≡ 0 = subst (IsPartWay (came_of_next request)) none way in
-    record { held = inl is; bursts = ap outstanding_of is ∙ sym none; came = ap came_of is ∙ sym came }
+free_for : (id : ℕ) (live : List BridgedRequest) (request : BridgedRequest) → holder id live ≡ None → outstanding request.flight ≡ [] → IsTakenBy id live request
+free_for id live request is none =
+    record {
+      held = inl is;
+      free = λ same. none;
+      writes = rw (is, none) (sym (no_writes id request.flight.writing));
+      reads = rw (is, none) (sym (no_reads id request.flight.writing _));
+    }
 
 pub none_sent : (limits : TableLimits) (accepted : ℕ) (flight : LiveRequest) → IsSoundRequest limits accepted flight → flight.done ≡ false → flight.id ≡ None → flight.sent ≡ 0
 none_sent limits accepted flight sound undone none = grind (arith, sound.holds undone)
@@ -170,7 +136,7 @@ taken_by table sending sound next = by_id sending.request.flight.id refl
         let takes = takes_id (table_limits_of table.config) (flights_of table.live) sending.request.flight sending.id sending.request.flight.id refl each.id next.id in
         elim takes.own [
           | inl held ↦ absurd (grind (arith, none, held))
-          | inr free ↦ free_for sending.id table.live sending.request (none_holds (holds_id sending.id) table.live free) idle (next_served table sending sound next).next
+          | inr free ↦ free_for sending.id table.live sending.request (none_holds (holds_id sending.id) table.live free) idle
         ]
     by_id (Some held) some =
         let same : held ≡ sending.id = grind (arith, next.id, some) in
@@ -182,6 +148,56 @@ taken_by table sending sound next = by_id sending.request.flight.id refl
 pub holds_no_other : (table : RequestTable) (sending : Sending) (j : ℕ) → IsNext table sending → (sending.id == j) ≡ false → holds j sending.request ≡ false
 holds_no_other table sending j next other = grind (arith, nat_tests, next.id)
 
+-- ---- the link
+
+module _ (id : ℕ) (live after : List BridgedRequest) (request : BridgedRequest) (open_bursts : OpenBursts) (range : PlannedRange) (piece : Piece) where
+  -- the ID of the burst: the request holds it afterwards, and has one more outstanding
+  linked-own : IsLinked id live open_bursts → IsTakenBy id live request → IsPartWay request.flight.writing (came_of_next request) (outstanding request.flight) → holder id after ≡ Some (after_sending id request)
+      → outstanding (after_sending id request).flight ≡ outstanding request.flight ++ piece ∷ [] → IsLinked id after (with_it id request range piece open_bursts)
+  linked-own linked taken way held more =
+      record {
+        writes =
+            cc (
+              writes_after id request range piece open_bursts,
+              filter-append (write_of_id id) open_bursts.writes (one_write id request range piece open_bursts),
+              writes_of_id id request range piece open_bursts id true (eq-eqb id id refl),
+              linked.writes,
+              taken.writes,
+              open_writes-append id request.flight.writing (outstanding request.flight) piece,
+            );
+        reads =
+            cc (
+              reads_after id request range piece open_bursts,
+              filter-append (read_of_id id) open_bursts.reads (one_read id request range piece open_bursts),
+              reads_of_id id request range piece open_bursts id true (eq-eqb id id refl),
+              linked.reads,
+              taken.reads,
+              open_reads-append id request.flight.writing (came_of_next request) (outstanding request.flight) piece way,
+            );
+      }
+
+  -- another ID
+  linked-other : (j : ℕ) → IsLinked j live open_bursts → (id == j) ≡ false → holder j after ≡ holder j live → IsLinked j after (with_it id request range piece open_bursts)
+  linked-other j linked other held =
+      record {
+        writes =
+            cc (
+              writes_after id request range piece open_bursts,
+              filter-append (write_of_id j) open_bursts.writes (one_write id request range piece open_bursts),
+              writes_of_id id request range piece open_bursts j false other,
+              append-nil (filter (write_of_id j) open_bursts.writes),
+              linked.writes,
+            );
+        reads =
+            cc (
+              reads_after id request range piece open_bursts,
+              filter-append (read_of_id j) open_bursts.reads (one_read id request range piece open_bursts),
+              reads_of_id id request range piece open_bursts j false other,
+              append-nil (filter (read_of_id j) open_bursts.reads),
+              linked.reads,
+            );
+      }
+
 pub linked_sent : (state : BridgeState) (sending : Sending) → IsSoundBridge state → next_sending state.requests ≡ Some sending → AreLinked (after_sent state sending).requests.live (after_sent state sending).open_bursts
 linked_sent state sending sound is id =
     let requests = state.requests in
@@ -192,12 +208,12 @@ linked_sent state sending sound is id =
       | inl same ↦
           let taken = taken_by requests sending sound.requests next in
           rw (next.burst, ← same.1)
-          (linked-own sending.id requests.live (after_sent state sending).requests.live sending.request state.open_bursts next.range (next.write, next.piece) (sound.linked sending.id) taken.bursts taken.came
+          (linked-own sending.id requests.live (after_sent state sending).requests.live sending.request state.open_bursts next.range next.piece (sound.linked sending.id) taken
           (next_served requests sending sound.requests next).next
           (find-changed-found (holds sending.id) number (after_sending sending.id) requests.live sending.request by_number (eq-eqb sending.id sending.id refl) taken.held)
-          (outstanding_sent sending.id sending.request (next.write, next.piece) (next_sound requests sending sound.requests next).answered next.next))
+          (outstanding_sent sending.id sending.request next.piece (next_sound requests sending sound.requests next).answered next.next))
       | inr other ↦
           rw next.burst
-          (linked-other sending.id id requests.live (after_sent state sending).requests.live sending.request state.open_bursts next.range (next.write, next.piece) (sound.linked id) other.0
+          (linked-other sending.id requests.live (after_sent state sending).requests.live sending.request state.open_bursts next.range next.piece id (sound.linked id) other.0
           (find-changed-unseen (holds id) number (after_sending sending.id) requests.live sending.request by_number (holds_no_other requests sending id next other.0) other.0))
     ]

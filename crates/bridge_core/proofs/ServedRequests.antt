@@ -18,9 +18,9 @@ use Rattle.burst_plan.specs.Pieces.{PlannedRange, pieces}
 use Rattle.burst_plan.specs.declared.Piece.{Piece}
 use Rattle.burst_plan.specs.declared.Region.{Region}
 use Rattle.flight_table.specs.Laws.{IsSoundRequest}
-use Rattle.flight_table.specs.LiveRequests.{LiveRequest, bursts_of, finished, reads_then_writes, is_settled, plan_for, planned, read_pieces, with_answered, with_write}
+use Rattle.flight_table.specs.LiveRequests.{LiveRequest, finished, reads_then_writes, is_settled, plan_for, planned, read_pieces, with_answered, with_write}
 use Rattle.flight_table.specs.declared.TableLimits.{TableLimits}
-use Rattle.flight_table.proofs.PhaseLaws.{length_bursts, length_reading, length_writing, read_at, write_at}
+use Rattle.flight_table.proofs.PhaseLaws.{length_reading, length_writing}
 use Rattle.responses.specs.Gathered.{Gathering, after_b, after_r, old_value, reads_of}
 use Rattle.responses.specs.Gathered as gathered
 use Rattle.config.specs.Configs.{is_valid, port_of}
@@ -53,6 +53,17 @@ found_is_atomic config regions request gathering of_message some =
     let atomic : gathered.is_atomic request.message.operation ≡ true = grind (arith, some) in
     rw of_message.operation (atomic_both request.message.operation atomic)
 
+-- ---- how far its next read is
+
+part_way-none : (write : Bool) (came : ℕ) (pieces : List Piece) → pieces ≡ [] → IsPartWay write came pieces → came ≡ 0
+part_way-none write came pieces none part = grind (arith, none, part)
+
+part_way-writes : (write : Bool) (came : ℕ) (pieces : List Piece) → write ≡ true → IsPartWay write came pieces → came ≡ 0
+part_way-writes write came pieces writes part = rw writes at part
+
+part_way-reads : (write : Bool) (came : ℕ) (pieces rest : List Piece) (piece : Piece) → write ≡ false → pieces ≡ piece ∷ rest → came ≤ piece.len → IsPartWay write came pieces
+part_way-reads write came pieces rest piece reads is part = rw (reads, is) part
+
 -- ---- an answer was counted, and the request is settled
 
 -- a request before it is settled: what is served of it already
@@ -63,7 +74,7 @@ pub record IsCounted (config : Config) (regions : List Region) (request : Bridge
   pub live : request.flight.done ≡ false
   pub found : reads_then_writes request.flight ≡ true → request.flight.writing ≡ true → is_settled request.flight ≡ false → IsSome (value_found request)
   pub came : beats_in (answered_pieces request.flight) ≤ request.gathering.came
-  pub next : IsPartWay (came_of_next request) (outstanding request.flight)
+  pub next : IsPartWay request.flight.writing (came_of_next request) (outstanding request.flight)
   pub answered : request.flight.answered ≤ length (planned request.flight)
   pub sent : request.flight.sent ≤ length (planned request.flight)
   pub has : HasPlan config request
@@ -82,7 +93,8 @@ module _ (config : Config) (regions : List Region) (request : BridgedRequest) (v
       let all = leb-true (length (planned request.flight)) request.flight.answered settles in
       let whole = reads_came request.flight isnt (omega (arith, all, length_reading request.flight isnt)) in
       let some : 0 < length (planned after.flight) = omega (arith, length_writing after.flight refl, plan.writes) in
-      let none : came_of_next request ≡ 0 = rw (part-empty (planned request.flight) request.flight.answered request.flight.sent (omega (arith, counted.sent, all))) at counted.next in
+      let empty = part-empty (planned request.flight) request.flight.answered request.flight.sent (omega (arith, counted.sent, all)) in
+      let none = part_way-none request.flight.writing (came_of_next request) (outstanding request.flight) empty counted.next in
       let came : beats_in (answered_pieces after.flight) ≤ after.gathering.came = rw (← whole) counted.came in
       let next : came_of_next after ≡ 0 = rw (← whole) none in
       let done = lt-leb (length (planned after.flight)) 0 some in
@@ -106,10 +118,10 @@ has_course : (operation : Operation) (plan : Option PlannedRange) (range : Plann
 has_course operation plan range is = grind arith
 
 some_planned : (replies carries : Bool) (parts : List Piece) → (replies || carries) ≡ true → 1 ≤ length parts
-    → 0 < length (bursts_of (not replies) (if not replies then (if carries then parts else []) else (if replies then parts else [])))
-some_planned replies carries parts either some = grind (arith, length_bursts false parts, length_bursts true parts)
+    → 0 < length (if not replies then (if carries then parts else []) else (if replies then parts else []))
+some_planned replies carries parts either some = grind arith
 
-none_planned : (replies carries : Bool) → length (bursts_of (not replies) (if not replies then (if carries then [] else []) else (if replies then [] else []))) ≡ 0
+none_planned : (replies carries : Bool) → length {A = Piece} (if not replies then (if carries then [] else []) else (if replies then [] else [])) ≡ 0
 none_planned replies carries = grind arith
 
 -- an atomic reads at first
@@ -138,7 +150,7 @@ served_new table message valid pages sound =
       found = λ atomic is live. absurd (atomic_first (reply_has_data message.operation) (has_data message.operation) atomic is);
       failed = λ atomic isnt over. failed_by atomic over plan refl;
       came = grind arith;
-      next = omega arith;
+      next = grind arith;
     }
   where
     fresh : LiveRequest
@@ -174,22 +186,19 @@ part_begins (y ∷ ys) from zero x there within = absurd (omega (arith, within))
 part_begins (y ∷ ys) zero (suc to) x there within = record { rest = take to ys; is = cc }
 part_begins (y ∷ ys) (suc from) (suc to) x there within = part_begins ys from to x there (omega (arith, within))
 
-same_first : (came : ℕ) (burst : Bool × Piece) (rest more : List (Bool × Piece)) → IsPartWay came (burst ∷ rest) → IsPartWay came (burst ∷ more)
-same_first came burst rest more part = grind arith
-
-part_way_more : (bursts : List (Bool × Piece)) (from to came : ℕ) → IsPartWay came (drop from (take to bursts)) → IsPartWay came (drop from (take (to + 1) bursts))
-part_way_more bursts from to came part = by_part (drop from (take to bursts)) refl part
+part_way_more : (write : Bool) (pieces : List Piece) (from to came : ℕ) → IsPartWay write came (drop from (take to pieces)) → IsPartWay write came (drop from (take (to + 1) pieces))
+part_way_more true pieces from to came part = part
+part_way_more false pieces from to came part = by_part (drop from (take to pieces)) refl part
   where
-    by_part : (parts : List (Bool × Piece)) → drop from (take to bursts) ≡ parts → IsPartWay came parts → IsPartWay came (drop from (take (to + 1) bursts))
-    by_part [] is none = rw none (part_way-zero (drop from (take (to + 1) bursts)))
-    by_part (burst ∷ rest) is part =
-        let next = part-next bursts from to burst rest is in
-        let begins = part_begins bursts from (to + 1) burst next.at (omega (arith, next.within)) in
-        rw begins.is (same_first came burst rest begins.rest part)
+    by_part : (parts : List Piece) → drop from (take to pieces) ≡ parts → IsPartWay false came parts → IsPartWay false came (drop from (take (to + 1) pieces))
+    by_part [] is none = rw none (part_way-zero false (drop from (take (to + 1) pieces)))
+    by_part (piece ∷ rest) is part =
+        let next = part-next pieces from to piece rest is in
+        rw (part_begins pieces from (to + 1) piece next.at (omega (arith, next.within))).is part
 
 pub served_sent : (config : Config) (regions : List Region) (id : ℕ) (request : BridgedRequest) → IsServed config regions request → IsServed config regions (after_sending id request)
 served_sent config regions id request served =
-    let next = part_way_more (planned request.flight) request.flight.answered request.flight.sent (came_of_next request) served.next in
+    let next = part_way_more request.flight.writing (planned request.flight) request.flight.answered request.flight.sent (came_of_next request) served.next in
     assumption
 
 -- ---- a burst was answered by a B, or a beat of it came by an R
@@ -209,7 +218,8 @@ after_more_r bus_bytes r request = record request { gathering = after_r bus_byte
 pub record IsReading (request : BridgedRequest) (piece : Piece) (count : ℕ) : Type 0 where
   pub within : request.flight.answered < request.flight.sent
   pub live : request.flight.done ≡ false
-  pub burst : slice_get (planned request.flight) request.flight.answered ≡ Some (false, piece)
+  pub reads : request.flight.writing ≡ false
+  pub burst : slice_get (planned request.flight) request.flight.answered ≡ Some piece
   pub came : request.gathering.came ≡ beats_in (answered_pieces request.flight) + count
   pub few : count ≤ piece.len
 
@@ -218,27 +228,20 @@ module _ {config : Config} {regions : List Region} {limits : TableLimits} {accep
   planned_for : request.flight.done ≡ false → HasPlan config request
   planned_for live = live_plan config regions request valid served.pages served.message served.flight sound.no_plan live
 
-  -- the first of its outstanding bursts
-  first_burst : (burst : Bool × Piece) → slice_get (planned request.flight) request.flight.answered ≡ Some burst → request.flight.answered < request.flight.sent → BeginsWith burst (outstanding request.flight)
-  first_burst burst at within = part_begins (planned request.flight) request.flight.answered request.flight.sent burst at within
-
-  response_counted : (resp : Resp) (piece : Piece) → request.flight.answered < request.flight.sent → request.flight.done ≡ false → slice_get (planned request.flight) request.flight.answered ≡ Some (true, piece)
-      → IsCounted config regions (after_its_b resp request)
-  response_counted resp piece within live burst =
+  response_counted : (resp : Resp) → request.flight.writing ≡ true → request.flight.answered < request.flight.sent → request.flight.done ≡ false → IsCounted config regions (after_its_b resp request)
+  response_counted resp writes within live =
       let flight = request.flight in
       let after = after_its_b resp request in
-      let writes = (write_at flight flight.answered piece burst).0 in
       let has = planned_for live in
       let same : answered_pieces (with_answered flight) ≡ answered_pieces flight = rw writes refl in
-      let none : came_of_next request ≡ 0 = rw (first_burst (true, piece) burst within).is at served.next in
+      let none : came_of_next request ≡ 0 = part_way-writes flight.writing (came_of_next request) (outstanding flight) writes served.next in
       let still : came_of_next after ≡ 0 = rw same none in
-      let next : IsPartWay (came_of_next after) (outstanding after.flight) = rw still (part_way-zero (outstanding after.flight)) in
+      let next : IsPartWay flight.writing (came_of_next after) (outstanding after.flight) = rw still (part_way-zero flight.writing (outstanding after.flight)) in
       let came : beats_in (answered_pieces after.flight) ≤ after.gathering.came = rw same served.came in
       grind (arith, nat_tests, atomic_plan config regions request valid served.message served.flight has, length_writing flight writes, sound.sent, has)
 
-  pub served_response : (resp : Resp) (piece : Piece) → request.flight.answered < request.flight.sent → request.flight.done ≡ false → slice_get (planned request.flight) request.flight.answered ≡ Some (true, piece)
-      → IsServed config regions (after_response resp request)
-  served_response resp piece within live burst = settled_served config regions (after_its_b resp request) valid (response_counted resp piece within live burst)
+  pub served_response : (resp : Resp) → request.flight.writing ≡ true → request.flight.answered < request.flight.sent → request.flight.done ≡ false → IsServed config regions (after_response resp request)
+  served_response resp writes within live = settled_served config regions (after_its_b resp request) valid (response_counted resp writes within live)
 
   last_counted : (r : RBeat) (piece : Piece) (count : ℕ) → IsReading request piece count → count ≡ piece.len → request.gathering.came < reads_of config.axi_bytes (outline_in request)
       → IsCounted config regions (after_last_r config.axi_bytes r request)
@@ -246,12 +249,11 @@ module _ {config : Config} {regions : List Region} {limits : TableLimits} {accep
       let flight = request.flight in
       let answered = after_last_r config.axi_bytes r request in
       let has = planned_for reading.live in
-      let read = read_at flight flight.answered piece reading.burst in
-      let more = answered_next flight piece read.0 read.1 in
+      let more = answered_next flight piece reading.reads (rw reading.reads at reading.burst) in
       let all : min (request.gathering.came + 1) (reads_of config.axi_bytes (outline_in request)) ≡ beats_in (answered_pieces (with_answered flight)) = omega (arith, place, more, reading.came, last) in
       let none : came_of_next answered ≡ 0 = omega (arith, all) in
-      let next : IsPartWay (came_of_next answered) (outstanding answered.flight) = rw none (part_way-zero (outstanding answered.flight)) in
-      grind (arith, read.0, reading.within, sound.sent, has)
+      let next : IsPartWay flight.writing (came_of_next answered) (outstanding answered.flight) = rw none (part_way-zero flight.writing (outstanding answered.flight)) in
+      grind (arith, reading.reads, reading.within, sound.sent, has)
 
   more_counted : (r : RBeat) (piece : Piece) (count : ℕ) → IsReading request piece count → count < piece.len → request.gathering.came < reads_of config.axi_bytes (outline_in request)
       → IsCounted config regions (after_more_r config.axi_bytes r request)
@@ -259,11 +261,11 @@ module _ {config : Config} {regions : List Region} {limits : TableLimits} {accep
       let flight = request.flight in
       let answered = after_more_r config.axi_bytes r request in
       let has = planned_for reading.live in
-      let writes = (read_at flight flight.answered piece reading.burst).0 in
       let counted : min (request.gathering.came + 1) (reads_of config.axi_bytes (outline_in request)) ≡ beats_in (answered_pieces flight) + (count + 1) = omega (arith, place, reading.came) in
       let below : came_of_next answered ≤ piece.len = omega (arith, counted, more) in
-      let next : IsPartWay (came_of_next answered) (outstanding answered.flight) = rw (first_burst (false, piece) reading.burst reading.within).is below in
-      grind (arith, reading.within, sound.sent, has)
+      let begins = part_begins (planned flight) flight.answered flight.sent piece reading.burst reading.within in
+      let next = part_way-reads flight.writing (came_of_next answered) (outstanding flight) begins.rest piece reading.reads begins.is below in
+      grind (arith, reading.reads, reading.within, sound.sent, has)
 
   pub served_read : (r : RBeat) (piece : Piece) (count : ℕ) → IsReading request piece count → r.last ≡ (count == piece.len) → request.gathering.came < reads_of config.axi_bytes (outline_in request)
       → IsServed config regions (after_read config.axi_bytes r request)

@@ -69,7 +69,7 @@ step_response kept key resp found r valid serving is =
       bus = refl;
       same = settled_both found (with_answered r) (responded resp held) is;
       served = λ served.
-          served_response {request = bridged r held} valid served serving.sound resp serving.known.piece serving.known.unanswered serving.known.live serving.known.next;
+          served_response {request = bridged r held} valid served serving.sound resp serving.known.side serving.known.unanswered serving.known.live;
     }
 
 read_served : (kept : KeptTable) (key : ℕ) (beat : RBeat) (r : LiveRequest) → is_valid kept.config ≡ true → Serving kept key (AwaitsBeat kept.config.axi_bytes beat) r
@@ -77,7 +77,7 @@ read_served : (kept : KeptTable) (key : ℕ) (beat : RBeat) (r : LiveRequest) �
 read_served kept key beat r valid serving =
     let known = serving.known in
     served_read {request = bridged r (held_in kept.helds key)} valid serving.served serving.sound beat known.awaits.piece known.beats
-    (record { within = known.awaits.unanswered; live = known.awaits.live; burst = known.awaits.next; came = known.came; few = known.within }) known.last known.place
+    (record { within = known.awaits.unanswered; live = known.awaits.live; reads = known.awaits.side; burst = known.awaits.next; came = known.came; few = known.within }) known.last known.place
 
 -- the step of the last beat of a read
 pub step_last : (kept : KeptTable) (key : ℕ) (beat : RBeat) (found : Bool) (r : LiveRequest) → is_valid kept.config ≡ true → Serving kept key (AwaitsBeat kept.config.axi_bytes beat) r → beat.last ≡ true

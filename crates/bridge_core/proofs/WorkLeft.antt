@@ -17,7 +17,7 @@ use Rattle.flight_table.specs.declared.TableLimits.{TableLimits}
 use Rattle.axi_checker.specs.OpenBursts.{OpenBursts, OpenRead, OpenWrite, read_of_id, write_of_id}
 use Rattle.bridge_core.specs.Bridge.{BridgeState, answered_reads}
 use Rattle.bridge_core.specs.HeldRequests.{table_limits_of, BridgedRequest, flight_table_of, flights_of, holder, holds}
-use Rattle.bridge_core.specs.Laws.{AreLinked, IsPartWay, IsServed, IsSoundBridge, came_of, came_of_next, open_read, open_reads, open_write, open_writes, outstanding, outstanding_of}
+use Rattle.bridge_core.specs.Laws.{AreLinked, IsPartWay, IsServed, IsSoundBridge, came_of_next, open_read, open_reads, open_write, open_writes, outstanding, reads_held, writes_held}
 use Rattle.config.specs.declared.Config.{Config}
 use Rattle.burst_plan.specs.declared.Region.{Region}
 use Rattle.bridge_core.proofs.ResponseLinks.{part_way-zero}
@@ -72,30 +72,31 @@ came_in read = read.came
 abbrev pub whole_open : OpenBursts → ℕ
 whole_open open_bursts = sum_by whole_write open_bursts.writes + sum_by whole_read open_bursts.reads
 
--- of planned bursts
-abbrev whole_planned : List (Bool × Piece) → ℕ
-whole_planned bursts = sum_by beats_of_burst bursts + sum_by answers_of_burst bursts
+-- of a side's pieces
+abbrev whole_planned : Bool → List Piece → ℕ
+whole_planned write pieces = sum_by beats_of_burst pieces + sum_by (answers_of_burst write) pieces
 
-whole_of_open : (id came : ℕ) (bursts : List (Bool × Piece)) → sum_by whole_write (open_writes id bursts) + sum_by whole_read (open_reads id came bursts) ≡ whole_planned bursts
-whole_of_open id came [] = refl
-whole_of_open id came ((side, piece) ∷ bursts) =
+whole_of_open : (id : ℕ) (write : Bool) (came : ℕ) (pieces : List Piece)
+    → sum_by whole_write (open_writes id write pieces) + sum_by whole_read (open_reads id write came pieces) ≡ whole_planned write pieces
+whole_of_open id write came [] = grind arith
+whole_of_open id write came (piece ∷ pieces) =
     grind (
       arith,
-      whole_of_open id came bursts,
-      whole_of_open id 0 bursts,
-      sum_by-cons whole_write (open_write id piece) (open_writes id bursts),
-      sum_by-cons whole_read (open_read id came piece) (open_reads id 0 bursts),
-      sum_by-cons beats_of_burst (side, piece) bursts,
-      sum_by-cons answers_of_burst (side, piece) bursts,
+      whole_of_open id write 0 pieces,
+      sum_by-cons whole_write (open_write id piece) (open_writes id true pieces),
+      sum_by-cons whole_read (open_read id came piece) (open_reads id false 0 pieces),
+      sum_by-cons beats_of_burst piece pieces,
+      sum_by-cons (answers_of_burst write) piece pieces,
     )
 
 -- no more beats came of a request's reads than they have
-came_few : (id came : ℕ) (bursts : List (Bool × Piece)) → IsPartWay came bursts → 2 * sum_by came_in (open_reads id came bursts) ≤ sum_by whole_read (open_reads id came bursts)
-came_few id came [] way = omega arith
-came_few id came ((true, piece) ∷ bursts) way = rw way (came_few id 0 bursts (part_way-zero bursts))
-came_few id came ((false, piece) ∷ bursts) way =
+came_few : (id : ℕ) (write : Bool) (came : ℕ) (pieces : List Piece) → IsPartWay write came pieces → 2 * sum_by came_in (open_reads id write came pieces) ≤ sum_by whole_read (open_reads id write came pieces)
+came_few id true came pieces way = omega arith
+came_few id false came [] way = omega arith
+came_few id false came (piece ∷ pieces) way =
     let first = open_read id came piece in
-    omega (arith, way, came_few id 0 bursts (part_way-zero bursts), sum_by-cons came_in first (open_reads id 0 bursts), sum_by-cons whole_read first (open_reads id 0 bursts))
+    let others = open_reads id false 0 pieces in
+    omega (arith, way, came_few id false 0 pieces (part_way-zero false pieces), sum_by-cons came_in first others, sum_by-cons whole_read first others)
 
 -- ---- the work of one request
 
@@ -107,10 +108,10 @@ sum_from measure (suc a) (suc s) (x ∷ xs) within = sum_from measure a s xs (om
 
 -- a request that isn't done: the bursts that it has still to send, and those that are outstanding
 work_of_undone : (limits : TableLimits) (accepted : ℕ) (flight : LiveRequest) → IsSoundRequest limits accepted flight → flight.done ≡ false
-    → work_of flight ≡ unsent_work flight + whole_planned (outstanding flight)
+    → work_of flight ≡ unsent_work flight + whole_planned flight.writing (outstanding flight)
 work_of_undone limits accepted flight sound undone =
     let beats = sum_from beats_of_burst flight.answered flight.sent (planned flight) sound.answered in
-    let answers = sum_from answers_of_burst flight.answered flight.sent (planned flight) sound.answered in
+    let answers = sum_from (answers_of_burst flight.writing) flight.answered flight.sent (planned flight) sound.answered in
     rw undone (omega (arith, beats, answers))
 
 -- one without an ID has nothing outstanding
@@ -170,8 +171,8 @@ work_of_all limits accepted config regions (r ∷ live) open_bursts all served o
         }
     by_id (Some j) some rest =
         let mine : holder j (r ∷ live) ≡ Some r = rw (some, eq-eqb j j refl) refl in
-        let writes : filter (write_of_id j) open_bursts.writes ≡ open_writes j (outstanding r.flight) = (linked j).writes ∙ ap (λ h. open_writes j (outstanding_of h)) mine in
-        let reads : filter (read_of_id j) open_bursts.reads ≡ open_reads j (came_of_next r) (outstanding r.flight) = (linked j).reads ∙ ap (λ h. open_reads j (came_of h) (outstanding_of h)) mine in
+        let writes : filter (write_of_id j) open_bursts.writes ≡ writes_held j (Some r) = (linked j).writes ∙ ap (writes_held j) mine in
+        let reads : filter (read_of_id j) open_bursts.reads ≡ reads_held j (Some r) = (linked j).reads ∙ ap (reads_held j) mine in
         let others = rest (without_id j open_bursts) (others_linked j some) in
         record {
           whole =
@@ -179,7 +180,7 @@ work_of_all limits accepted config regions (r ∷ live) open_bursts all served o
                 arith,
                 others.whole,
                 work_of_undone limits accepted r.flight all.0 (grind (arith, all.0.freed, some)),
-                whole_of_open j (came_of_next r) (outstanding r.flight),
+                whole_of_open j r.flight.writing (came_of_next r) (outstanding r.flight),
                 sum_apart key_of_write whole_write j open_bursts.writes,
                 sum_apart key_of_read whole_read j open_bursts.reads,
                 ap (sum_by whole_write) writes,
@@ -191,7 +192,7 @@ work_of_all limits accepted config regions (r ∷ live) open_bursts all served o
               omega (
                 arith,
                 others.came,
-                came_few j (came_of_next r) (outstanding r.flight) served.0.next,
+                came_few j r.flight.writing (came_of_next r) (outstanding r.flight) served.0.next,
                 sum_apart key_of_read whole_read j open_bursts.reads,
                 sum_apart key_of_read came_in j open_bursts.reads,
                 ap (sum_by whole_read) reads,

@@ -1,5 +1,5 @@
 -- The live requests of a bridge: accepted, and their replies not taken yet (this project's profile).
-use Rattle.std.specs.Prelude.{ℕ, ◌+◌, Bool, ◌&&◌, not, List, [], ◌∷◌, ◌++◌, map, Option, None, is_none, is_some, find, if◌then◌else◌, option_map}
+use Rattle.std.specs.Prelude.{ℕ, ◌+◌, Bool, ◌&&◌, not, List, [], ◌∷◌, ◌++◌, map, Option, is_none, is_some, find, if◌then◌else◌, option_map}
 use Rattle.bus_words.specs.Places.{change_first, without_first}
 use Rattle.tl_messages.specs.Requests.{HeldMessage, WholeRequest, request_of}
 use Rattle.tl_messages.specs.declared.DBeat.{DBeat}

@@ -98,10 +98,11 @@ answered_flight found flight = settled_flight found (with_answered flight)
 
 -- a request whose next unanswered burst is a write, or a read
 pub record AwaitsAnswer (write : Bool) (request : BridgedRequest) : Type 0 where
+  pub side : request.flight.writing ≡ write
   pub piece : Piece
   pub live : request.flight.done ≡ false
   pub unanswered : request.flight.answered < request.flight.sent
-  pub next : slice_get (planned request.flight) request.flight.answered ≡ Some (write, piece)
+  pub next : slice_get (planned request.flight) request.flight.answered ≡ Some piece
 
 -- a request to which a read beat belongs: it is the next of the first unanswered burst
 pub record AwaitsBeat (bus_bytes : ℕ) (r : RBeat) (request : BridgedRequest) : Type 0 where

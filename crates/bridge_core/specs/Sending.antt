@@ -1,5 +1,5 @@
 -- The burst that goes next (this project's profile: that of the ready request of the smallest number).
-use Rattle.std.specs.Prelude.{ℕ, ◌≡◌, ◌^◌, Bool, true, false, List, [], map, Option, Some, find, unwrap_or, option_map, option_and_then}
+use Rattle.std.specs.Prelude.{ℕ, ◌≡◌, ◌^◌, List, [], map, Option, Some, find, unwrap_or, option_map, option_and_then, if◌then◌else◌}
 use Rattle.tl_messages.specs.Requests.{WholeRequest, request_of}
 use Rattle.tl_messages.specs.declared.Operation.{Operation}
 use Rattle.tl_messages.specs.declared.Operation.TheVariants.{PutFull, PutPartial, Atomic, Get, Intent}
@@ -9,7 +9,7 @@ use Rattle.data_unit.specs.Words.{bytes_of}
 use Rattle.burst_plan.specs.Pieces.{PlannedRange}
 use Rattle.burst_plan.specs.PlannedBursts.{write_of, read_of}
 use Rattle.burst_plan.specs.declared.Piece.{Piece}
-use Rattle.flight_table.specs.LiveRequests.{next_burst, with_sent}
+use Rattle.flight_table.specs.LiveRequests.{next_piece, with_sent}
 use Rattle.flight_table.specs.Order.{IsSmallestReady, id_for, next_ready}
 use Rattle.flight_table.specs.Tables.{change_number}
 use Rattle.bridge_core.specs.HeldRequests.{table_limits_of, BridgedRequest, RequestTable, flight_table_of, flights_of, may_send, value_found}
@@ -25,15 +25,15 @@ bytes_written q (Intent write) old = []
 abbrev pub bytes_to_write : BridgedRequest → List (Option ℕ)
 bytes_to_write request = bytes_written (request_of request.message) request.message.operation (unwrap_or (value_found request) 0)
 
--- a piece of a range as a burst; true is a write
-abbrev pub burst_of_piece : ℕ → BridgedRequest → PlannedRange → Bool × Piece → Burst
-burst_of_piece id request range (true, piece) = write_of range.bus_bytes id (bytes_to_write request) range.address piece
-burst_of_piece id request range (false, piece) = read_of id piece
+-- a piece of a request's range as a burst
+abbrev pub burst_of_piece : ℕ → BridgedRequest → PlannedRange → Piece → Burst
+burst_of_piece id request range piece =
+    if request.flight.writing then write_of range.bus_bytes id (bytes_to_write request) range.address piece else read_of id piece
 
 -- the next burst of a request, under an ID
 abbrev pub burst_for : ℕ → BridgedRequest → Option Burst
 burst_for id request =
-    option_and_then (λ range. option_map (burst_of_piece id request range) (next_burst request.flight)) request.flight.plan
+    option_and_then (λ range. option_map (burst_of_piece id request range) (next_piece request.flight)) request.flight.plan
 
 -- a request, and the ID under which its next burst goes
 pub record Sending : Type 0 where

@@ -13,7 +13,6 @@ use Rattle.bridge_core.specs.HeldRequests.{RequestTable, flight_table_of}
 use Rattle.bridge_core.specs.HeldRequests as requests
 use Rattle.bridge_core.proofs.JoinedRequests.{IsJoined, joins, none_told}
 use Rattle.bridge_core.proofs.TableSteps.{held_at, table_seen}
-use Rattle.bridge_core.proofs.request_table.RequestTable.accept.Goals.{After-client}
 use Rattle.bridge_core.proofs.request_table.RequestTable.accept.Goals as goal
 
 of_port : (limits : TlPortLimits) (whole : Option HeldMessage) (message : HeldMessage) → whole ≡ Some message → IfSome whole (checker.IsSound limits) → checker.IsSound limits message

@@ -1,11 +1,9 @@
 -- The request that goes next is found with what is kept of it, and its burst is filled from that.
-use Rattle.std.proofs.Common.{◌≡◌, Bool, true, Option, None, Some, sym, ◌∙◌, ap, refl, subst}
-use Rattle.std.specs.Prelude.{IfSome, option_map}
+use Rattle.std.proofs.Common.{◌≡◌, true, Option, None, Some, sym, ◌∙◌, ap, refl, subst}
+use Rattle.std.specs.Prelude.{IfSome}
 use Rattle.std.proofs.lemmas.Option.{same_Some}
 use Rattle.axi_beats.specs.Bursts.{Burst}
 use Rattle.burst_plan.specs.Pieces.{PlannedRange}
-use Rattle.burst_plan.specs.declared.Piece.{Piece}
-use Rattle.flight_table.specs.LiveRequests.{next_burst}
 use Rattle.flight_table.specs.Order.{is_ready}
 use Rattle.flight_table.specs.Tables.{request_at, table_of}
 use Rattle.bridge_core.specs.Inside.{CanFill, HeldRequest, IsFirstAt, bridged, held_in, kept_table}
@@ -30,7 +28,7 @@ fill-requires c =
     let goes = going kept key c.unwrap-plan.result true c.next_piece-piece.result c.sent-id.result c.self.invariant.1 c.self.invariant.0 at
     (record {
       plan_is = c.plan.ensures ∙ ap (λ (o : Option PlannedRange). Some o) c.unwrap-plan.ensures;
-      write_is = subst (λ b. IfSome (request_at key i.flight) (λ r. option_map (λ (burst : Bool × Piece). burst.0) (next_burst r) ≡ Some b)) c.if-is_write.true c.next_is_write-is_write.ensures;
+      write_is = subst (λ b. IfSome (request_at key i.flight) (λ r. r.writing ≡ b)) c.if-is_write.true c.next_is_write-is_write.ensures;
       piece_is = c.next_piece-piece.ensures;
       id_is = c.sent-id.ensures.id;
     }) in
@@ -79,14 +77,14 @@ returns-clause-burst c = rw (← c.self.view_is, (goes c).sending) (ap (λ (burs
     one : HeldRequest
     one = held_in c.self.inside.held.items c.in_ok-key.key
 
-    by_branch : c.if-is_write.burst ≡ Some (burst_of_piece c.sent-id.result (bridged (goes c).request one) c.unwrap-plan.result (c.next_is_write-is_write.result, c.next_piece-piece.result))
+    by_branch : c.if-is_write.burst ≡ Some (burst_of_piece c.sent-id.result (bridged (goes c).request one) c.unwrap-plan.result c.next_piece-piece.result)
     by_branch =
         elim c.if-is_write.branch [
           | then-is_write w ↦
               let i = c.self.inside in
               let there = held_at (kept_table i.config i.map i.flight i.held.items) c.in_ok-key.key c.slot-slot.result w.index.result.now c.self.invariant.1 c.slot-slot.ensures.value c.slot-slot.ensures.within w.index.ensures in
-              w.burst-is ∙ w.fill.ensures ∙ rw (there, w.if-is_write.true) refl
-          | else-is_write w ↦ w.burst-is ∙ w.set_read.ensures ∙ rw w.if-is_write.false refl
+              w.burst-is ∙ w.fill.ensures ∙ rw (there, (goes c).writes, w.if-is_write.true) refl
+          | else-is_write w ↦ w.burst-is ∙ w.set_read.ensures ∙ rw ((goes c).writes, w.if-is_write.false) refl
         ]
 
 pub returns-clause-table : goal.returns-clause-table
