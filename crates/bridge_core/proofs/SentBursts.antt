@@ -1,9 +1,8 @@
 -- The burst that goes next is legal, and breaks no rule of the port.
-use Rattle.std.proofs.Common.{◌≡◌, ℕ, ◌-◌, ◌^◌, ◌<◌, ◌≤◌, Bool, true, List, [], ◌∷◌, length, take, Option, Some, None, refl, ap, sym, ◌∙◌, arith, subst, length-drop, length-take}
+use Rattle.std.proofs.Common.{◌≡◌, ℕ, ◌+◌, ◌-◌, ◌^◌, ◌<◌, ◌≤◌, Bool, true, List, [], ◌∷◌, length, take, Option, Some, None, refl, ap, sym, ◌∙◌, arith, subst, length-drop, length-take}
 use Rattle.std.specs.Prelude.{if◌then◌else◌, unwrap_or}
 use Rattle.std.specs.List.{range_with_len, slice_get}
 use Rattle.std.specs.Option.{option_and_then}
-use Rattle.std.proofs.lemmas.List.{length-map}
 use Rattle.std.proofs.lemmas.List.Elements.{All-map}
 use Rattle.tl_messages.specs.Operations.{has_data}
 use Rattle.tl_messages.specs.Requests.{HeldMessage, byte_given, bytes_given, given_in, request_of}
@@ -29,7 +28,7 @@ use Rattle.flight_table.proofs.Steps.{takes_id}
 use Rattle.bridge_core.specs.Bridge.{BridgeState}
 use Rattle.config.specs.Configs.{axi_port_of, is_valid}
 use Rattle.bridge_core.specs.HeldRequests.{table_limits_of, BridgedRequest, RequestTable, flights_of}
-use Rattle.bridge_core.specs.Laws.{IsLinked, IsServed, IsSoundBridge, IsSoundRequestTable, came_of_next, open_reads, open_write, open_writes, outstanding}
+use Rattle.bridge_core.specs.Laws.{IsLinked, IsServed, IsSoundBridge, IsSoundRequestTable, came_of_next, open_reads, open_writes, outstanding}
 use Rattle.bridge_core.specs.Sending.{Sending, burst_of_piece, bytes_to_write, bytes_written, next_sending}
 use Rattle.config.specs.declared.Config.{Config}
 use Rattle.bridge_core.proofs.NextSending.{next_found, next_served, next_sound}
@@ -99,12 +98,10 @@ sent_legal table sending sound is =
 pub id_of_piece : (id : ℕ) (request : BridgedRequest) (range : PlannedRange) (piece : Piece) → id_of (burst_of_piece id request range piece) ≡ id
 id_of_piece id request range piece = grind arith
 
-length_open_writes : (id : ℕ) (write : Bool) (pieces : List Piece) → length (open_writes id write pieces) ≤ length pieces
-length_open_writes id write pieces = grind (arith, length-map pieces (open_write id))
-
-length_open_reads : (id : ℕ) (write : Bool) (came : ℕ) (pieces : List Piece) → length (open_reads id write came pieces) ≤ length pieces
-length_open_reads id write came [] = grind arith
-length_open_reads id write came (piece ∷ pieces) = grind (arith, length_open_reads id write 0 pieces)
+-- each outstanding burst is open as a write, or as a read
+pub either_side : (id : ℕ) (write : Bool) (came : ℕ) (pieces : List Piece) → length (open_writes id write pieces) + length (open_reads id write came pieces) ≡ length pieces
+either_side id write came [] = grind arith
+either_side id write came (piece ∷ pieces) = grind (arith, either_side id write 0 pieces)
 
 -- no more bursts of its ID are open on a side than a request has outstanding
 few_beside : (id : ℕ) (live : List BridgedRequest) (open_bursts : OpenBursts) (request : BridgedRequest) (range : PlannedRange) (piece : Piece) → IsLinked id live open_bursts → IsTakenBy id live request
@@ -112,13 +109,7 @@ few_beside : (id : ℕ) (live : List BridgedRequest) (open_bursts : OpenBursts) 
 few_beside id live open_bursts request range piece linked taken =
     let writes = ap length (linked.writes ∙ taken.writes) in
     let reads = ap length (linked.reads ∙ taken.reads) in
-    grind (
-      arith,
-      writes,
-      reads,
-      length_open_writes id request.flight.writing (outstanding request.flight),
-      length_open_reads id request.flight.writing (came_of_next request) (outstanding request.flight),
-    )
+    grind (arith, writes, reads, either_side id request.flight.writing (came_of_next request) (outstanding request.flight))
 
 pub few_outstanding : (flight : LiveRequest) → length (outstanding flight) ≤ flight.sent - flight.answered
 few_outstanding flight = omega (arith, length-drop flight.answered (take flight.sent (planned flight)), length-take flight.sent (planned flight))

@@ -5,7 +5,7 @@ use Rattle.std.specs.Prelude.{filter, filter_map, find, flat_map, if◌then◌el
 use Rattle.std.specs.List.{AllByRecursion, list_any, range_with_len}
 use Rattle.std.proofs.lemmas.Bool.{cases_eq, eq-eqb, leb-false, lt-ltb}
 use Rattle.std.proofs.lemmas.Bool.Decides.{nat_tests}
-use Rattle.std.proofs.lemmas.List.{length-append}
+use Rattle.std.proofs.lemmas.List.{length-append, nil_from_length}
 use Rattle.std.proofs.lemmas.List.Sums.{sum_by-cons}
 use Rattle.std.proofs.lemmas.Option.{same_Some, slice_get-get_or}
 use Rattle.bus_words.proofs.PlaceChanges.{all-find, all-got, find-passes}
@@ -22,12 +22,13 @@ use Rattle.flight_table.specs.Tables.{is_undone}
 use Rattle.flight_table.specs.Work.{unsent_work}
 use Rattle.bridge_core.specs.Bridge.{BridgeState, burst_to_send}
 use Rattle.bridge_core.specs.HeldRequests.{table_limits_of, BridgedRequest, RequestTable, flights_of, holder, holds, may_send}
-use Rattle.bridge_core.specs.Laws.{IsPartWay, IsServed, IsSoundBridge, IsSoundRequestTable, came_of, came_of_next, open_read, open_reads, open_writes, outstanding, outstanding_of}
+use Rattle.bridge_core.specs.Laws.{IsPartWay, IsServed, IsSoundBridge, IsSoundRequestTable, came_of_next, open_read, open_reads, open_writes, outstanding, reads_held, writes_held}
 use Rattle.bridge_core.proofs.AnswerLinks.{holder_known}
 use Rattle.bridge_core.proofs.NextSending.{next_sending-some}
 use Rattle.bridge_core.proofs.JoinedRequests.{limits_made}
-use Rattle.bridge_core.proofs.ResponseLinks.{not_so, part_way-zero}
+use Rattle.bridge_core.proofs.ResponseLinks.{not_so}
 use Rattle.bridge_core.proofs.SendingLinks.{sound_requests}
+use Rattle.bridge_core.proofs.SentBursts.{either_side}
 use Rattle.bridge_core.proofs.SentLinks.{none_sent}
 use Rattle.subordinate.specs.FreeMemory.{FreeMemory, Pending, b_of, beat_at, ids_with_b, ids_with_r, is_read_of, is_waiting, is_write_of, open_read_in, open_write_in, r_of, r_with, reads_as, transfers_in, waiting_beats, waiting_in, work_in, work_open, writes_as}
 use Rattle.subordinate.specs.Inside.{count_waiting}
@@ -54,14 +55,12 @@ found_or_none P (Some x) none some = some x refl
 
 -- ---- with no burst open each request has had the answers of all that it sent
 
-no_bursts : (id came : ℕ) (bursts : List (Bool × Piece)) → open_writes id bursts ≡ [] → open_reads id came bursts ≡ [] → bursts ≡ []
-no_bursts id came [] writes reads = refl
-no_bursts id came ((true, piece) ∷ bursts) writes reads = absurd (cc (writes))
-no_bursts id came ((false, piece) ∷ bursts) writes reads = absurd (cc (reads))
+no_bursts : (id : ℕ) (write : Bool) (came : ℕ) (pieces : List Piece) → open_writes id write pieces ≡ [] → open_reads id write came pieces ≡ [] → pieces ≡ []
+no_bursts id write came pieces writes reads = nil_from_length pieces (sym (either_side id write came pieces) ∙ rw (writes, reads) refl)
 
 all_answered : (flight : LiveRequest) → flight.sent ≤ length (planned flight) → outstanding flight ≡ [] → flight.sent ≤ flight.answered
 all_answered flight most none =
-    let count : length (outstanding flight) ≡ 0 = ap (λ (bursts : List (Bool × Piece)). length bursts) none in
+    let count : length (outstanding flight) ≡ 0 = ap length none in
     omega (arith, count, length-drop flight.answered (take flight.sent (planned flight)), length-take flight.sent (planned flight), most)
 
 pub record IsIdle (bridge : BridgeState) : Type 0 where
@@ -71,13 +70,9 @@ pub record IsIdle (bridge : BridgeState) : Type 0 where
 holder_idle : (bridge : BridgeState) (id : ℕ) (request : BridgedRequest) → IsSoundBridge bridge → IsIdle bridge → holder id bridge.requests.live ≡ Some request → outstanding request.flight ≡ []
 holder_idle bridge id request sound idle held =
     let linked = sound.linked id in
-    let writes : open_writes id (outstanding request.flight) ≡ [] =
-    ap (λ (h : Option BridgedRequest). open_writes id (outstanding_of h)) (sym held) ∙ sym linked.writes ∙ ap (λ (ws : List OpenWrite). filter (write_of_id id) ws) idle.writes
-    in
-    let reads : open_reads id (came_of_next request) (outstanding request.flight) ≡ [] =
-    ap (λ (h : Option BridgedRequest). open_reads id (came_of h) (outstanding_of h)) (sym held) ∙ sym linked.reads ∙ ap (λ (rs : List OpenRead). filter (read_of_id id) rs) idle.reads
-    in
-    no_bursts id (came_of_next request) (outstanding request.flight) writes reads
+    let writes = ap (writes_held id) (sym held) ∙ sym linked.writes ∙ ap (λ (ws : List OpenWrite). filter (write_of_id id) ws) idle.writes in
+    let reads = ap (reads_held id) (sym held) ∙ sym linked.reads ∙ ap (λ (rs : List OpenRead). filter (read_of_id id) rs) idle.reads in
+    no_bursts id request.flight.writing (came_of_next request) (outstanding request.flight) writes reads
 
 -- ---- a request that is ready
 
@@ -246,10 +241,10 @@ nothing_open memory sound still to_come = by_pending memory.pending refl
 
 -- ---- an open read has beats to come
 
-first_read : (id came : ℕ) (bursts : List (Bool × Piece)) (read : OpenRead) (reads : List OpenRead) → IsPartWay came bursts → open_reads id came bursts ≡ read ∷ reads → read.came ≤ read.ar.len
-first_read id came [] read reads way is = absurd (cc (is))
-first_read id came ((true, piece) ∷ bursts) read reads way is = first_read id came bursts read reads (subst (λ n. IsPartWay n bursts) (sym way) (part_way-zero bursts)) is
-first_read id came ((false, piece) ∷ bursts) read reads way is =
+first_read : (id : ℕ) (write : Bool) (came : ℕ) (pieces : List Piece) (read : OpenRead) (reads : List OpenRead) → IsPartWay write came pieces → open_reads id write came pieces ≡ read ∷ reads → read.came ≤ read.ar.len
+first_read id true came pieces read reads way is = absurd (cc (is))
+first_read id false came [] read reads way is = absurd (cc (is))
+first_read id false came (piece ∷ pieces) read reads way is =
     let same : open_read id came piece ≡ read = cc in
     subst (λ (r : OpenRead). r.came ≤ r.ar.len) same way
 
@@ -264,12 +259,11 @@ beats_to_come state id p sound found =
     let few : p.answered ≤ oldest.ar.len = by_holder (holder id bridge.requests.live) refl (record { ar = oldest.ar; came = p.answered }) _ listed in
     omega (arith, few, ap transfers_in oldest.burst)
   where
-    by_holder : (held : Option BridgedRequest) → holder id state.bridge.requests.live ≡ held → (read : OpenRead) (reads : List OpenRead) → open_reads id (came_of held) (outstanding_of held) ≡ read ∷ reads
-        → read.came ≤ read.ar.len
+    by_holder : (held : Option BridgedRequest) → holder id state.bridge.requests.live ≡ held → (read : OpenRead) (reads : List OpenRead) → reads_held id held ≡ read ∷ reads → read.came ≤ read.ar.len
     by_holder None is read reads listed = absurd (cc (listed))
     by_holder (Some request) is read reads listed =
         let known = holder_known state.bridge.requests id request sound.bridge_laws.requests is in
-        first_read id (came_of_next request) (outstanding request.flight) read reads known.served.next listed
+        first_read id request.flight.writing (came_of_next request) (outstanding request.flight) read reads known.served.next listed
 
 -- ---- nothing is enabled
 

@@ -1,6 +1,6 @@
 -- A box is in stock wherever a request is ready: each ID has at most as many bursts outstanding as it may have on one side. It counts; what
 -- a box holds is hidden.
-use Rattle.std.proofs.Common.{◌≡◌, ◌⊎◌, inl, inr, ℕ, suc, ◌+◌, ◌==◌, ◌<◌, ◌≤◌, Bool, true, false, List, [], ◌∷◌, ◌++◌, length, Option, Some, None, refl, ap, sym, ◌∙◌, subst, arith}
+use Rattle.std.proofs.Common.{◌≡◌, ◌⊎◌, inl, inr, ℕ, suc, ◌+◌, ◌-◌, ◌==◌, ◌<◌, ◌≤◌, false, List, [], ◌∷◌, ◌++◌, length, Option, Some, None, refl, ap, sym, ◌∙◌, subst, arith}
 use Rattle.std.specs.Prelude.{IsSome, option_map, filter}
 use Rattle.std.specs.List.{AllByRecursion}
 use Rattle.std.proofs.lemmas.List.{length-append}
@@ -11,16 +11,15 @@ use Rattle.axi_checker.specs.Monitors.{HasFewOfEach}
 use Rattle.axi_checker.specs.OpenBursts.{OpenBursts, read_of_id, write_of_id}
 use Rattle.axi_checker.specs.Rules.{id_of}
 use Rattle.axi_checker.proofs.Few.{room_for_one}
-use Rattle.burst_plan.specs.declared.Piece.{Piece}
 use Rattle.bridge_core.specs.Bridge.{BridgeState, StockedBridge, boxes_of, burst_to_send}
-use Rattle.bridge_core.specs.Laws.{IsSoundBridge, came_of, open_reads, open_writes, outstanding_of}
+use Rattle.bridge_core.specs.Laws.{IsSoundBridge, came_of_next, outstanding, reads_held, writes_held}
 use Rattle.bridge_core.specs.HeldRequests.{BridgedRequest, holder}
 use Rattle.bridge_core.specs.Sending.{Sending, next_sending}
 use Rattle.subordinate.specs.Device.{DeviceState}
 use Rattle.world.specs.Inside.{ArePaired}
 use Rattle.bridge_core.proofs.AnswerLinks.{holder_known}
 use Rattle.bridge_core.proofs.NextSending.{next_found}
-use Rattle.bridge_core.proofs.SentBursts.{few_outstanding, id_of_piece, sent_within}
+use Rattle.bridge_core.proofs.SentBursts.{either_side, few_outstanding, id_of_piece, sent_within}
 use Rattle.bridge_core.proofs.SentLinks.{taken_by}
 use Rattle.subordinate.specs.FreeMemory.{FreeMemory, Pending, is_read_of, is_write_of, newly_pending, reads_as, writes_as}
 use Rattle.subordinate.proofs.OpenBursts.{reads_known, writes_known}
@@ -44,29 +43,28 @@ both_sides : (id : ℕ) (pending : List Pending) → count_of id pending ≡ len
 both_sides id [] = refl
 both_sides id (p ∷ ps) = grind (arith, by_side id p.burst, both_sides id ps)
 
--- each burst of a holder is a write or a read
-either_side : (id came : ℕ) (bursts : List (Bool × Piece)) → length (open_writes id bursts) + length (open_reads id came bursts) ≡ length bursts
-either_side id came [] = refl
-either_side id came ((true, piece) ∷ bursts) = omega (arith, either_side id came bursts)
-either_side id came ((false, piece) ∷ bursts) = omega (arith, either_side id 0 bursts)
+-- how many its holder has outstanding
+abbrev count_held : ℕ → Option BridgedRequest → ℕ
+count_held id held = length (writes_held id held) + length (reads_held id held)
 
--- so an ID has as many open bursts as its holder has outstanding
-counted : (bridge : BridgeState) (memory : FreeMemory) (id : ℕ) → Agree bridge memory → count_of id memory.pending ≡ length (outstanding_of (holder id bridge.requests.live))
+-- so many are open
+counted : (bridge : BridgeState) (memory : FreeMemory) (id : ℕ) → Agree bridge memory → count_of id memory.pending ≡ count_held id (holder id bridge.requests.live)
 counted bridge memory id agree =
     let held = holder id bridge.requests.live in
-    let writes : length (filter (is_write_of id) memory.pending) ≡ length (open_writes id (outstanding_of held)) =
+    let writes : length (filter (is_write_of id) memory.pending) ≡ length (writes_held id held) =
     sym (writes_known id memory.pending) ∙ ap (λ (outstanding : OpenBursts). length (filter (write_of_id id) outstanding.writes)) (sym agree.outstanding)
     ∙ ap length (agree.bridge_laws.linked id).writes in
-    let reads : length (filter (is_read_of id) memory.pending) ≡ length (open_reads id (came_of held) (outstanding_of held)) =
+    let reads : length (filter (is_read_of id) memory.pending) ≡ length (reads_held id held) =
     sym (reads_known id memory.pending) ∙ ap (λ (outstanding : OpenBursts). length (filter (read_of_id id) outstanding.reads)) (sym agree.outstanding)
     ∙ ap length (agree.bridge_laws.linked id).reads in
-    omega (arith, both_sides id memory.pending, writes, reads, either_side id (came_of held) (outstanding_of held))
+    omega (arith, both_sides id memory.pending, writes, reads)
 
-few_held : (bridge : BridgeState) (id : ℕ) → IsSoundBridge bridge → (held : Option BridgedRequest) → holder id bridge.requests.live ≡ held → length (outstanding_of held) ≤ bridge.requests.config.depth
+few_of : (id : ℕ) (request : BridgedRequest) → count_held id (Some request) ≤ request.flight.sent - request.flight.answered
+few_of id request = omega (arith, either_side id request.flight.writing (came_of_next request) (outstanding request.flight), few_outstanding request.flight)
+
+few_held : (bridge : BridgeState) (id : ℕ) → IsSoundBridge bridge → (held : Option BridgedRequest) → holder id bridge.requests.live ≡ held → count_held id held ≤ bridge.requests.config.depth
 few_held bridge id sound None is = omega arith
-few_held bridge id sound (Some request) is =
-    let known = holder_known bridge.requests id request sound.requests is in
-    omega (arith, few_outstanding request.flight, known.sound.depth)
+few_held bridge id sound (Some request) is = omega (arith, few_of id request, (holder_known bridge.requests id request sound.requests is).sound.depth)
 
 -- an ID under which a burst is open is one of the port's
 below_ids : (bridge : BridgeState) (memory : FreeMemory) (id : ℕ) → Agree bridge memory → 1 ≤ count_of id memory.pending → id < bridge.requests.config.ids
@@ -102,8 +100,8 @@ box_left bridge memory sending agree is =
     let taken = taken_by bridge.requests sending agree.bridge_laws.requests next in
     let within = sent_within bridge sending agree.bridge_laws is in
     let few : count_of sending.id memory.pending < bridge.requests.config.depth =
-    omega (arith, counted bridge memory sending.id agree, ap length taken.bursts, few_outstanding sending.request.flight, next.ready.depth) in
-    let own : id_of sending.burst ≡ sending.id = ap id_of next.burst ∙ id_of_piece sending.id sending.request next.range (next.write, next.piece) in
+    omega (arith, counted bridge memory sending.id agree, ap length taken.writes, ap length taken.reads, few_of sending.id sending.request, next.ready.depth) in
+    let own : id_of sending.burst ≡ sending.id = ap id_of next.burst ∙ id_of_piece sending.id sending.request next.range next.piece in
     room_for_one id_of_pending bridge.requests.config.ids bridge.requests.config.depth memory.pending (newly_pending memory.sent sending.burst) (few_of_each bridge memory agree) within.id
     (subst (λ (id : ℕ). count_of id memory.pending < bridge.requests.config.depth) (sym own) few)
 

@@ -14,7 +14,7 @@ use Rattle.flight_table.specs.Tables.{FlightTable}
 use Rattle.bridge_core.specs.Bridge.{BridgeState, after_r_beat, burst_to_send, r_fault}
 use Rattle.bridge_core.specs.HeldRequests.{table_limits_of, BridgedRequest, after_read, flight_table_of, flights_of, holds}
 use Rattle.bridge_core.specs.Laws.{IsSoundBridge}
-use Rattle.bridge_core.proofs.AnswerLinks.{answered_reader}
+use Rattle.bridge_core.proofs.AnswerLinks.{finds_reader}
 use Rattle.bridge_core.proofs.Pumps.{ready_goes}
 use Rattle.bridge_core.proofs.ResponseLinks.{not_so}
 use Rattle.subordinate.specs.FreeMemory.{FreeMemory, Pending, after_r_of, b_from, b_of, first_with_b, first_with_r, gives_last, is_read_of, is_write_of, pending_after_r, performed, r_of, waiting_beats, waiting_in}
@@ -103,10 +103,10 @@ same_flight bus_bytes r request more within = rw (more, lt-leb (length (planned 
 same_order : (state : BridgeState) (r : RBeat) → IsSoundBridge state → r_fault state r ≡ None → r.last ≡ false → flight_table_of (after_r_beat state r).requests ≡ flight_table_of state.requests
 same_order state r sound none more =
     let table = state.requests in
-    let reader = answered_reader state r sound none in
-    let within = slice_get_within (planned reader.request.flight) reader.request.flight.answered _ reader.burst in
+    let finds = finds_reader state r sound none in
+    let within = slice_get_within (planned finds.request.flight) finds.request.flight.answered _ finds.reader.next.at in
     ap (λ (flights : List LiveRequest). record { limits = table_limits_of table.config; accepted = table.accepted; live = flights })
-    (same_flights r.id (after_read table.config.axi_bytes r) table.live reader.request reader.held (same_flight table.config.axi_bytes r reader.request more within))
+    (same_flights r.id (after_read table.config.axi_bytes r) table.live finds.request finds.reader.holder.held (same_flight table.config.axi_bytes r finds.request more within))
 
 stays_idle : (state : BridgeState) (r : RBeat) → IsSoundBridge state → IsSoundBridge (after_r_beat state r) → r_fault state r ≡ None → r.last ≡ false → burst_to_send state ≡ None → burst_to_send (after_r_beat state r) ≡ None
 stays_idle state r sound kept none more idle =

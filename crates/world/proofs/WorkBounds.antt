@@ -1,5 +1,5 @@
 -- How much work there can be. It knows how many requests may be live and how many bursts each has; which is where is hidden.
-use Rattle.std.proofs.Common.{◌≡◌, ℕ, ◌+◌, ◌*◌, ◌%◌, ◌^◌, ◌<◌, ◌≤◌, Bool, true, false, List, [], ◌∷◌, length, drop, refl, ◌∙◌, arith}
+use Rattle.std.proofs.Common.{◌≡◌, ℕ, ◌+◌, ◌*◌, ◌%◌, ◌^◌, ◌<◌, ◌≤◌, Bool, true, List, [], ◌∷◌, length, drop, refl, arith}
 use Rattle.std.specs.Prelude.{sum_by}
 use Rattle.std.specs.List.{AllByRecursion}
 use Rattle.std.proofs.lemmas.Bool.{cond_both}
@@ -12,7 +12,7 @@ use Rattle.burst_plan.specs.declared.Piece.{Piece}
 use Rattle.burst_plan.specs.declared.Region.{Region}
 use Rattle.burst_plan.proofs.PlanLaws.{beats_counted}
 use Rattle.tl_messages.specs.Operations.{has_data, reply_has_data}
-use Rattle.flight_table.specs.LiveRequests.{LiveRequest, bursts_of, phase_pieces, pieces_planned, read_pieces, write_pieces}
+use Rattle.flight_table.specs.LiveRequests.{LiveRequest, pieces_planned, planned, read_pieces, write_pieces}
 use Rattle.flight_table.specs.Work.{answers_of_burst, beats_of_burst, later_work, unsent_work, work_of_bursts}
 use Rattle.config.specs.Configs.{is_valid}
 use Rattle.bridge_core.specs.Laws.{IsServed, beats_in}
@@ -35,29 +35,24 @@ few_transfers range plans =
 
 -- ---- the work of bursts is at most three times their transfers
 
-burst_work : (burst : Bool × Piece) → 1 + beats_of_burst burst + answers_of_burst burst ≤ 3 * beats_of_burst burst
-burst_work (true, piece) = omega arith
-burst_work (false, piece) = omega arith
+burst_work : (write : Bool) (piece : Piece) → 1 + beats_of_burst piece + answers_of_burst write piece ≤ 3 * beats_of_burst piece
+burst_work write piece = grind arith
 
-bursts_work : (bursts : List (Bool × Piece)) → work_of_bursts bursts ≤ 3 * sum_by beats_of_burst bursts
-bursts_work [] = omega arith
-bursts_work (burst ∷ bursts) = omega (arith, burst_work burst, bursts_work bursts, sum_by-cons beats_of_burst burst bursts, sum_by-cons answers_of_burst burst bursts)
+bursts_work : (write : Bool) (pieces : List Piece) → work_of_bursts write pieces ≤ 3 * sum_by beats_of_burst pieces
+bursts_work write [] = omega arith
+bursts_work write (piece ∷ pieces) =
+    omega (arith, burst_work write piece, bursts_work write pieces, sum_by-cons beats_of_burst piece pieces, sum_by-cons (answers_of_burst write) piece pieces)
 
-beats_of_side : (write : Bool) (parts : List Piece) → sum_by beats_of_burst (bursts_of write parts) ≡ beats_in parts
-beats_of_side write [] = refl
-beats_of_side write (p ∷ parts) = sum_by-cons beats_of_burst (write, p) (bursts_of write parts) ∙ omega (arith, beats_of_side write parts, sum_by-cons (λ (q : Piece). q.len + 1) p parts)
-
-left_work : (sent : ℕ) (write : Bool) (parts : List Piece) → beats_in parts ≤ 4096 → work_of_bursts (drop sent (bursts_of write parts)) ≤ 12288
-left_work sent write parts few =
-    omega (arith, few, beats_of_side write parts, bursts_work (drop sent (bursts_of write parts)), sum_by-take-drop beats_of_burst (bursts_of write parts) sent)
+left_work : (sent : ℕ) (write : Bool) (pieces : List Piece) → beats_in pieces ≤ 4096 → work_of_bursts write (drop sent pieces) ≤ 12288
+left_work sent write pieces few = omega (arith, few, bursts_work write (drop sent pieces), sum_by-take-drop beats_of_burst pieces sent)
 
 few_unsent : (flight : LiveRequest) → beats_in (pieces_planned flight.plan) ≤ 4096 → unsent_work flight ≤ 24576
 few_unsent flight few =
     let reads : beats_in (read_pieces flight) ≤ 4096 = cond_both (reply_has_data flight.operation) _ _ Few (λ some. few) (λ none. omega arith) in
     let writes : beats_in (write_pieces flight) ≤ 4096 = cond_both (has_data flight.operation) _ _ Few (λ some. few) (λ none. omega arith) in
-    let phase : beats_in (phase_pieces flight) ≤ 4096 = cond_both flight.writing _ _ Few (λ write. writes) (λ read. reads) in
+    let phase : beats_in (planned flight) ≤ 4096 = cond_both flight.writing _ _ Few (λ write. writes) (λ read. reads) in
     let later : later_work flight ≤ 12288 = cond_both flight.writing _ _ (λ n. n ≤ 12288) (λ write. omega arith) (λ read. left_work 0 true (write_pieces flight) writes) in
-    cond_both flight.done _ _ (λ n. n ≤ 24576) (λ done. omega arith) (λ live. omega (arith, later, left_work flight.sent flight.writing (phase_pieces flight) phase))
+    cond_both flight.done _ _ (λ n. n ≤ 24576) (λ done. omega arith) (λ live. omega (arith, later, left_work flight.sent flight.writing (planned flight) phase))
   where
     Few : List Piece → Type 0
     Few parts = beats_in parts ≤ 4096

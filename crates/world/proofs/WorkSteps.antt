@@ -3,6 +3,7 @@ use Rattle.std.proofs.Common.{◌≡◌, ℕ, zero, suc, ◌+◌, ◌-◌, ◌<�
 use Rattle.std.specs.Prelude.{filter, find, if◌then◌else◌, slice_get, sum_by}
 use Rattle.std.specs.List.{range_with_len}
 use Rattle.std.proofs.lemmas.Bool.{and_parts, cond_both, cases_lt, leb-true}
+use Rattle.std.proofs.lemmas.List.{drop_all}
 use Rattle.std.proofs.lemmas.List.Sums.{sum_by-cons}
 use Rattle.std.proofs.lemmas.Option.{same_Some, slice_get-map}
 use Rattle.bus_words.specs.Places.{change_first}
@@ -13,12 +14,12 @@ use Rattle.axi_beats.specs.declared.BBeat.{BBeat}
 use Rattle.axi_beats.specs.declared.RBeat.{RBeat}
 use Rattle.burst_plan.specs.Pieces.{PlannedRange}
 use Rattle.burst_plan.specs.declared.Piece.{Piece}
-use Rattle.flight_table.specs.LiveRequests.{LiveRequest, finished, is_settled, next_burst, planned, with_answered, with_sent, with_write}
+use Rattle.flight_table.specs.LiveRequests.{LiveRequest, finished, is_settled, next_piece, planned, with_answered, with_sent, with_write}
 use Rattle.flight_table.specs.Work.{answers_of_burst, beats_of_burst, later_work, spared_work, unsent_work, work_of_bursts}
 use Rattle.bridge_core.specs.Bridge.{after_sent, burst_to_send}
 use Rattle.bridge_core.specs.HeldRequests.{BridgedRequest, after_read, after_response, after_sending, flights_of, holds, is_numbered, may_send, outline_in, settled, value_found}
 use Rattle.bridge_core.specs.Sending.{Sending, burst_of_piece, next_sending}
-use Rattle.bridge_core.proofs.AnswerLinks.{answered_reader, answered_writer}
+use Rattle.bridge_core.proofs.AnswerLinks.{finds_reader, finds_writer}
 use Rattle.bridge_core.proofs.NextSending.{next_found}
 use Rattle.bridge_core.proofs.ResponseLinks.{not_so}
 use Rattle.bridge_core.proofs.SentLinks.{found_by_number}
@@ -51,24 +52,21 @@ first_dropped [] k x there = absurd (cc (there))
 first_dropped {X = X} (y ∷ ys) zero x there = ap (λ (z : X). z ∷ ys) (same_Some y x there)
 first_dropped (y ∷ ys) (suc k) x there = first_dropped ys k x there
 
-work_first : (burst : Bool × Piece) (bursts : List (Bool × Piece)) → work_of_bursts (burst ∷ bursts) ≡ 1 + (beats_of_burst burst + answers_of_burst burst) + work_of_bursts bursts
-work_first burst bursts = omega (arith, sum_by-cons beats_of_burst burst bursts, sum_by-cons answers_of_burst burst bursts)
+work_first : (write : Bool) (piece : Piece) (pieces : List Piece)
+    → work_of_bursts write (piece ∷ pieces) ≡ 1 + (beats_of_burst piece + answers_of_burst write piece) + work_of_bursts write pieces
+work_first write piece pieces = omega (arith, sum_by-cons beats_of_burst piece pieces, sum_by-cons (answers_of_burst write) piece pieces)
 
-unsent-sent : (flight : LiveRequest) (id : ℕ) (burst : Bool × Piece) → flight.done ≡ false → next_burst flight ≡ Some burst
-    → unsent_work flight ≡ 1 + (beats_of_burst burst + answers_of_burst burst) + unsent_work (with_sent id flight)
-unsent-sent flight id burst live is =
-    let first = first_dropped (planned flight) flight.sent burst is in
+unsent-sent : (flight : LiveRequest) (id : ℕ) (piece : Piece) → flight.done ≡ false → next_piece flight ≡ Some piece
+    → unsent_work flight ≡ 1 + (beats_of_burst piece + answers_of_burst flight.writing piece) + unsent_work (with_sent id flight)
+unsent-sent flight id piece live is =
     let next : flight.sent + 1 ≡ suc flight.sent = omega arith in
-    let one : work_of_bursts (drop flight.sent (planned flight)) ≡ 1 + (beats_of_burst burst + answers_of_burst burst) + work_of_bursts (drop (suc flight.sent) (planned flight)) =
-    ap work_of_bursts first ∙ work_first burst (drop (suc flight.sent) (planned flight))
-    in
+    let one = ap (work_of_bursts flight.writing) (first_dropped (planned flight) flight.sent piece is) ∙ work_first flight.writing piece (drop (suc flight.sent) (planned flight)) in
     rw (live, next) (omega (arith, one))
 
 -- the memory gets it
-burst_work : (id : ℕ) (request : BridgedRequest) (range : PlannedRange) (burst : Bool × Piece)
-    → transfers_in (burst_of_piece id request range burst) + answers_left 0 (burst_of_piece id request range burst) ≡ beats_of_burst burst + answers_of_burst burst
-burst_work id request range (true, piece) = refl
-burst_work id request range (false, piece) = omega arith
+burst_work : (id : ℕ) (request : BridgedRequest) (range : PlannedRange) (piece : Piece)
+    → transfers_in (burst_of_piece id request range piece) + answers_left 0 (burst_of_piece id request range piece) ≡ beats_of_burst piece + answers_of_burst request.flight.writing piece
+burst_work id request range piece = grind arith
 
 -- an event that takes one from the work; what was spared stays spared
 pub record TakesOne (old new : WorldState) : Type 0 where
@@ -84,11 +82,9 @@ sent_takes state sending last sound is =
     let there = found_by_number (may_send table) table.live request sound.bridge_laws.requests.flights.rising next.found in
     let unsent = sum_between unsent_of (is_numbered request.flight.number) (after_sending sending.id) table.live request there in
     let spared = sum_between spared_of (is_numbered request.flight.number) (after_sending sending.id) table.live request there in
-    let one = unsent-sent request.flight sending.id (next.write, next.piece) next.ready.undone next.next in
+    let one = unsent-sent request.flight sending.id next.piece next.ready.undone next.next in
     let memory = work_open-sent state.memory sending.burst in
-    let burst : transfers_in sending.burst + answers_left 0 sending.burst ≡ beats_of_burst (next.write, next.piece) + answers_of_burst (next.write, next.piece) =
-    ap (λ (b : Burst). transfers_in b + answers_left 0 b) next.burst ∙ burst_work sending.id request next.range (next.write, next.piece)
-    in
+    let burst = ap (λ (b : Burst). transfers_in b + answers_left 0 b) next.burst ∙ burst_work sending.id request next.range next.piece in
     let same : spared_of (after_sending sending.id request) ≡ spared_of request = refl in
     record {
       work = omega (arith, unsent, spared, one, memory, burst, same, unsent_by_flight table.live, unsent_by_flight (after_sent state.bridge sending).requests.live);
@@ -119,17 +115,11 @@ pub record IsSettled (old new : LiveRequest) : Type 0 where
 live_spared : (flight : LiveRequest) → flight.done ≡ false → spared_work flight ≡ 0
 live_spared flight live = rw live refl
 
-drop_all : (bursts : List (Bool × Piece)) (k : ℕ) → length bursts ≤ k → drop k bursts ≡ []
-drop_all [] zero past = refl
-drop_all [] (suc k) past = refl
-drop_all (b ∷ bursts) zero past = absurd (omega (arith, past))
-drop_all (b ∷ bursts) (suc k) past = drop_all bursts k (omega (arith, past))
-
 -- once all of a phase was answered, what is left is what comes after it
 phase_over : (flight : LiveRequest) → flight.done ≡ false → is_settled flight ≡ true → flight.answered ≤ flight.sent → unsent_work flight ≡ later_work flight
 phase_over flight live settles later =
     let all = leb-true (length (planned flight)) flight.answered settles in
-    rw (live, drop_all (planned flight) flight.sent (omega (arith, all, later))) (omega arith)
+    rw (live, drop_all flight.sent (planned flight) (omega (arith, all, later))) (omega arith)
 
 finished_settles : (flight : LiveRequest) → flight.done ≡ false → is_settled flight ≡ true → flight.answered ≤ flight.sent → IsSettled flight (finished flight)
 finished_settles flight live settles later =
@@ -184,15 +174,15 @@ answer_takes state new test change request found settling is memory =
 
 pub answer_b_takes : (state : WorldState) (id : ℕ) (b : BBeat) → IsSoundWorld state → b_of state.memory id ≡ Some b → TakesOne state (next state (AnswerB id)).state
 answer_b_takes state id b sound is =
-    let writer = answered_writer state.bridge b sound.bridge_laws (b_unbroken state id b sound is) in
-    rw is (answer_takes state (answered_b state id (Some b)).state (holds b.id) (after_response b.resp) writer.request writer.held (answered_settles writer.request (after_b b.resp writer.request.gathering) writer.live writer.sent) refl
+    let writer = finds_writer state.bridge b sound.bridge_laws (b_unbroken state id b sound is) in
+    rw is (answer_takes state (answered_b state id (Some b)).state (holds b.id) (after_response b.resp) writer.request writer.holder.held (answered_settles writer.request (after_b b.resp writer.request.gathering) writer.holder.live writer.next.within) refl
     (work_open-b state.memory id b is))
 
 pub answer_r_takes : (state : WorldState) (id : ℕ) (r : RBeat) → IsSoundWorld state → r_of state.memory id ≡ Some r → TakesOne state (next state (AnswerR id)).state
 answer_r_takes state id r sound is =
-    let reader = answered_reader state.bridge r sound.bridge_laws (r_unbroken state id r sound is) in
+    let finds = finds_reader state.bridge r sound.bridge_laws (r_unbroken state id r sound is) in
     let bytes = state.bridge.requests.config.axi_bytes in
-    rw is (answer_takes state (answered_r state id (Some r)).state (holds r.id) (after_read bytes r) reader.request reader.held (read_settles bytes r reader.request reader.live reader.sent) refl
+    rw is (answer_takes state (answered_r state id (Some r)).state (holds r.id) (after_read bytes r) finds.request finds.reader.holder.held (read_settles bytes r finds.request finds.reader.holder.live finds.reader.next.within) refl
     (work_open-r state.memory id r sound.memory_laws is))
 
 -- ---- each enabled step
