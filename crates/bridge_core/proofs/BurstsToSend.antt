@@ -91,7 +91,7 @@ can_fill kept key range piece id goes =
     let of = range_served kept.config kept.regions (bridged goes.request held) range goes.served goes.plan in
     let carries : has_data held.message.operation ≡ true = ap has_data (sym goes.served.flight.operation) ∙ writes_data goes.request piece goes.writes goes.next in
     record {
-      listed = piece_of_plan goes.request range piece goes.plan goes.next;
+      listed = (goes.request.sent, piece_of_plan goes.request range goes.request.sent piece goes.plan goes.next);
       carries = carries;
       beats = goes.served.message.beats ∙ ap (λ b. beats_of held.message.size b) carries;
       size = sym (ap (λ (p : PlannedRange). p.size) of.is);

@@ -69,14 +69,13 @@ plannable config regions request range valid map_of served plan =
     let has = range_served config regions request range served plan in
     (counts.plannable config regions request.message range (config_parts config valid) served.message has, ap (λ (r : PlannedRange). r.bus_bytes) has.is)
 
--- ---- its next burst is a piece of its plan
+-- ---- its bursts are pieces of its plan
 
 abbrev pub IsListed : List Piece → Piece → Type 0
-IsListed parts piece = (k : ℕ) × (slice_get parts k ≡ Some piece)
+IsListed pieces piece = (k : ℕ) × (slice_get pieces k ≡ Some piece)
 
-pub piece_of_plan : (flight : LiveRequest) (range : PlannedRange) (piece : Piece) → flight.plan ≡ Some range → next_piece flight ≡ Some piece → IsListed (pieces range) piece
-piece_of_plan flight range piece plan next =
-    (flight.sent, ap (λ (p : Option PlannedRange). slice_get (pieces_planned p) flight.sent) (sym plan) ∙ piece_planned flight flight.sent piece next)
+pub piece_of_plan : (flight : LiveRequest) (range : PlannedRange) (k : ℕ) (piece : Piece) → flight.plan ≡ Some range → slice_get (planned flight) k ≡ Some piece → slice_get (pieces range) k ≡ Some piece
+piece_of_plan flight range k piece plan there = ap (λ (p : Option PlannedRange). slice_get (pieces_planned p) k) (sym plan) ∙ piece_planned flight k piece there
 
 -- ---- so it is legal
 
@@ -90,7 +89,7 @@ sent_legal table sending sound is =
     let next = next_found table sending is in
     let served = next_served table sending sound next in
     let (has_plan, bus) = plannable table.config table.regions sending.request next.range sound.config served.pages served next.plan in
-    let legal = burst_legal sending.id sending.request next.range next.piece has_plan (piece_of_plan sending.request.flight next.range next.piece next.plan next.next) in
+    let legal = burst_legal sending.id sending.request next.range next.piece has_plan (sending.request.flight.sent, piece_of_plan sending.request.flight next.range sending.request.flight.sent next.piece next.plan next.next) in
     rw next.burst (subst (λ bus_bytes. IsLegal bus_bytes (burst_of_piece sending.id sending.request next.range next.piece)) bus legal)
 
 -- ---- its ID has room for it

@@ -136,18 +136,18 @@ pub record IsReadOf (order : Order) (bus_bytes number : ℕ) (pending : Pending)
       (n payload : ℕ) (resp : Resp) → slice_get pending.beats n ≡ Some (Captured payload resp)
       → TellsSerially order number bus_bytes piece (n + 1) payload resp
 
--- an open burst of a piece, on its side; true is a write
-abbrev pub IsBurstOf : Order → ℕ → (ℕ → ℕ → Bool) → ℕ → Pending → Bool × Piece → Type 0
-IsBurstOf order bus_bytes wrote number pending (true, piece) = IsWriteOf order bus_bytes wrote number pending piece
-IsBurstOf order bus_bytes wrote number pending (false, piece) = IsReadOf order bus_bytes number pending piece
+-- an open burst of a piece of a request that writes, or reads; true is a write
+abbrev pub IsBurstOf : Order → ℕ → (ℕ → ℕ → Bool) → ℕ → Bool → Pending → Piece → Type 0
+IsBurstOf order bus_bytes wrote number true pending piece = IsWriteOf order bus_bytes wrote number pending piece
+IsBurstOf order bus_bytes wrote number false pending piece = IsReadOf order bus_bytes number pending piece
 
 -- open bursts are, one by one, these pieces of a request
-abbrev pub AreBurstsOf : Order → ℕ → (ℕ → ℕ → Bool) → ℕ → List Pending → List (Bool × Piece) → Type 0
-AreBurstsOf order bus_bytes wrote number [] [] = ⊤
-AreBurstsOf order bus_bytes wrote number [] (burst ∷ bursts) = ⊥
-AreBurstsOf order bus_bytes wrote number (pending ∷ more) [] = ⊥
-AreBurstsOf order bus_bytes wrote number (pending ∷ more) (burst ∷ bursts) =
-    IsBurstOf order bus_bytes wrote number pending burst × AreBurstsOf order bus_bytes wrote number more bursts
+abbrev pub AreBurstsOf : Order → ℕ → (ℕ → ℕ → Bool) → ℕ → Bool → List Pending → List Piece → Type 0
+AreBurstsOf order bus_bytes wrote number write [] [] = ⊤
+AreBurstsOf order bus_bytes wrote number write [] (piece ∷ pieces) = ⊥
+AreBurstsOf order bus_bytes wrote number write (pending ∷ more) [] = ⊥
+AreBurstsOf order bus_bytes wrote number write (pending ∷ more) (piece ∷ pieces) =
+    IsBurstOf order bus_bytes wrote number write pending piece × AreBurstsOf order bus_bytes wrote number write more pieces
 
 -- whether an open burst, write or read, has an ID
 abbrev pub is_of_id : ℕ → Pending → Bool
@@ -156,7 +156,7 @@ is_of_id id pending = is_write_of id pending || is_read_of id pending
 -- the open bursts of an ID, in the order sent, are the outstanding ones of the request that holds it; where nobody does there are none
 abbrev pub AreOfHolder : Order → ℕ → (ℕ → ℕ → Bool) → List Pending → Option BridgedRequest → Type 0
 AreOfHolder order bus_bytes wrote mine None = mine ≡ []
-AreOfHolder order bus_bytes wrote mine (Some request) = AreBurstsOf order bus_bytes wrote request.flight.number mine (outstanding request.flight)
+AreOfHolder order bus_bytes wrote mine (Some request) = AreBurstsOf order bus_bytes wrote request.flight.number request.flight.writing mine (outstanding request.flight)
 
 -- ---- the live requests
 
@@ -199,12 +199,12 @@ pub record IsInOrder (order : Order) (bus_bytes : ℕ) (wrote : ℕ → ℕ → 
   pub unwritten : request.flight.writing ≡ false → (x : ℕ) → wrote request.flight.number x ≡ false
   -- of a write that isn't sent nothing is written
   pub unsent :
-      (k n x : ℕ) (piece : Piece) → request.flight.sent ≤ k → slice_get (planned request.flight) k ≡ Some (true, piece) → n ≤ piece.len
+      request.flight.writing ≡ true → (k n x : ℕ) (piece : Piece) → request.flight.sent ≤ k → slice_get (planned request.flight) k ≡ Some piece → n ≤ piece.len
       → transfer_has piece.address piece.size (n + 1) x ≡ true → wrote request.flight.number x ≡ false
   -- of an answered write all bytes are written, those of each of its transfers
   pub written :
-      (k n x : ℕ) (piece : Piece) → k < request.flight.answered → slice_get (planned request.flight) k ≡ Some (true, piece) → 1 ≤ n → n ≤ piece.len + 1
-      → transfer_has piece.address piece.size n x ≡ true → writes order request.flight.number x ≡ true → wrote request.flight.number x ≡ true
+      request.flight.writing ≡ true → (k n x : ℕ) (piece : Piece) → k < request.flight.answered → slice_get (planned request.flight) k ≡ Some piece → 1 ≤ n
+      → n ≤ piece.len + 1 → transfer_has piece.address piece.size n x ≡ true → writes order request.flight.number x ≡ true → wrote request.flight.number x ≡ true
   -- its reply is told from this
   pub gathered : IsGathered order bus_bytes request (address_of order.regions (request_of request.message))
 

@@ -2,7 +2,7 @@
 -- told nothing yet, and once all its pieces are written it has written all. It knows the plan of one request, its bursts as they are sent and
 -- while they are open; what becomes of them, and all other requests, are hidden.
 use Rattle.std.specs.List.{range_with_len, slice_get, filter, find}
-use Rattle.std.proofs.Common.{◌≡◌, ℕ, zero, suc, ◌+◌, ◌^◌, ◌<◌, ◌≤◌, nat_le, nat_lt, Bool, true, false, ◌&&◌, not, List, map, replicate, Option, Some, is_some, refl, ap, sym, ◌∙◌, subst, arith, length, None, ◌||◌, [], ◌∷◌, drop, take, unwrap_or, option_map}
+use Rattle.std.proofs.Common.{◌≡◌, ℕ, zero, suc, ◌+◌, ◌^◌, ◌<◌, ◌≤◌, nat_le, nat_lt, Bool, true, false, ◌&&◌, not, List, map, replicate, Option, Some, is_some, refl, ap, sym, ◌∙◌, subst, arith, length, None, ◌||◌, [], ◌∷◌, drop, take, unwrap_or, option_map, if◌then◌else◌}
 use Rattle.std.proofs.lemmas.Bool.{and_from, and_parts, le-leb, lt-ltb, and_right, leb-true}
 use Rattle.std.proofs.lemmas.List.FromFn.{length-map-range_with_len, get_or-map-range_with_len}
 use Rattle.std.proofs.lemmas.Option.{get_or_from_slice_get, slice_get_within}
@@ -20,14 +20,13 @@ use Rattle.axi_beats.specs.declared.WBeat.{WBeat}
 use Rattle.data_unit.specs.Words.{value}
 use Rattle.burst_plan.specs.PageMap.{IsPageMap, address_of}
 use Rattle.burst_plan.specs.Pieces.{IsPlannable, PlannedRange, pieces}
-use Rattle.burst_plan.specs.PlannedBursts.{PutsBytes, w_beat}
+use Rattle.burst_plan.specs.PlannedBursts.{PutsBytes, read_of, w_beat, write_of}
 use Rattle.burst_plan.specs.PlannedTransfers.{HasAddress, HoldsEachByteOnce, piece_of, transfer_of}
 use Rattle.burst_plan.specs.declared.Piece.{Piece}
 use Rattle.burst_plan.specs.declared.Region.{Region}
 use Rattle.burst_plan.proofs.TransferPlaces.{holds_each_byte_once}
 use Rattle.burst_plan.proofs.WriteLaws.{puts_given_bytes}
-use Rattle.flight_table.specs.LiveRequests.{LiveRequest, reads_then_writes, next_burst, plan_for, planned, write_pieces, pieces_planned}
-use Rattle.flight_table.proofs.PhaseLaws.{write_at, write_planned, piece_planned}
+use Rattle.flight_table.specs.LiveRequests.{LiveRequest, reads_then_writes, next_piece, plan_for, planned, write_pieces}
 use Rattle.config.specs.Configs.{is_valid}
 use Rattle.bridge_core.specs.Laws.{IsServed, outstanding}
 use Rattle.bridge_core.specs.HeldRequests.{BridgedRequest, range_at, range_of, value_found, RequestTable, holder, holds, is_numbered}
@@ -91,10 +90,6 @@ writes_in_range order config request range x at is_asked written =
 
 -- ---- the pieces of its plan
 
--- a planned burst is a piece of the plan
-pub piece_of_planned : (flight : LiveRequest) (range : PlannedRange) (k : ℕ) (write : Bool) (piece : Piece) → flight.plan ≡ Some range → slice_get (planned flight) k ≡ Some (write, piece) → IsListed (pieces range) piece
-piece_of_planned flight range k write piece plan there = piece_of_plan (record flight { sent = k }) range write piece plan there
-
 -- the bytes of its transfers are those of the range
 pub transfer_inside : (config : Config) (regions : List Region) (request : BridgedRequest) (range : PlannedRange) (piece : Piece) (n x : ℕ) → IsPlannedAt config regions request range → IsListed (pieces range) piece
     → 1 ≤ n → n ≤ piece.len + 1 → transfer_has piece.address piece.size n x ≡ true → HasAddress range x
@@ -148,12 +143,12 @@ transfer_is config regions request range piece n w at listed there =
     }
 
 -- an atomic that writes found the number that it finds one at a time, and its word isn't bad
-atomic_found : (order : Order) (config : Config) (request : BridgedRequest) (range : PlannedRange) (piece : Piece) → IsServed config order.regions request → request.flight.done ≡ false
-    → next_burst request.flight ≡ Some (true, piece) → (reads_then_writes request.flight ≡ true → FindsSerially order request range.address) → (op : AtomicOp) → request.message.operation ≡ Atomic op
+atomic_found : (order : Order) (config : Config) (request : BridgedRequest) (range : PlannedRange) → IsServed config order.regions request → request.flight.done ≡ false
+    → request.flight.writing ≡ true → (reads_then_writes request.flight ≡ true → FindsSerially order request range.address) → (op : AtomicOp) → request.message.operation ≡ Atomic op
     → (is_bad order.faults range.address ≡ false) × (unwrap_or (value_found request) 0 ≡ value (bytes_at (bytes_before order request.flight.number) range.address (2 ^ request.message.size)))
-atomic_found order config request range piece served live next finds op is =
+atomic_found order config request range served live writes finds op is =
     let atomic = atomic_is config order.regions request op served is in
-    let found = served.found atomic (write_at request.flight request.flight.sent piece next).0 live in
+    let found = served.found atomic writes live in
     let serially = finds atomic in
     let fine = serially.word found in
     let number = value (bytes_at (bytes_before order request.flight.number) range.address (2 ^ request.message.size)) in
@@ -162,11 +157,11 @@ atomic_found order config request range piece served live next finds op is =
 -- the writes of a request put what it leaves; of an atomic, where its read found what it finds one at a time
 pub puts_serially : (order : Order) (config : Config) (request : BridgedRequest) (range : PlannedRange) (piece : Piece) (n : ℕ) (w : WBeat) → is_valid config ≡ true → IsPageMap order.regions
     → IsServed config order.regions request → asked order request.flight.number ≡ Some (request_of request.message) → request.flight.done ≡ false → request.flight.plan ≡ Some range
-    → next_burst request.flight ≡ Some (true, piece) → (reads_then_writes request.flight ≡ true → FindsSerially order request range.address)
+    → request.flight.writing ≡ true → next_piece request.flight ≡ Some piece → (reads_then_writes request.flight ≡ true → FindsSerially order request range.address)
     → slice_get (map (w_beat range.bus_bytes (given_at (bytes_to_write request) range.address) piece) (range_with_len 1 (piece.len + 1))) n ≡ Some w
     → PutsSerially order request.flight.number range.bus_bytes piece (n + 1) w
-puts_serially order config request range piece n w valid pages served is_asked live plan next finds there =
-    let is = transfer_is config order.regions request range piece n w at (piece_of_plan request.flight range true piece plan next) there in
+puts_serially order config request range piece n w valid pages served is_asked live plan writing next finds there =
+    let is = transfer_is config order.regions request range piece n w at (request.flight.sent, piece_of_plan request.flight range request.flight.sent piece plan next) there in
     record {
       strobes = λ x has good. is.puts.strobes x has ∙ where_written x ∙ sym (written_there x (is.inside x has) good);
       bytes = λ x has written.
@@ -183,7 +178,7 @@ puts_serially order config request range piece n w valid pages served is_asked l
     where_written : (x : ℕ) → is_some (given_at (bytes_to_write request) range.address x) ≡ gives_byte order.faults q range.address q.operation x
     where_written x =
         gives_where_written order.faults q request.message.operation range.address x (unwrap_or (value_found request) 0)
-        (λ op is. (atomic_found order config request range piece served live next finds op is).0)
+        (λ op is. (atomic_found order config request range served live writing finds op is).0)
 
     written_there : (x : ℕ) → HasAddress range x → is_good (standing_at order.faults x) ≡ true → writes order request.flight.number x ≡ gives_byte order.faults q range.address q.operation x
     written_there x inside good =
@@ -194,7 +189,7 @@ puts_serially order config request range piece n w valid pages served is_asked l
         → given_at (bytes_to_write request) range.address x ≡ Some (byte_left order request.flight.number x)
     what_is_left x page given =
         gives_what_is_left order.faults q (bytes_before order request.flight.number) request.message.operation (standing_at order.faults range.address) (is_bad order.faults range.address) range.address x
-        (unwrap_or (value_found request) 0) page (atomic_found order config request range piece served live next finds) given
+        (unwrap_or (value_found request) 0) page (atomic_found order config request range served live writing finds) given
         ∙ ap (λ (byte : ℕ). Some byte) (sym (byte_left_is order request.flight.number q range.address x is_asked at.address))
 
 -- ---- as open bursts
@@ -213,10 +208,10 @@ no_capture count n payload resp there = absurd (cc (still_waiting count n (Captu
 -- a write just sent
 pub burst_of_write : (order : Order) (config : Config) (wrote : ℕ → ℕ → Bool) (serial id : ℕ) (request : BridgedRequest) (range : PlannedRange) (piece : Piece) → is_valid config ≡ true → IsPageMap order.regions
     → IsServed config order.regions request → asked order request.flight.number ≡ Some (request_of request.message) → request.flight.done ≡ false → request.flight.plan ≡ Some range
-    → next_burst request.flight ≡ Some (true, piece) → (reads_then_writes request.flight ≡ true → FindsSerially order request range.address)
+    → request.flight.writing ≡ true → next_piece request.flight ≡ Some piece → (reads_then_writes request.flight ≡ true → FindsSerially order request range.address)
     → ((n x : ℕ) → n ≤ piece.len → transfer_has piece.address piece.size (n + 1) x ≡ true → wrote request.flight.number x ≡ false)
-    → IsWriteOf order range.bus_bytes wrote request.flight.number (newly_pending serial (burst_of_piece id request range (true, piece))) piece
-burst_of_write order config wrote serial id request range piece valid pages served is_asked live plan next finds none =
+    → IsWriteOf order range.bus_bytes wrote request.flight.number (newly_pending serial (write_of range.bus_bytes id (bytes_to_write request) range.address piece)) piece
+burst_of_write order config wrote serial id request range piece valid pages served is_asked live plan writing next finds none =
     record {
       aw = record { id = id; address = piece.address; len = piece.len; size = piece.size; burst = 1 };
       w_beats = map (w_beat range.bus_bytes (given_at (bytes_to_write request) range.address) piece) (range_with_len 1 (piece.len + 1));
@@ -224,15 +219,14 @@ burst_of_write order config wrote serial id request range piece valid pages serv
       address = refl;
       size = refl;
       len = refl;
-      puts = λ n w there. puts_serially order config request range piece n w valid pages served is_asked live plan next finds there;
+      puts = λ n w there. puts_serially order config request range piece n w valid pages served is_asked live plan writing next finds there;
       written = λ n x beat there performed has written. absurd (cc (performed, still_waiting (piece.len + 1) n beat there));
       unwritten = λ n x waits within has. none n x within has;
     }
 
 -- a read just sent
-pub burst_of_read : (order : Order) (bus_bytes number serial id : ℕ) (request : BridgedRequest) (range : PlannedRange) (piece : Piece)
-    → IsReadOf order bus_bytes number (newly_pending serial (burst_of_piece id request range (false, piece))) piece
-burst_of_read order bus_bytes number serial id request range piece =
+pub burst_of_read : (order : Order) (bus_bytes number serial id : ℕ) (piece : Piece) → IsReadOf order bus_bytes number (newly_pending serial (read_of id piece)) piece
+burst_of_read order bus_bytes number serial id piece =
     record {
       ar = record { id = id; address = piece.address; len = piece.len; size = piece.size; burst = 1 };
       burst = refl;
@@ -243,17 +237,21 @@ burst_of_read order bus_bytes number serial id request range piece =
     }
 
 -- the next burst of a live request, just sent
-pub burst_of_next : (order : Order) (config : Config) (wrote : ℕ → ℕ → Bool) (serial id : ℕ) (request : BridgedRequest) (range : PlannedRange) (write : Bool) (piece : Piece) → is_valid config ≡ true → IsPageMap order.regions
+pub burst_of_next : (order : Order) (config : Config) (wrote : ℕ → ℕ → Bool) (serial id : ℕ) (request : BridgedRequest) (range : PlannedRange) (piece : Piece) → is_valid config ≡ true → IsPageMap order.regions
     → IsServed config order.regions request → asked order request.flight.number ≡ Some (request_of request.message) → request.flight.done ≡ false → request.flight.plan ≡ Some range
-    → next_burst request.flight ≡ Some (write, piece) → (reads_then_writes request.flight ≡ true → write ≡ true → FindsSerially order request range.address)
-    → (write ≡ true → (n x : ℕ) → n ≤ piece.len → transfer_has piece.address piece.size (n + 1) x ≡ true → wrote request.flight.number x ≡ false)
-    → IsBurstOf order config.axi_bytes wrote request.flight.number (newly_pending serial (burst_of_piece id request range (write, piece))) (write, piece)
-burst_of_next order config wrote serial id request range true piece valid pages served is_asked live plan next finds none =
-    subst (λ bus_bytes. IsWriteOf order bus_bytes wrote request.flight.number (newly_pending serial (burst_of_piece id request range (true, piece))) piece)
-    (planned_at config order.regions request range valid pages served plan).bus
-    (burst_of_write order config wrote serial id request range piece valid pages served is_asked live plan next (λ atomic. finds atomic refl) (none refl))
-burst_of_next order config wrote serial id request range false piece valid pages served is_asked live plan next finds none =
-    burst_of_read order config.axi_bytes request.flight.number serial id request range piece
+    → next_piece request.flight ≡ Some piece → (reads_then_writes request.flight ≡ true → request.flight.writing ≡ true → FindsSerially order request range.address)
+    → (request.flight.writing ≡ true → (n x : ℕ) → n ≤ piece.len → transfer_has piece.address piece.size (n + 1) x ≡ true → wrote request.flight.number x ≡ false)
+    → IsBurstOf order config.axi_bytes wrote request.flight.number request.flight.writing (newly_pending serial (burst_of_piece id request range piece)) piece
+burst_of_next order config wrote serial id request range piece valid pages served is_asked live plan next finds none = by_side request.flight.writing refl
+  where
+    by_side : (write : Bool) → request.flight.writing ≡ write
+        → IsBurstOf order config.axi_bytes wrote request.flight.number write
+        (newly_pending serial (if write then write_of range.bus_bytes id (bytes_to_write request) range.address piece else read_of id piece)) piece
+    by_side true writing =
+        subst (λ bus_bytes. IsWriteOf order bus_bytes wrote request.flight.number (newly_pending serial (write_of range.bus_bytes id (bytes_to_write request) range.address piece)) piece)
+        (planned_at config order.regions request range valid pages served plan).bus
+        (burst_of_write order config wrote serial id request range piece valid pages served is_asked live plan writing next (λ atomic. finds atomic writing) (none writing))
+    by_side false reads = burst_of_read order config.axi_bytes request.flight.number serial id piece
 
 -- ---- requests that write nothing
 
@@ -331,8 +329,8 @@ all_written_done order config bus_bytes wrote request valid pages served of is_d
     whole range at writing all =
         all_pieces_written order request.flight.number range wrote (holds_each_byte_once range at.plannable)
         (λ k n y piece listed first last has there.
-        let burst = write_planned request.flight k piece writing (ap (λ (parts : List Piece). slice_get parts k) all ∙ listed) in
-        of.written k n y piece (omega (arith, slice_get_within (planned request.flight) k (true, piece) burst, settled)) burst first last has there)
+        let burst : slice_get (planned request.flight) k ≡ Some piece = rw writing (ap (λ (parts : List Piece). slice_get parts k) all ∙ listed) in
+        of.written writing k n y piece (omega (arith, slice_get_within (planned request.flight) k piece burst, settled)) burst first last has there)
         (λ y there. (writes_in_range order config request range y at of.asked there).inside) x written
 
     by_writes : (range : PlannedRange) → request.flight.plan ≡ Some range → IsPlannedAt config order.regions request range → (carried writing : Bool) → has_data request.flight.operation ≡ carried
@@ -349,20 +347,15 @@ all_written_done order config bus_bytes wrote request valid pages served of is_d
     by_plan (Some range) plan =
         by_writes range plan (planned_at config order.regions request range valid pages served plan) (has_data request.flight.operation) request.flight.writing refl refl
 
--- ---- a planned write is a piece of the plan, at its place
-
-write_listed : (flight : LiveRequest) (range : PlannedRange) (k : ℕ) (piece : Piece) → flight.plan ≡ Some range → slice_get (planned flight) k ≡ Some (true, piece) → slice_get (pieces range) k ≡ Some piece
-write_listed flight range k piece plan there = ap (λ (p : Option PlannedRange). slice_get (pieces_planned p) k) (sym plan) ∙ piece_planned flight k true piece there
-
 -- ---- each byte is held by one of them
 
-pub same_transfer : (flight : LiveRequest) (range : PlannedRange) (k j n m x : ℕ) (piece other : Piece) → IsPlannable range → flight.plan ≡ Some range → slice_get (planned flight) k ≡ Some (true, piece)
-    → slice_get (planned flight) j ≡ Some (true, other) → 1 ≤ n → n ≤ piece.len + 1 → 1 ≤ m → m ≤ other.len + 1 → transfer_has piece.address piece.size n x ≡ true
+pub same_transfer : (flight : LiveRequest) (range : PlannedRange) (k j n m x : ℕ) (piece other : Piece) → IsPlannable range → flight.plan ≡ Some range → slice_get (planned flight) k ≡ Some piece
+    → slice_get (planned flight) j ≡ Some other → 1 ≤ n → n ≤ piece.len + 1 → 1 ≤ m → m ≤ other.len + 1 → transfer_has piece.address piece.size n x ≡ true
     → transfer_has other.address other.size m x ≡ true → (k ≡ j) × (n ≡ m)
 same_transfer flight range k j n m x piece other plannable plan there here first last first' last' has has' =
     let once = holds_each_byte_once range plannable in
-    let one = once.back k n x piece (write_listed flight range k piece plan there) first last has in
-    let two = once.back j m x other (write_listed flight range j other plan here) first' last' has' in
+    let one = once.back k n x piece (piece_of_plan flight range k piece plan there) first last has in
+    let two = once.back j m x other (piece_of_plan flight range j other plan here) first' last' has' in
     (omega (arith, one.1, two.1), sym one.2 ∙ two.2)
 
 -- ---- the holder of an ID with open bursts
@@ -371,7 +364,7 @@ same_transfer flight range k j n m x piece other plannable plan there here first
 pub record HasOpen (order : Order) (state : WorldState) (wrote : ℕ → ℕ → Bool) (id : ℕ) : Type 0 where
   pub request : BridgedRequest
   pub known : IsHolder state.bridge.requests id request
-  pub are : AreBurstsOf order state.memory.bus_bytes wrote request.flight.number (filter (is_of_id id) state.memory.pending) (outstanding request.flight)
+  pub are : AreBurstsOf order state.memory.bus_bytes wrote request.flight.number request.flight.writing (filter (is_of_id id) state.memory.pending) (outstanding request.flight)
 
 pub has_open : (order : Order) (state : WorldState) (wrote : ℕ → ℕ → Bool) (id : ℕ) (test : Pending → Bool) (pending : Pending) → IsSoundWorld state
     → AreOfHolder order state.memory.bus_bytes wrote (filter (is_of_id id) state.memory.pending) (holder id state.bridge.requests.live)
@@ -407,14 +400,14 @@ part_at xs from to k x there = taken_at xs to (k + from) x (dropped_at (take to 
 
 -- ---- a request with an outstanding burst
 
-pub record IsGoingOn (order : Order) (table : RequestTable) (request : BridgedRequest) (burst : Bool × Piece) : Type 0 where
+pub record IsGoingOn (order : Order) (table : RequestTable) (request : BridgedRequest) (piece : Piece) : Type 0 where
   pub place : ℕ
   pub unanswered : request.flight.answered ≤ place
   pub sent : place < request.flight.sent
-  pub planned : slice_get (planned request.flight) place ≡ Some burst
+  pub planned : slice_get (planned request.flight) place ≡ Some piece
   pub range : PlannedRange
   pub plan : request.flight.plan ≡ Some range
-  pub listed : IsListed (pieces range) burst.1
+  pub listed : IsListed (pieces range) piece
   pub at : IsPlannedAt table.config order.regions request range
   pub pages : IsPageMap order.regions
   pub served : IsServed table.config order.regions request
@@ -435,11 +428,11 @@ has_range flight no_plan undone = by_plan flight.plan refl
 begun : (own : Option ℕ) (id : ℕ) (done : Bool) → own ≡ Some id → (is_some own || done) ≡ true
 begun own id done is = rw is refl
 
-pub going_on : (order : Order) (state : WorldState) (id : ℕ) (request : BridgedRequest) (k : ℕ) (burst : Bool × Piece) → IsSoundWorld state → state.bridge.requests.regions ≡ order.regions
-    → IsHolder state.bridge.requests id request → slice_get (outstanding request.flight) k ≡ Some burst → IsGoingOn order state.bridge.requests request burst
-going_on order state id request k burst sound regions known there =
+pub going_on : (order : Order) (state : WorldState) (id : ℕ) (request : BridgedRequest) (k : ℕ) (piece : Piece) → IsSoundWorld state → state.bridge.requests.regions ≡ order.regions
+    → IsHolder state.bridge.requests id request → slice_get (outstanding request.flight) k ≡ Some piece → IsGoingOn order state.bridge.requests request piece
+going_on order state id request k piece sound regions known there =
     let table = state.bridge.requests in
-    let (at_place, before) = part_at (planned request.flight) request.flight.answered request.flight.sent k burst there in
+    let (at_place, before) = part_at (planned request.flight) request.flight.answered request.flight.sent k piece there in
     let plan = has_range request.flight known.sound.no_plan known.live in
     let served = subst (λ (map : List Region). IsServed table.config map request) regions known.served in
     let pages = subst IsPageMap regions known.served.pages in
@@ -450,7 +443,7 @@ going_on order state id request k burst sound regions known there =
       planned = at_place;
       range = plan.range;
       plan = plan.is;
-      listed = piece_of_planned request.flight plan.range (k + request.flight.answered) burst.0 burst.1 plan.is at_place;
+      listed = (k + request.flight.answered, piece_of_plan request.flight plan.range (k + request.flight.answered) piece plan.is at_place);
       at = planned_at table.config order.regions request plan.range sound.bridge_laws.requests.config pages served plan.is;
       pages = pages;
       served = served;
@@ -469,15 +462,15 @@ going_on order state id request k burst sound regions known there =
     neither undone = grind (arith, undone)
 
 -- its place is counted through the bursts of its phase
-pub going_on-place : (order : Order) (state : WorldState) (id : ℕ) (request : BridgedRequest) (k : ℕ) (burst : Bool × Piece) (sound : IsSoundWorld state) (regions : state.bridge.requests.regions ≡ order.regions)
-    (known : IsHolder state.bridge.requests id request) (there : slice_get (outstanding request.flight) k ≡ Some burst) → (going_on order state id request k burst sound regions known there).place ≡ k + request.flight.answered
+pub going_on-place : (order : Order) (state : WorldState) (id : ℕ) (request : BridgedRequest) (k : ℕ) (piece : Piece) (sound : IsSoundWorld state) (regions : state.bridge.requests.regions ≡ order.regions)
+    (known : IsHolder state.bridge.requests id request) (there : slice_get (outstanding request.flight) k ≡ Some piece) → (going_on order state id request k piece sound regions known there).place ≡ k + request.flight.answered
 unfolding going_on
-going_on-place order state id request k burst sound regions known there = refl
+going_on-place order state id request k piece sound regions known there = refl
 
 -- the bytes of a burst's transfers are bytes that its request touches
-pub transfer_touches : (order : Order) (table : RequestTable) (request : BridgedRequest) (burst : Bool × Piece) (n x : ℕ) → IsGoingOn order table request burst
-    → asked order request.flight.number ≡ Some (request_of request.message) → 1 ≤ n → n ≤ burst.1.len + 1 → transfer_has burst.1.address burst.1.size n x ≡ true
+pub transfer_touches : (order : Order) (table : RequestTable) (request : BridgedRequest) (piece : Piece) (n x : ℕ) → IsGoingOn order table request piece
+    → asked order request.flight.number ≡ Some (request_of request.message) → 1 ≤ n → n ≤ piece.len + 1 → transfer_has piece.address piece.size n x ≡ true
     → touches order request.flight.number x ≡ true
-transfer_touches order table request burst n x going is_asked first last has =
+transfer_touches order table request piece n x going is_asked first last has =
     range_touched order table.config request going.range x going.served going.at is_asked going.plan
-    (transfer_inside table.config order.regions request going.range burst.1 n x going.at going.listed first last has)
+    (transfer_inside table.config order.regions request going.range piece n x going.at going.listed first last has)

@@ -1,7 +1,7 @@
 -- What performing a beat of an open burst does to single bytes: a write stores what its request leaves, and a read captures what its request
 -- finds. The open bursts of an ID are the outstanding ones of its holder, where one is sent, performed or answered. It knows these bursts and
 -- the memory; that the memory has what the request finds is a premise, and other requests are hidden.
-use Rattle.std.specs.Prelude.{unwrap_or, IfSome, slice_set, ⊤, if◌then◌else◌}
+use Rattle.std.specs.Prelude.{unwrap_or, IfSome, slice_set, if◌then◌else◌}
 use Rattle.std.specs.List.{enumerate_from, list_all, list_any, slice_get, AllByRecursion, find, filter}
 use Rattle.std.proofs.Common.{◌≡◌, ◌≢◌, ℕ, zero, suc, ◌+◌, ◌-◌, ◌%◌, ◌<◌, ◌≤◌, ◌==◌, Bool, true, false, ◌&&◌, List, [], ◌∷◌, length, Option, Some, None, is_some, inl, inr, ◌⊎◌, refl, ap, sym, ◌∙◌, subst, arith, not, ◌||◌, ◌++◌}
 use Rattle.std.proofs.lemmas.Bool.Decides.{nat_tests}
@@ -15,12 +15,10 @@ use Rattle.axi_beats.specs.Transfers.{transfer_address, transfer_has}
 use Rattle.axi_beats.specs.declared.AwBeat.{AwBeat}
 use Rattle.axi_beats.specs.declared.Resp.{Resp}
 use Rattle.axi_beats.specs.declared.WBeat.{WBeat}
-use Rattle.axi_beats.specs.declared.ArBeat.{ArBeat}
 use Rattle.burst_plan.specs.declared.Piece.{Piece}
 use Rattle.flight_table.specs.LiveRequests.{planned}
 use Rattle.bridge_core.specs.Laws.{outstanding}
 use Rattle.bridge_core.specs.HeldRequests.{BridgedRequest, holder, holds, settled}
-use Rattle.bridge_core.proofs.AnswerLinks.{AreOf}
 use Rattle.bridge_core.proofs.ResponseLinks.{finished_one, holds_it, nothing_left, settled_as, with_its_write}
 use Rattle.subordinate.specs.Effects.{HasEffect, IsCaptured, IsWritten}
 use Rattle.subordinate.specs.Faults.{is_good, read_response, standing_at}
@@ -50,17 +48,14 @@ beat_set (b ∷ beats) (suc k) (suc n) new beat there =
 
 -- ---- what isn't written yet
 
--- more is written, and nothing of a write burst's transfers that wasn't before
-abbrev pub LeavesBurst : (ℕ → ℕ → Bool) → (ℕ → ℕ → Bool) → ℕ → Bool × Piece → Type 0
-LeavesBurst wrote more number (true, piece) =
-    (n x : ℕ) → n ≤ piece.len → transfer_has piece.address piece.size (n + 1) x ≡ true → wrote number x ≡ false → more number x ≡ false
-LeavesBurst wrote more number (false, piece) = ⊤
+-- more is written, and nothing of a piece's transfers that wasn't before
+abbrev pub LeavesBurst : (ℕ → ℕ → Bool) → (ℕ → ℕ → Bool) → ℕ → Piece → Type 0
+LeavesBurst wrote more number piece = (n x : ℕ) → n ≤ piece.len → transfer_has piece.address piece.size (n + 1) x ≡ true → wrote number x ≡ false → more number x ≡ false
 
 -- but for the transfer of beat n, from 0
-abbrev pub LeavesOthers : (ℕ → ℕ → Bool) → (ℕ → ℕ → Bool) → ℕ → ℕ → Bool × Piece → Type 0
-LeavesOthers wrote more number n (true, piece) =
+abbrev pub LeavesOthers : (ℕ → ℕ → Bool) → (ℕ → ℕ → Bool) → ℕ → ℕ → Piece → Type 0
+LeavesOthers wrote more number n piece =
     (k x : ℕ) → k ≢ n → k ≤ piece.len → transfer_has piece.address piece.size (k + 1) x ≡ true → wrote number x ≡ false → more number x ≡ false
-LeavesOthers wrote more number n (false, piece) = ⊤
 
 -- ---- a write
 
@@ -139,7 +134,7 @@ stores_serially order memory wrote number pending piece n beat sound sound_pendi
 
 -- that beat is written from then on, where the bytes that its request writes by it are
 pub write_performed : (order : Order) (memory : FreeMemory) (bus_bytes : ℕ) (wrote more : ℕ → ℕ → Bool) (number : ℕ) (pending : Pending) (piece : Piece) (n : ℕ)
-    → ((x : ℕ) → wrote number x ≡ true → more number x ≡ true) → ((x : ℕ) → writes_by order number piece (n + 1) x ≡ true → more number x ≡ true) → LeavesOthers wrote more number n (true, piece)
+    → ((x : ℕ) → wrote number x ≡ true → more number x ≡ true) → ((x : ℕ) → writes_by order number piece (n + 1) x ≡ true → more number x ≡ true) → LeavesOthers wrote more number n piece
     → IsWriteOf order bus_bytes wrote number pending piece → IsWriteOf order bus_bytes more number (with_beat n (beat_after memory pending.burst n) pending) piece
 write_performed order memory bus_bytes wrote more number pending piece n kept adds others of =
     record {
@@ -233,32 +228,31 @@ read_performed order bus_bytes number pending piece n becomes captures of =
 -- ---- either
 
 -- whether a request writes the byte at x by this transfer of a burst; true is a write
-abbrev pub stores_by : Order → ℕ → Bool × Piece → ℕ → ℕ → Bool
-stores_by order number (true, piece) n x = writes_by order number piece n x
-stores_by order number (false, piece) n x = false
+abbrev pub stores_by : Order → ℕ → Bool → Piece → ℕ → ℕ → Bool
+stores_by order number write piece n x = write && writes_by order number piece n x
 
 -- what performing beat n of an open burst does: the bytes of the memory that its request writes there are what it leaves, no other byte changes, and
 -- the burst is still its request's, where these bytes are added to those that are written
-pub record PerformsSerially (order : Order) (memory : FreeMemory) (wrote : ℕ → ℕ → Bool) (number : ℕ) (pending : Pending) (burst : Bool × Piece) (n : ℕ) : Type 0 where
-  pub set : (x : ℕ) → stores_by order number burst (n + 1) x ≡ true → byte_at_address (memory_after memory pending.burst n) x ≡ Some (byte_left order number x)
-  pub kept : (x : ℕ) → stores_by order number burst (n + 1) x ≡ false → byte_at_address (memory_after memory pending.burst n) x ≡ byte_at_address memory.memory x
+pub record PerformsSerially (order : Order) (memory : FreeMemory) (wrote : ℕ → ℕ → Bool) (number : ℕ) (write : Bool) (pending : Pending) (piece : Piece) (n : ℕ) : Type 0 where
+  pub set : (x : ℕ) → stores_by order number write piece (n + 1) x ≡ true → byte_at_address (memory_after memory pending.burst n) x ≡ Some (byte_left order number x)
+  pub kept : (x : ℕ) → stores_by order number write piece (n + 1) x ≡ false → byte_at_address (memory_after memory pending.burst n) x ≡ byte_at_address memory.memory x
   pub still :
-      (more : ℕ → ℕ → Bool) → ((x : ℕ) → wrote number x ≡ true → more number x ≡ true) → ((x : ℕ) → stores_by order number burst (n + 1) x ≡ true → more number x ≡ true)
-      → LeavesOthers wrote more number n burst → IsBurstOf order memory.bus_bytes more number (with_beat n (beat_after memory pending.burst n) pending) burst
+      (more : ℕ → ℕ → Bool) → ((x : ℕ) → wrote number x ≡ true → more number x ≡ true) → ((x : ℕ) → stores_by order number write piece (n + 1) x ≡ true → more number x ≡ true)
+      → LeavesOthers wrote more number n piece → IsBurstOf order memory.bus_bytes more number write (with_beat n (beat_after memory pending.burst n) pending) piece
 
-pub performs_serially : (order : Order) (memory : FreeMemory) (wrote : ℕ → ℕ → Bool) (number : ℕ) (pending : Pending) (burst : Bool × Piece) (n : ℕ) (beat : BeatState) → IsSoundMemory memory
-    → IsSoundPending memory.bus_bytes pending → memory.faults ≡ order.faults → IsBurstOf order memory.bus_bytes wrote number pending burst → slice_get pending.beats n ≡ Some beat
+pub performs_serially : (order : Order) (memory : FreeMemory) (wrote : ℕ → ℕ → Bool) (number : ℕ) (write : Bool) (pending : Pending) (piece : Piece) (n : ℕ) (beat : BeatState) → IsSoundMemory memory
+    → IsSoundPending memory.bus_bytes pending → memory.faults ≡ order.faults → IsBurstOf order memory.bus_bytes wrote number write pending piece → slice_get pending.beats n ≡ Some beat
     → ((x : ℕ) → writes order number x ≡ true → is_good (standing_at order.faults x) ≡ true)
-    → ((x : ℕ) → transfer_has burst.1.address burst.1.size (n + 1) x ≡ true → is_good (standing_at order.faults x) ≡ true → burst.0 ≡ false → unwrap_or (byte_at_address memory.memory x) 0 ≡ bytes_before order number x)
-    → PerformsSerially order memory wrote number pending burst n
-performs_serially order memory wrote number pending (true, piece) n beat sound sound_pending faults of there good finds =
+    → ((x : ℕ) → transfer_has piece.address piece.size (n + 1) x ≡ true → is_good (standing_at order.faults x) ≡ true → write ≡ false → unwrap_or (byte_at_address memory.memory x) 0 ≡ bytes_before order number x)
+    → PerformsSerially order memory wrote number write pending piece n
+performs_serially order memory wrote number true pending piece n beat sound sound_pending faults of there good finds =
     let stores = stores_serially order memory wrote number pending piece n beat sound sound_pending faults of there good in
     record {
       set = stores.set;
       kept = stores.kept;
       still = λ more kept adds others. write_performed order memory memory.bus_bytes wrote more number pending piece n kept adds others of;
     }
-performs_serially order memory wrote number pending (false, piece) n beat sound sound_pending faults of there good finds =
+performs_serially order memory wrote number false pending piece n beat sound sound_pending faults of there good finds =
     let captures = captures_serially order memory number pending piece n sound sound_pending faults of (λ x has page. finds x has page refl) in
     record {
       set = λ x never. absurd (cc (never));
@@ -267,16 +261,16 @@ performs_serially order memory wrote number pending (false, piece) n beat sound 
     }
 
 -- an open burst has as many beats as its piece has transfers
-beats_counted : (order : Order) (bus_bytes : ℕ) (wrote : ℕ → ℕ → Bool) (number : ℕ) (pending : Pending) (burst : Bool × Piece) → IsSoundPending bus_bytes pending
-    → IsBurstOf order bus_bytes wrote number pending burst → length pending.beats ≡ burst.1.len + 1
-beats_counted order bus_bytes wrote number pending (true, piece) sound of = sound.whole ∙ ap transfers_in of.burst ∙ ap (λ n. n + 1) of.len
-beats_counted order bus_bytes wrote number pending (false, piece) sound of = sound.whole ∙ ap transfers_in of.burst ∙ ap (λ n. n + 1) of.len
+beats_counted : (order : Order) (bus_bytes : ℕ) (wrote : ℕ → ℕ → Bool) (number : ℕ) (write : Bool) (pending : Pending) (piece : Piece) → IsSoundPending bus_bytes pending
+    → IsBurstOf order bus_bytes wrote number write pending piece → length pending.beats ≡ piece.len + 1
+beats_counted order bus_bytes wrote number true pending piece sound of = sound.whole ∙ ap transfers_in of.burst ∙ ap (λ n. n + 1) of.len
+beats_counted order bus_bytes wrote number false pending piece sound of = sound.whole ∙ ap transfers_in of.burst ∙ ap (λ n. n + 1) of.len
 
 -- a beat of an open burst is a transfer of its piece
-pub beat_within : (order : Order) (bus_bytes : ℕ) (wrote : ℕ → ℕ → Bool) (number : ℕ) (pending : Pending) (burst : Bool × Piece) (n : ℕ) (beat : BeatState) → IsSoundPending bus_bytes pending
-    → IsBurstOf order bus_bytes wrote number pending burst → slice_get pending.beats n ≡ Some beat → n + 1 ≤ burst.1.len + 1
-beat_within order bus_bytes wrote number pending burst n beat sound of there =
-    omega (arith, slice_get_within pending.beats n beat there, beats_counted order bus_bytes wrote number pending burst sound of)
+pub beat_within : (order : Order) (bus_bytes : ℕ) (wrote : ℕ → ℕ → Bool) (number : ℕ) (write : Bool) (pending : Pending) (piece : Piece) (n : ℕ) (beat : BeatState) → IsSoundPending bus_bytes pending
+    → IsBurstOf order bus_bytes wrote number write pending piece → slice_get pending.beats n ≡ Some beat → n + 1 ≤ piece.len + 1
+beat_within order bus_bytes wrote number write pending piece n beat sound of there =
+    omega (arith, slice_get_within pending.beats n beat there, beats_counted order bus_bytes wrote number write pending piece sound of)
 
 -- ---- a write that is answered
 
@@ -290,7 +284,7 @@ pub answered_written : (order : Order) (bus_bytes : ℕ) (wrote : ℕ → ℕ �
     → IsWriteOf order bus_bytes wrote number pending piece → list_any is_waiting pending.beats ≡ false → 1 ≤ n → n ≤ piece.len + 1 → transfer_has piece.address piece.size n x ≡ true → writes order number x ≡ true
     → wrote number x ≡ true
 answered_written order bus_bytes wrote number pending piece n x sound of none one last has written =
-    let (beat, there, performed) = not_waiting pending.beats (n - 1) none (omega (arith, beats_counted order bus_bytes wrote number pending (true, piece) sound of)) in
+    let (beat, there, performed) = not_waiting pending.beats (n - 1) none (omega (arith, beats_counted order bus_bytes wrote number true pending piece sound of)) in
     let place : n - 1 + 1 ≡ n = omega arith in
     of.written (n - 1) x beat there performed (ap (λ i. transfer_has piece.address piece.size i x) place ∙ has) written
 
@@ -298,7 +292,7 @@ answered_written order bus_bytes wrote number pending piece n x sound of none on
 
 -- what holds of an open burst holds on
 pub writes_more : (order : Order) (bus_bytes : ℕ) (wrote more : ℕ → ℕ → Bool) (number : ℕ) (pending : Pending) (piece : Piece) → ((x : ℕ) → wrote number x ≡ true → more number x ≡ true)
-    → LeavesBurst wrote more number (true, piece) → IsWriteOf order bus_bytes wrote number pending piece → IsWriteOf order bus_bytes more number pending piece
+    → LeavesBurst wrote more number piece → IsWriteOf order bus_bytes wrote number pending piece → IsWriteOf order bus_bytes more number pending piece
 writes_more order bus_bytes wrote more number pending piece kept leaves of =
     record {
       aw = of.aw;
@@ -312,107 +306,104 @@ writes_more order bus_bytes wrote more number pending piece kept leaves of =
       unwritten = λ n x waits within has. leaves n x within has (of.unwritten n x waits within has);
     }
 
-pub burst_more : (order : Order) (bus_bytes : ℕ) (wrote more : ℕ → ℕ → Bool) (number : ℕ) (pending : Pending) (burst : Bool × Piece) → ((x : ℕ) → wrote number x ≡ true → more number x ≡ true)
-    → LeavesBurst wrote more number burst → IsBurstOf order bus_bytes wrote number pending burst → IsBurstOf order bus_bytes more number pending burst
-burst_more order bus_bytes wrote more number pending (true, piece) kept leaves of = writes_more order bus_bytes wrote more number pending piece kept leaves of
-burst_more order bus_bytes wrote more number pending (false, piece) kept leaves of = of
+pub burst_more : (order : Order) (bus_bytes : ℕ) (wrote more : ℕ → ℕ → Bool) (number : ℕ) (write : Bool) (pending : Pending) (piece : Piece) → ((x : ℕ) → wrote number x ≡ true → more number x ≡ true)
+    → LeavesBurst wrote more number piece → IsBurstOf order bus_bytes wrote number write pending piece → IsBurstOf order bus_bytes more number write pending piece
+burst_more order bus_bytes wrote more number true pending piece kept leaves of = writes_more order bus_bytes wrote more number pending piece kept leaves of
+burst_more order bus_bytes wrote more number false pending piece kept leaves of = of
 
-pub bursts_more : (order : Order) (bus_bytes : ℕ) (wrote more : ℕ → ℕ → Bool) (number : ℕ) (mine : List Pending) (bursts : List (Bool × Piece)) → ((x : ℕ) → wrote number x ≡ true → more number x ≡ true)
-    → ((i : ℕ) (burst : Bool × Piece) → slice_get bursts i ≡ Some burst → LeavesBurst wrote more number burst) → AreBurstsOf order bus_bytes wrote number mine bursts
-    → AreBurstsOf order bus_bytes more number mine bursts
-bursts_more order bus_bytes wrote more number [] [] kept leaves of = tt
-bursts_more order bus_bytes wrote more number [] (burst ∷ bursts) kept leaves of = absurd of
-bursts_more order bus_bytes wrote more number (pending ∷ mine) [] kept leaves of = absurd of
-bursts_more order bus_bytes wrote more number (pending ∷ mine) (burst ∷ bursts) kept leaves of =
-    (burst_more order bus_bytes wrote more number pending burst kept (leaves 0 burst refl) of.0, bursts_more order bus_bytes wrote more number mine bursts kept (λ i other there. leaves (suc i) other there) of.1)
+pub bursts_more : (order : Order) (bus_bytes : ℕ) (wrote more : ℕ → ℕ → Bool) (number : ℕ) (write : Bool) (mine : List Pending) (pieces : List Piece) → ((x : ℕ) → wrote number x ≡ true → more number x ≡ true)
+    → ((i : ℕ) (piece : Piece) → slice_get pieces i ≡ Some piece → LeavesBurst wrote more number piece) → AreBurstsOf order bus_bytes wrote number write mine pieces
+    → AreBurstsOf order bus_bytes more number write mine pieces
+bursts_more order bus_bytes wrote more number write [] [] kept leaves of = tt
+bursts_more order bus_bytes wrote more number write [] (piece ∷ pieces) kept leaves of = absurd of
+bursts_more order bus_bytes wrote more number write (pending ∷ mine) [] kept leaves of = absurd of
+bursts_more order bus_bytes wrote more number write (pending ∷ mine) (piece ∷ pieces) kept leaves of =
+    (burst_more order bus_bytes wrote more number write pending piece kept (leaves 0 piece refl) of.0, bursts_more order bus_bytes wrote more number write mine pieces kept (λ i other there. leaves (suc i) other there) of.1)
 
 -- those of a request that has written no more
 pub of_holder_same : (order : Order) (bus_bytes : ℕ) (wrote more : ℕ → ℕ → Bool) (mine : List Pending) (holds : Option BridgedRequest) → IfSome holds (λ r. (x : ℕ) → more r.flight.number x ≡ wrote r.flight.number x)
     → AreOfHolder order bus_bytes wrote mine holds → AreOfHolder order bus_bytes more mine holds
 of_holder_same order bus_bytes wrote more mine None same of = of
 of_holder_same order bus_bytes wrote more mine (Some request) same of =
-    bursts_more order bus_bytes wrote more request.flight.number mine (outstanding request.flight) (λ x there. same x ∙ there) (λ i burst there. leaves burst) of
-  where
-    leaves : (burst : Bool × Piece) → LeavesBurst wrote more request.flight.number burst
-    leaves (true, piece) = λ n x within has none. same x ∙ none
-    leaves (false, piece) = tt
+    bursts_more order bus_bytes wrote more request.flight.number request.flight.writing mine (outstanding request.flight) (λ x there. same x ∙ there) (λ i piece there n x within has none. same x ∙ none) of
 
 -- and a live request stays in order, where one that reads still wrote nothing, and nothing more is written of what isn't sent
 pub in_order_more : (order : Order) (bus_bytes : ℕ) (wrote more : ℕ → ℕ → Bool) (request : BridgedRequest) → ((x : ℕ) → wrote request.flight.number x ≡ true → more request.flight.number x ≡ true)
     → (request.flight.writing ≡ false → (x : ℕ) → more request.flight.number x ≡ wrote request.flight.number x)
-    → ((k : ℕ) (burst : Bool × Piece) → request.flight.sent ≤ k → slice_get (planned request.flight) k ≡ Some burst → LeavesBurst wrote more request.flight.number burst)
+    → ((k : ℕ) (piece : Piece) → request.flight.sent ≤ k → slice_get (planned request.flight) k ≡ Some piece → LeavesBurst wrote more request.flight.number piece)
     → IsInOrder order bus_bytes wrote request → IsInOrder order bus_bytes more request
 in_order_more order bus_bytes wrote more request kept same leaves of =
     record {
       asked = of.asked;
       unwritten = λ isnt x. same isnt x ∙ of.unwritten isnt x;
-      unsent = λ k n x piece past there within has. leaves k (true, piece) past there n x within has (of.unsent k n x piece past there within has);
-      written = λ k n x piece answered there first last has writes_there. kept x (of.written k n x piece answered there first last has writes_there);
+      unsent = λ writing k n x piece past there within has. leaves k piece past there n x within has (of.unsent writing k n x piece past there within has);
+      written = λ writing k n x piece answered there first last has writes_there. kept x (of.written writing k n x piece answered there first last has writes_there);
       gathered = of.gathered;
     }
 
--- ---- one is sent
+module _ (order : Order) (bus_bytes : ℕ) (wrote : ℕ → ℕ → Bool) (number : ℕ) (write : Bool) where
+  -- ---- one is sent
 
-pub bursts_append : (order : Order) (bus_bytes : ℕ) (wrote : ℕ → ℕ → Bool) (number : ℕ) (mine : List Pending) (bursts : List (Bool × Piece)) (pending : Pending) (burst : Bool × Piece)
-    → AreBurstsOf order bus_bytes wrote number mine bursts → IsBurstOf order bus_bytes wrote number pending burst
-    → AreBurstsOf order bus_bytes wrote number (mine ++ pending ∷ []) (bursts ++ burst ∷ [])
-bursts_append order bus_bytes wrote number [] [] pending burst are is = (is, tt)
-bursts_append order bus_bytes wrote number [] (other ∷ bursts) pending burst are is = absurd are
-bursts_append order bus_bytes wrote number (other ∷ mine) [] pending burst are is = absurd are
-bursts_append order bus_bytes wrote number (first ∷ mine) (other ∷ bursts) pending burst are is = (are.0, bursts_append order bus_bytes wrote number mine bursts pending burst are.1 is)
+  pub bursts_append : (mine : List Pending) (pieces : List Piece) (pending : Pending) (piece : Piece) → AreBurstsOf order bus_bytes wrote number write mine pieces
+      → IsBurstOf order bus_bytes wrote number write pending piece → AreBurstsOf order bus_bytes wrote number write (mine ++ pending ∷ []) (pieces ++ piece ∷ [])
+  bursts_append [] [] pending piece are is = (is, tt)
+  bursts_append [] (other ∷ pieces) pending piece are is = absurd are
+  bursts_append (other ∷ mine) [] pending piece are is = absurd are
+  bursts_append (first ∷ mine) (other ∷ pieces) pending piece are is = (are.0, bursts_append mine pieces pending piece are.1 is)
 
--- where nothing is outstanding nothing is open
-pub none_open : (order : Order) (bus_bytes : ℕ) (wrote : ℕ → ℕ → Bool) (number : ℕ) (mine : List Pending) (bursts : List (Bool × Piece)) → bursts ≡ [] → AreBurstsOf order bus_bytes wrote number mine bursts → mine ≡ []
-none_open order bus_bytes wrote number [] bursts none are = refl
-none_open order bus_bytes wrote number (pending ∷ mine) [] none are = absurd are
-none_open order bus_bytes wrote number (pending ∷ mine) (burst ∷ bursts) none are = absurd (cc (none))
+  -- where nothing is outstanding nothing is open
+  pub none_open : (mine : List Pending) (pieces : List Piece) → pieces ≡ [] → AreBurstsOf order bus_bytes wrote number write mine pieces → mine ≡ []
+  none_open [] pieces none are = refl
+  none_open (pending ∷ mine) [] none are = absurd are
+  none_open (pending ∷ mine) (piece ∷ pieces) none are = absurd (cc (none))
 
--- ---- one changes
+  -- ---- one changes
 
--- an open burst is that of an outstanding piece; where it changes, and more is written, the others stay as they are
-pub record IsOneOf (order : Order) (bus_bytes : ℕ) (wrote : ℕ → ℕ → Bool) (number : ℕ) (mine : List Pending) (bursts : List (Bool × Piece)) (test : Pending → Bool) (pending : Pending) : Type 0 where
-  pub place : ℕ
-  pub burst : Bool × Piece
-  pub there : slice_get bursts place ≡ Some burst
-  pub is : IsBurstOf order bus_bytes wrote number pending burst
-  pub changed :
-      (more : ℕ → ℕ → Bool) (change : Pending → Pending) → ((x : ℕ) → wrote number x ≡ true → more number x ≡ true)
-      → ((i : ℕ) (other : Bool × Piece) → slice_get bursts i ≡ Some other → i ≢ place → LeavesBurst wrote more number other) → IsBurstOf order bus_bytes more number (change pending) burst
-      → AreBurstsOf order bus_bytes more number (change_first test change mine) bursts
+  -- an open burst is that of an outstanding piece; where it changes, and more is written, the others stay as they are
+  pub record IsOneOf (mine : List Pending) (pieces : List Piece) (test : Pending → Bool) (pending : Pending) : Type 0 where
+    pub place : ℕ
+    pub piece : Piece
+    pub there : slice_get pieces place ≡ Some piece
+    pub is : IsBurstOf order bus_bytes wrote number write pending piece
+    pub changed :
+        (more : ℕ → ℕ → Bool) (change : Pending → Pending) → ((x : ℕ) → wrote number x ≡ true → more number x ≡ true)
+        → ((i : ℕ) (other : Piece) → slice_get pieces i ≡ Some other → i ≢ place → LeavesBurst wrote more number other) → IsBurstOf order bus_bytes more number write (change pending) piece
+        → AreBurstsOf order bus_bytes more number write (change_first test change mine) pieces
 
-pub open_one : (order : Order) (bus_bytes : ℕ) (wrote : ℕ → ℕ → Bool) (number : ℕ) (mine : List Pending) (bursts : List (Bool × Piece)) (test : Pending → Bool) (pending : Pending)
-    → AreBurstsOf order bus_bytes wrote number mine bursts → find test mine ≡ Some pending → IsOneOf order bus_bytes wrote number mine bursts test pending
-open_one order bus_bytes wrote number [] bursts test pending are found = absurd (cc (found))
-open_one order bus_bytes wrote number (first ∷ mine) [] test pending are found = absurd are
-open_one order bus_bytes wrote number (first ∷ mine) (burst ∷ bursts) test pending are found =
-    by_test (test first) refl found (λ later. open_one order bus_bytes wrote number mine bursts test pending are.1 later)
-  where
-    by_test : (b : Bool) → test first ≡ b → (if b then Some first else find test mine) ≡ Some pending
-        → (find test mine ≡ Some pending → IsOneOf order bus_bytes wrote number mine bursts test pending)
-        → IsOneOf order bus_bytes wrote number (first ∷ mine) (burst ∷ bursts) test pending
-    by_test true passes here rest =
-        let same : first ≡ pending = same_Some first pending here in
-        record {
-          place = 0;
-          burst = burst;
-          there = refl;
-          is = subst (λ (p : Pending). IsBurstOf order bus_bytes wrote number p burst) same are.0;
-          changed = λ more change kept leaves new.
-              rw passes (subst (λ (p : Pending). IsBurstOf order bus_bytes more number (change p) burst) (sym same) new, bursts_more order bus_bytes wrote more number mine bursts kept (λ i other there. leaves (suc i) other there (λ same. omega (arith, same))) are.1);
-        }
-    by_test false fails later rest =
-        let one = rest later in
-        record {
-          place = suc one.place;
-          burst = one.burst;
-          there = one.there;
-          is = one.is;
-          changed = λ more change kept leaves new.
-              rw fails (
-                burst_more order bus_bytes wrote more number first burst kept (leaves 0 burst refl (λ same. omega (arith, same))) are.0,
-                one.changed more change kept (λ i other there apart. leaves (suc i) other there (λ same. apart (omega (arith, same)))) new,
-              );
-        }
+  pub open_one : (mine : List Pending) (pieces : List Piece) (test : Pending → Bool) (pending : Pending) → AreBurstsOf order bus_bytes wrote number write mine pieces → find test mine ≡ Some pending
+      → IsOneOf mine pieces test pending
+  open_one [] pieces test pending are found = absurd (cc (found))
+  open_one (first ∷ mine) [] test pending are found = absurd are
+  open_one (first ∷ mine) (piece ∷ pieces) test pending are found = by_test (test first) refl found (λ later. open_one mine pieces test pending are.1 later)
+    where
+      by_test : (b : Bool) → test first ≡ b → (if b then Some first else find test mine) ≡ Some pending → (find test mine ≡ Some pending → IsOneOf mine pieces test pending)
+          → IsOneOf (first ∷ mine) (piece ∷ pieces) test pending
+      by_test true passes here rest =
+          let same : first ≡ pending = same_Some first pending here in
+          record {
+            place = 0;
+            piece = piece;
+            there = refl;
+            is = subst (λ (p : Pending). IsBurstOf order bus_bytes wrote number write p piece) same are.0;
+            changed = λ more change kept leaves new.
+                rw passes (
+                  subst (λ (p : Pending). IsBurstOf order bus_bytes more number write (change p) piece) (sym same) new,
+                  bursts_more order bus_bytes wrote more number write mine pieces kept (λ i other there. leaves (suc i) other there (λ same. omega (arith, same))) are.1,
+                );
+          }
+      by_test false fails later rest =
+          let one = rest later in
+          record {
+            place = suc one.place;
+            piece = one.piece;
+            there = one.there;
+            is = one.is;
+            changed = λ more change kept leaves new.
+                rw fails (
+                  burst_more order bus_bytes wrote more number write first piece kept (leaves 0 piece refl (λ same. omega (arith, same))) are.0,
+                  one.changed more change kept (λ i other there apart. leaves (suc i) other there (λ same. apart (omega (arith, same)))) new,
+                );
+          }
 
 -- ---- IDs
 
@@ -440,76 +431,61 @@ abbrev pub is_on : Bool → ℕ → Pending → Bool
 is_on true = is_write_of
 is_on false = is_read_of
 
--- an open burst of an ID is on the side of its piece
-write_side : (id : ℕ) (burst : Burst) (aw : AwBeat) (w_beats : List WBeat) → burst ≡ WriteBurst aw w_beats → (writes_as id burst || reads_as id burst) ≡ true → (writes_as id burst ≡ true) × (reads_as id burst ≡ false)
-write_side id burst aw w_beats is one =
-    subst (λ (b : Burst). (writes_as id b || reads_as id b) ≡ true → (writes_as id b ≡ true) × (reads_as id b ≡ false)) (sym is) (λ here. (grind (arith, here), refl)) one
-
-read_side : (id : ℕ) (burst : Burst) (ar : ArBeat) → burst ≡ ReadBurst ar → (writes_as id burst || reads_as id burst) ≡ true → (writes_as id burst ≡ false) × (reads_as id burst ≡ true)
-read_side id burst ar is one =
-    subst (λ (b : Burst). (writes_as id b || reads_as id b) ≡ true → (writes_as id b ≡ false) × (reads_as id b ≡ true)) (sym is) (λ here. (refl, here)) one
-
-on_side : (order : Order) (bus_bytes : ℕ) (wrote : ℕ → ℕ → Bool) (number id : ℕ) (pending : Pending) (side : Bool) (piece : Piece) → is_of_id id pending ≡ true
-    → IsBurstOf order bus_bytes wrote number pending (side, piece) → (is_on side id pending ≡ true) × (is_on (not side) id pending ≡ false)
-on_side order bus_bytes wrote number id pending true piece one is = write_side id pending.burst is.aw is.w_beats is.burst one
-on_side order bus_bytes wrote number id pending false piece one is = let sides = read_side id pending.burst is.ar is.burst one in (sides.1, sides.0)
-
--- an ID's open bursts are on the side of the outstanding ones
 abbrev IsOne : ℕ → Pending → Type 0
 IsOne id pending = is_of_id id pending ≡ true
 
-none_across : (order : Order) (bus_bytes : ℕ) (wrote : ℕ → ℕ → Bool) (number id : ℕ) (side : Bool) (mine : List Pending) (bursts : List (Bool × Piece)) → AllByRecursion (IsOne id) mine → AreOf side bursts
-    → AreBurstsOf order bus_bytes wrote number mine bursts → find (is_on (not side) id) mine ≡ None
-none_across order bus_bytes wrote number id side [] bursts ones sides are = refl
-none_across order bus_bytes wrote number id side (first ∷ mine) [] ones sides are = absurd are
-none_across order bus_bytes wrote number id side (first ∷ mine) ((on, piece) ∷ bursts) ones sides are =
-    let across : is_on (not side) id first ≡ false =
-    subst (λ s. is_on (not s) id first ≡ false) sides.0 (on_side order bus_bytes wrote number id first on piece ones.0 are.0).1 in
-    rw across (none_across order bus_bytes wrote number id side mine bursts ones.1 sides.1 are.1)
+module _ (order : Order) (bus_bytes : ℕ) (wrote : ℕ → ℕ → Bool) (number id : ℕ) where
+  -- on the other side than that of its request no burst of it is open
+  not_across : (write : Bool) (pending : Pending) (piece : Piece) → IsBurstOf order bus_bytes wrote number write pending piece → is_on (not write) id pending ≡ false
+  not_across true pending piece of = rw of.burst refl
+  not_across false pending piece of = rw of.burst refl
 
--- an open burst is the first of its ID, and that of the first outstanding piece
-pub record IsFirstOf (order : Order) (bus_bytes : ℕ) (wrote : ℕ → ℕ → Bool) (number : ℕ) (side : Bool) (mine : List Pending) (bursts : List (Bool × Piece)) (pending : Pending) : Type 0 where
-  pub piece : Piece
-  pub later : List Pending
-  pub rest : List (Bool × Piece)
-  pub listed : mine ≡ pending ∷ later
-  pub outstanding : bursts ≡ (side, piece) ∷ rest
-  pub is : IsBurstOf order bus_bytes wrote number pending (side, piece)
-  pub others : AreBurstsOf order bus_bytes wrote number later rest
+  none_across : (write : Bool) (mine : List Pending) (pieces : List Piece) → AreBurstsOf order bus_bytes wrote number write mine pieces → find (is_on (not write) id) mine ≡ None
+  none_across write [] pieces are = refl
+  none_across write (first ∷ mine) [] are = absurd are
+  none_across write (first ∷ mine) (piece ∷ pieces) are = rw (not_across write first piece are.0) (none_across write mine pieces are.1)
 
--- on the side where one is found the outstanding ones are
-found_side : (order : Order) (bus_bytes : ℕ) (wrote : ℕ → ℕ → Bool) (number id : ℕ) (found_on side : Bool) (mine : List Pending) (bursts : List (Bool × Piece)) (pending : Pending) → AllByRecursion (IsOne id) mine
-    → AreOf side bursts → AreBurstsOf order bus_bytes wrote number mine bursts → find (is_on found_on id) mine ≡ Some pending → side ≡ found_on
-found_side order bus_bytes wrote number id true true mine bursts pending ones sides are found = refl
-found_side order bus_bytes wrote number id false false mine bursts pending ones sides are found = refl
-found_side order bus_bytes wrote number id true false mine bursts pending ones sides are found =
-    absurd (cc (none_across order bus_bytes wrote number id false mine bursts ones sides are, found))
-found_side order bus_bytes wrote number id false true mine bursts pending ones sides are found =
-    absurd (cc (none_across order bus_bytes wrote number id true mine bursts ones sides are, found))
+  -- and the first of its ID is the first on its own
+  on_side : (write : Bool) (pending : Pending) → IsOne id pending → is_on (not write) id pending ≡ false → is_on write id pending ≡ true
+  on_side true pending one across = grind (arith, one, across)
+  on_side false pending one across = grind (arith, one, across)
 
-first_found : (order : Order) (bus_bytes : ℕ) (wrote : ℕ → ℕ → Bool) (number id : ℕ) (side : Bool) (mine : List Pending) (bursts : List (Bool × Piece)) (pending : Pending) → AllByRecursion (IsOne id) mine
-    → AreOf side bursts → AreBurstsOf order bus_bytes wrote number mine bursts → find (is_on side id) mine ≡ Some pending → IsFirstOf order bus_bytes wrote number side mine bursts pending
-first_found order bus_bytes wrote number id side [] bursts pending ones sides are found = absurd (cc (found))
-first_found order bus_bytes wrote number id side (first ∷ mine) [] pending ones sides are found = absurd are
-first_found order bus_bytes wrote number id side (first ∷ mine) ((on, piece) ∷ bursts) pending ones sides are found =
-    let its : is_on side id first ≡ true = subst (λ s. is_on s id first ≡ true) sides.0 (on_side order bus_bytes wrote number id first on piece ones.0 are.0).0 in
-    let here : find (is_on side id) (first ∷ mine) ≡ Some first = rw its refl in
-    let same : first ≡ pending = same_Some first pending (sym here ∙ found) in
-    record {
-      piece = piece;
-      later = mine;
-      rest = bursts;
-      listed = ap (λ (p : Pending). p ∷ mine) same;
-      outstanding = ap (λ s. (s, piece) ∷ bursts) sides.0;
-      is = subst (λ s. IsBurstOf order bus_bytes wrote number pending (s, piece)) sides.0 (subst (λ (p : Pending). IsBurstOf order bus_bytes wrote number p (on, piece)) same are.0);
-      others = are.1;
-    }
+  side_of : (write side : Bool) (mine : List Pending) (pending : Pending) → find (is_on side id) mine ≡ Some pending → find (is_on (not write) id) mine ≡ None → write ≡ side
+  side_of true true mine pending found none = refl
+  side_of false false mine pending found none = refl
+  side_of true false mine pending found none = absurd (cc (found, none))
+  side_of false true mine pending found none = absurd (cc (found, none))
 
-pub first_on : (order : Order) (bus_bytes : ℕ) (wrote : ℕ → ℕ → Bool) (number id : ℕ) (found_on side : Bool) (mine : List Pending) (bursts : List (Bool × Piece)) (pending : Pending) → AllByRecursion (IsOne id) mine
-    → AreOf side bursts → AreBurstsOf order bus_bytes wrote number mine bursts → find (is_on found_on id) mine ≡ Some pending → IsFirstOf order bus_bytes wrote number found_on mine bursts pending
-first_on order bus_bytes wrote number id found_on side mine bursts pending ones sides are found =
-    let same : side ≡ found_on = found_side order bus_bytes wrote number id found_on side mine bursts pending ones sides are found in
-    first_found order bus_bytes wrote number id found_on mine bursts pending ones (subst (λ s. AreOf s bursts) same sides) are found
+  -- an open burst is the first of its ID, and that of the first outstanding piece
+  pub record IsFirstOf (write side : Bool) (mine : List Pending) (pieces : List Piece) (pending : Pending) : Type 0 where
+    pub on : write ≡ side
+    pub piece : Piece
+    pub later : List Pending
+    pub rest : List Piece
+    pub listed : mine ≡ pending ∷ later
+    pub outstanding : pieces ≡ piece ∷ rest
+    pub is : IsBurstOf order bus_bytes wrote number side pending piece
+    pub others : AreBurstsOf order bus_bytes wrote number write later rest
+
+  pub first_on : (side write : Bool) (mine : List Pending) (pieces : List Piece) (pending : Pending) → AllByRecursion (IsOne id) mine → AreBurstsOf order bus_bytes wrote number write mine pieces
+      → find (is_on side id) mine ≡ Some pending → IsFirstOf write side mine pieces pending
+  first_on side write [] pieces pending ones are found = absurd (cc (found))
+  first_on side write (first ∷ mine) [] pending ones are found = absurd are
+  first_on side write (first ∷ mine) (piece ∷ pieces) pending ones are found =
+      let on : write ≡ side = side_of write side (first ∷ mine) pending found (none_across write (first ∷ mine) (piece ∷ pieces) are) in
+      let its : is_on side id first ≡ true = subst (λ s. is_on s id first ≡ true) on (on_side write first ones.0 (not_across write first piece are.0)) in
+      let here : find (is_on side id) (first ∷ mine) ≡ Some first = rw its refl in
+      let same : first ≡ pending = same_Some first pending (sym here ∙ found) in
+      record {
+        on = on;
+        piece = piece;
+        later = mine;
+        rest = pieces;
+        listed = ap (λ (p : Pending). p ∷ mine) same;
+        outstanding = refl;
+        is = subst (λ s. IsBurstOf order bus_bytes wrote number s pending piece) on (subst (λ (p : Pending). IsBurstOf order bus_bytes wrote number write p piece) same are.0);
+        others = are.1;
+      }
 
 -- ---- who holds the ID
 
@@ -526,33 +502,28 @@ nothing_planned request past = part-empty (planned request.flight) request.fligh
 -- the request that holds the ID was answered and is settled: it goes on, plans its write, or is finished and gives the ID free
 pub of_answered : (order : Order) (bus_bytes : ℕ) (wrote : ℕ → ℕ → Bool) (mine : List Pending) (id : ℕ) (live : List BridgedRequest) (change : BridgedRequest → BridgedRequest) (old answered : BridgedRequest)
     → holder id live ≡ Some old → change old ≡ settled answered → answered.flight.id ≡ Some id → answered.flight.sent ≤ length (planned answered.flight) → length (filter (holds id) live) ≤ 1
-    → AreBurstsOf order bus_bytes wrote answered.flight.number mine (outstanding answered.flight) → AreOfHolder order bus_bytes wrote mine (holder id (change_first (holds id) change live))
+    → AreBurstsOf order bus_bytes wrote answered.flight.number answered.flight.writing mine (outstanding answered.flight) → AreOfHolder order bus_bytes wrote mine (holder id (change_first (holds id) change live))
 of_answered order bus_bytes wrote mine id live change old answered held changed has sent one are =
     elim (settled_as answered) [
       | inl going ↦ still answered (changed ∙ going.1) has are
       | inr at_end ↦ ending (nothing_left answered at_end.answered sent) at_end.becomes
     ]
   where
-    still : (new : BridgedRequest) → change old ≡ new → new.flight.id ≡ Some id → AreBurstsOf order bus_bytes wrote new.flight.number mine (outstanding new.flight)
+    still : (new : BridgedRequest) → change old ≡ new → new.flight.id ≡ Some id → AreBurstsOf order bus_bytes wrote new.flight.number new.flight.writing mine (outstanding new.flight)
         → AreOfHolder order bus_bytes wrote mine (holder id (change_first (holds id) change live))
     still new is holds_still these =
         let passes : holds id (change old) ≡ true = ap (holds id) is ∙ holds_it id new.flight.id holds_still in
         of_same_holder order bus_bytes wrote mine (Some new) (holder id (change_first (holds id) change live)) (sym (find-changed (holds id) change live old held passes ∙ ap Some is)) these
 
     none : answered.flight.sent ≤ answered.flight.answered → mine ≡ []
-    none past = none_open order bus_bytes wrote answered.flight.number mine (outstanding answered.flight) (nothing_planned answered past) are
+    none past = none_open order bus_bytes wrote answered.flight.number answered.flight.writing mine (outstanding answered.flight) (nothing_planned answered past) are
 
     gone : change old ≡ finished_one answered → mine ≡ [] → AreOfHolder order bus_bytes wrote mine (holder id (change_first (holds id) change live))
     gone is nothing =
         let fails : holds id (change old) ≡ false = ap (holds id) is in
         of_same_holder order bus_bytes wrote mine None (holder id (change_first (holds id) change live)) (sym (find-changed-gone (holds id) change live old held fails one)) nothing
 
-    writing : answered.flight.sent ≤ answered.flight.answered → AreBurstsOf order bus_bytes wrote answered.flight.number mine (outstanding (with_its_write answered).flight)
-    writing past =
-        subst (λ (bursts : List (Bool × Piece)). AreBurstsOf order bus_bytes wrote answered.flight.number mine bursts)
-        (nothing_planned answered past) are
-
     ending : answered.flight.sent ≤ answered.flight.answered → ((answered.flight.writing ≡ false) × (settled answered ≡ with_its_write answered)) ⊎ (settled answered ≡ finished_one answered)
         → AreOfHolder order bus_bytes wrote mine (holder id (change_first (holds id) change live))
-    ending past (inl writes) = still (with_its_write answered) (changed ∙ writes.1) has (writing past)
+    ending past (inl writes) = still (with_its_write answered) (changed ∙ writes.1) has (rw (none past) tt)
     ending past (inr ends) = gone (changed ∙ ends) (none past)

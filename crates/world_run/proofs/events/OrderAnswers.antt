@@ -22,10 +22,10 @@ use Rattle.responses.specs.Gathered.{after_b}
 use Rattle.flight_table.specs.Laws.{IsSoundRequest}
 use Rattle.flight_table.specs.LiveRequests.{planned, with_answered}
 use Rattle.bridge_core.specs.HeldRequests.{table_limits_of, BridgedRequest, RequestTable, holder, holds, is_numbered, settled, after_response, after_read}
-use Rattle.bridge_core.specs.Laws.{IsServed, IsSoundRequestTable, outstanding, came_of, came_of_next, open_read, open_reads, outstanding_of}
+use Rattle.bridge_core.specs.Laws.{IsServed, IsSoundRequestTable, came_of_next, open_read, outstanding, reads_held}
 use Rattle.burst_plan.specs.PageMap.{address_of}
 use Rattle.bridge_core.specs.Bridge.{after_b_beat, after_r_beat}
-use Rattle.bridge_core.proofs.AnswerLinks.{IsHolder, one_side, AreOf, IsReader, reader_known}
+use Rattle.bridge_core.proofs.AnswerLinks.{IsHolder, IsReader, reader_known, reads_are}
 use Rattle.bridge_core.proofs.ResponseLinks.{holder-other, one_holder, settled-other}
 use Rattle.bridge_core.proofs.SendingLinks.{sound_requests}
 use Rattle.bridge_core.proofs.ServedRequests.{all-change_found, IsReading}
@@ -42,7 +42,7 @@ use Rattle.world.specs.World.{WorldState, changed, answered_b, answered_r}
 use Rattle.world.specs.declared.Answer.{Answer}
 use Rattle.world.specs.declared.Answer.TheVariants.{B, R}
 use Rattle.world.proofs.Settled.{settled_number}
-use Rattle.world_run.specs.InOrder.{AreBurstsOf, AreOfHolder, IsInOrder, KeepsOrder, is_of_id, memory_bytes, IsGathered, IsWriteOf, IsReadOf, TellsSerially}
+use Rattle.world_run.specs.InOrder.{AreBurstsOf, AreOfHolder, IsBurstOf, IsInOrder, KeepsOrder, is_of_id, memory_bytes, IsGathered, IsWriteOf, IsReadOf, TellsSerially}
 use Rattle.world_run.specs.Serial.{Order, bytes_before, writes}
 use Rattle.world_run.proofs.bursts.BurstBytes.{HasOpen, all_written_done, has_open, planned_at}
 use Rattle.world_run.proofs.gathered.GatheredAnswers.{finds_unplanned, read_in_order, response_in_order}
@@ -75,7 +75,7 @@ pub record LeavesInOrder (order : Order) (state : WorldState) (wrote : ℕ → �
   pub has_id : answered.flight.id ≡ Some id
   pub sent : answered.flight.sent ≤ length (planned answered.flight)
   pub in_order : IsInOrder order state.memory.bus_bytes wrote (settled answered)
-  pub own : AreBurstsOf order state.memory.bus_bytes wrote answered.flight.number (filter (is_of_id id) after) (outstanding answered.flight)
+  pub own : AreBurstsOf order state.memory.bus_bytes wrote answered.flight.number answered.flight.writing (filter (is_of_id id) after) (outstanding answered.flight)
   pub others : (j : ℕ) → id ≢ j → filter (is_of_id j) after ≡ filter (is_of_id j) state.memory.pending
   pub held_by_others : (j : ℕ) (r : BridgedRequest) → holds j r ≡ false → holds j (change r) ≡ false
 
@@ -171,13 +171,13 @@ module _ (order : Order) (state : WorldState) (id : ℕ) (pending : Pending) (so
   abbrev write_request : BridgedRequest
   write_request = write_has.request
 
-  abbrev write_first : IsFirstOf order state.memory.bus_bytes keeps.wrote write_request.flight.number true write_mine (outstanding write_request.flight) pending
+  abbrev write_first : IsFirstOf order state.memory.bus_bytes keeps.wrote write_request.flight.number id write_request.flight.writing true write_mine (outstanding write_request.flight) pending
   write_first =
       first_on order state.memory.bus_bytes keeps.wrote write_request.flight.number id true write_request.flight.writing write_mine (outstanding write_request.flight) pending (all_kept (is_of_id id) state.memory.pending)
-      (one_side write_request.flight) write_has.are write_found
+      write_has.are write_found
 
-  next : IsNextOf (planned write_request.flight) write_request.flight.answered write_request.flight.sent (true, write_first.piece) write_first.rest
-  next = part-next (planned write_request.flight) write_request.flight.answered write_request.flight.sent (true, write_first.piece) write_first.rest write_first.outstanding
+  next : IsNextOf (planned write_request.flight) write_request.flight.answered write_request.flight.sent write_first.piece write_first.rest
+  next = part-next (planned write_request.flight) write_request.flight.answered write_request.flight.sent write_first.piece write_first.rest write_first.outstanding
 
   write_of : IsInOrder order state.memory.bus_bytes keeps.wrote write_request
   write_of = all-find (IsInOrder order state.memory.bus_bytes keeps.wrote) (holds id) write_table.live write_request keeps.live write_has.known.held
@@ -200,27 +200,26 @@ module _ (order : Order) (state : WorldState) (id : ℕ) (pending : Pending) (so
   write_told : IsGathered order state.memory.bus_bytes (after_response resp write_request) (address_of order.regions (request_of write_request.message))
   write_told =
       subst (λ bus. IsGathered order bus (after_response resp write_request) (address_of order.regions (request_of write_request.message))) (sym sound.bus)
-      (response_in_order order write_table.config (table_limits_of write_table.config) write_table.accepted write_request write_first.piece resp sound.bridge_laws.requests.config write_served write_has.known.sound write_has.known.live next.at tells_page
+      (response_in_order order write_table.config (table_limits_of write_table.config) write_table.accepted write_request write_first.piece resp sound.bridge_laws.requests.config write_served write_has.known.sound write_has.known.live write_first.on next.at tells_page
       (subst (λ bus. IsGathered order bus write_request (address_of order.regions (request_of write_request.message))) sound.bus write_of.gathered))
 
   written : HasWritten order keeps.wrote answered
-  written k n x piece below there one last holds_it writes_it =
+  written writing k n x piece below there one last holds_it writes_it =
       elim (cases_lt k write_request.flight.answered) [
-        | inl before ↦ write_of.written k n x piece before there one last holds_it writes_it
+        | inl before ↦ write_of.written writing k n x piece before there one last holds_it writes_it
         | inr past ↦
             let here : k ≡ write_request.flight.answered = omega (arith, below, past) in
-            let same : piece ≡ write_first.piece =
-            ap (λ (burst : Bool × Piece). burst.1) (same_Some (true, piece) (true, write_first.piece) (sym there ∙ ap (slice_get (planned write_request.flight)) here ∙ next.at)) in
+            let same : piece ≡ write_first.piece = same_Some piece write_first.piece (sym there ∙ ap (slice_get (planned write_request.flight)) here ∙ next.at) in
             answered_written order state.memory.bus_bytes keeps.wrote write_request.flight.number pending piece n x sound_pending
             (subst (λ (p : Piece). IsWriteOf order state.memory.bus_bytes keeps.wrote write_request.flight.number pending p) (sym same) write_first.is) performed one last holds_it writes_it
       ]
 
-  own : AreBurstsOf order state.memory.bus_bytes keeps.wrote write_request.flight.number (filter (is_of_id id) (without_first (is_write_of id) state.memory.pending)) (outstanding answered.flight)
+  own : AreBurstsOf order state.memory.bus_bytes keeps.wrote write_request.flight.number write_request.flight.writing (filter (is_of_id id) (without_first (is_write_of id) state.memory.pending)) (outstanding answered.flight)
   own =
-      subst (λ (ps : List Pending). AreBurstsOf order state.memory.bus_bytes keeps.wrote write_request.flight.number ps (outstanding answered.flight))
+      subst (λ (ps : List Pending). AreBurstsOf order state.memory.bus_bytes keeps.wrote write_request.flight.number write_request.flight.writing ps (outstanding answered.flight))
       (sym (filter-without-kept (is_write_of id) (is_of_id id) state.memory.pending (write_is_of id)
       ∙ without_head (is_write_of id) write_mine pending write_first.later write_first.listed (find-passes (is_write_of id) state.memory.pending pending found)))
-      (subst (λ (bursts : List (Bool × Piece)). AreBurstsOf order state.memory.bus_bytes keeps.wrote write_request.flight.number write_first.later bursts) (sym next.less) write_first.others)
+      (subst (λ (pieces : List Piece). AreBurstsOf order state.memory.bus_bytes keeps.wrote write_request.flight.number write_request.flight.writing write_first.later pieces) (sym next.less) write_first.others)
 
   write_leaves : LeavesInOrder order state keeps.wrote id write_request (after_response resp) (without_first (is_write_of id) state.memory.pending)
   write_leaves =
@@ -327,10 +326,10 @@ module _ (order : Order) (state : WorldState) (id : ℕ) (pending : Pending) (pa
   abbrev request : BridgedRequest
   request = has.request
 
-  abbrev first : IsFirstOf order state.memory.bus_bytes keeps.wrote request.flight.number false mine (outstanding request.flight) pending
+  abbrev first : IsFirstOf order state.memory.bus_bytes keeps.wrote request.flight.number id request.flight.writing false mine (outstanding request.flight) pending
   first =
       first_on order state.memory.bus_bytes keeps.wrote request.flight.number id false request.flight.writing mine (outstanding request.flight) pending (all_kept (is_of_id id) state.memory.pending)
-      (one_side request.flight) has.are found_mine
+      has.are found_mine
 
   abbrev open_one : OpenRead
   open_one = record { ar = first.is.ar; came = pending.answered }
@@ -344,8 +343,8 @@ module _ (order : Order) (state : WorldState) (id : ℕ) (pending : Pending) (pa
   opened =
       let listed = sym (filter-found (read_of_id id) state.bridge.open_bursts.reads open_one known_open)
       ∙ (sound.bridge_laws.linked id).reads
-      ∙ ap (λ (held : Option BridgedRequest). open_reads id (came_of held) (outstanding_of held)) has.known.held
-      ∙ ap (open_reads id (came_of_next request)) first.outstanding in
+      ∙ ap (reads_held id) has.known.held
+      ∙ reads_are id request.flight.writing (came_of_next request) (outstanding request.flight) (first.piece ∷ first.rest) first.on first.outstanding in
       cc (listed)
 
   count : pending.answered ≡ came_of_next request
@@ -358,19 +357,15 @@ module _ (order : Order) (state : WorldState) (id : ℕ) (pending : Pending) (pa
       ∙ one_more pending.answered first.piece.len
       ∙ ap (λ (n : ℕ). n == first.piece.len) count
 
-  alike : AreOf false first.rest
-  alike =
-      let sides = subst (λ (bursts : List (Bool × Piece)). AreOf request.flight.writing bursts) first.outstanding (one_side request.flight) in
-      subst (λ (side : Bool). AreOf side first.rest) (sym sides.0) sides.1
-
   reader : IsReader state.bridge r request first.piece first.rest
-  reader = reader_known state.bridge r request first.piece first.rest sound.bridge_laws has.known first.outstanding alike (known_open ∙ ap (λ (read : OpenRead). Some read) opened) last_is
+  reader = reader_known state.bridge r request first.piece first.rest sound.bridge_laws has.known first.on first.outstanding (known_open ∙ ap (λ (read : OpenRead). Some read) opened) last_is
 
   reading : IsReading request first.piece (came_of_next request)
   reading =
       record {
         within = reader.next.within;
         live = has.known.live;
+        reads = first.on;
         burst = reader.next.at;
         came = omega (arith, has.known.served.came);
         few = reader.few;
@@ -403,21 +398,14 @@ module _ (order : Order) (state : WorldState) (id : ℕ) (pending : Pending) (pa
   closed = closed_by table.config.axi_bytes r request
 
   closed_written : HasWritten order keeps.wrote closed
-  closed_written k n x piece below there one last holds_it writes_it =
-      elim (cases_lt k request.flight.answered) [
-        | inl before ↦ of.written k n x piece before there one last holds_it writes_it
-        | inr past ↦
-            let here : k ≡ request.flight.answered = omega (arith, below, past) in
-            let sides : true ≡ false = ap (λ (burst : Bool × Piece). burst.0) (same_Some (true, piece) (false, first.piece) (sym there ∙ ap (slice_get (planned request.flight)) here ∙ reader.next.at)) in
-            absurd (cc (sides))
-      ]
+  closed_written writing = absurd (cc (writing, first.on))
 
-  closed_own : AreBurstsOf order state.memory.bus_bytes keeps.wrote request.flight.number (filter (is_of_id id) (without_first (is_read_of id) state.memory.pending)) (outstanding closed.flight)
+  closed_own : AreBurstsOf order state.memory.bus_bytes keeps.wrote request.flight.number request.flight.writing (filter (is_of_id id) (without_first (is_read_of id) state.memory.pending)) (outstanding closed.flight)
   closed_own =
-      subst (λ (ps : List Pending). AreBurstsOf order state.memory.bus_bytes keeps.wrote request.flight.number ps (outstanding closed.flight))
+      subst (λ (ps : List Pending). AreBurstsOf order state.memory.bus_bytes keeps.wrote request.flight.number request.flight.writing ps (outstanding closed.flight))
       (sym (filter-without-kept (is_read_of id) (is_of_id id) state.memory.pending (read_is_of id)
       ∙ without_head (is_read_of id) mine pending first.later first.listed (find-passes (is_read_of id) state.memory.pending pending found)))
-      (subst (λ (bursts : List (Bool × Piece)). AreBurstsOf order state.memory.bus_bytes keeps.wrote request.flight.number first.later bursts) (sym reader.next.less) first.others)
+      (subst (λ (pieces : List Piece). AreBurstsOf order state.memory.bus_bytes keeps.wrote request.flight.number request.flight.writing first.later pieces) (sym reader.next.less) first.others)
 
   leaves_closed : gives_last pending ≡ true → LeavesInOrder order state keeps.wrote id request (after_read table.config.axi_bytes r) (without_first (is_read_of id) state.memory.pending)
   leaves_closed is =
@@ -439,18 +427,21 @@ module _ (order : Order) (state : WorldState) (id : ℕ) (pending : Pending) (pa
   abbrev counted : BridgedRequest
   counted = counted_by table.config.axi_bytes r request
 
-  still_read : IsReadOf order state.memory.bus_bytes request.flight.number (with_answer pending) first.piece
-  still_read = record { ar = first.is.ar; burst = first.is.burst; address = first.is.address; size = first.is.size; len = first.is.len; tells = first.is.tells }
+  still_read : IsBurstOf order state.memory.bus_bytes keeps.wrote request.flight.number request.flight.writing (with_answer pending) first.piece
+  still_read =
+      let read : IsReadOf order state.memory.bus_bytes request.flight.number (with_answer pending) first.piece =
+      record { ar = first.is.ar; burst = first.is.burst; address = first.is.address; size = first.is.size; len = first.is.len; tells = first.is.tells } in
+      subst (λ w. IsBurstOf order state.memory.bus_bytes keeps.wrote request.flight.number w (with_answer pending) first.piece) (sym first.on) read
 
   passes_mine : is_of_id id pending ≡ true
   passes_mine = read_is_of id pending (find-passes (is_read_of id) state.memory.pending pending found)
 
-  counted_own : AreBurstsOf order state.memory.bus_bytes keeps.wrote request.flight.number (filter (is_of_id id) (change_first (is_read_of id) with_answer state.memory.pending)) (outstanding counted.flight)
+  counted_own : AreBurstsOf order state.memory.bus_bytes keeps.wrote request.flight.number request.flight.writing (filter (is_of_id id) (change_first (is_read_of id) with_answer state.memory.pending)) (outstanding counted.flight)
   counted_own =
-      subst (λ (ps : List Pending). AreBurstsOf order state.memory.bus_bytes keeps.wrote request.flight.number ps (outstanding counted.flight))
+      subst (λ (ps : List Pending). AreBurstsOf order state.memory.bus_bytes keeps.wrote request.flight.number request.flight.writing ps (outstanding counted.flight))
       (sym (filter-change-kept (is_read_of id) (is_of_id id) with_answer state.memory.pending pending found passes_mine passes_mine
       ∙ change_head (is_read_of id) with_answer mine pending first.later first.listed (find-passes (is_read_of id) state.memory.pending pending found)))
-      (subst (λ (bursts : List (Bool × Piece)). AreBurstsOf order state.memory.bus_bytes keeps.wrote request.flight.number (with_answer pending ∷ first.later) bursts) (sym first.outstanding) (still_read, first.others))
+      (subst (λ (pieces : List Piece). AreBurstsOf order state.memory.bus_bytes keeps.wrote request.flight.number request.flight.writing (with_answer pending ∷ first.later) pieces) (sym first.outstanding) (still_read, first.others))
 
   leaves_counted : gives_last pending ≡ false → LeavesInOrder order state keeps.wrote id request (after_read table.config.axi_bytes r) (change_first (is_read_of id) with_answer state.memory.pending)
   leaves_counted is =

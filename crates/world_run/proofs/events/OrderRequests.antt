@@ -21,15 +21,14 @@ use Rattle.burst_plan.specs.declared.Region.{Region}
 use Rattle.flight_table.specs.Laws.{IsSoundRequest}
 use Rattle.flight_table.specs.LiveRequests.{reads_then_writes, planned}
 use Rattle.flight_table.specs.Order.{is_id}
-use Rattle.flight_table.proofs.PhaseLaws.{write_at, read_at}
 use Rattle.bridge_core.specs.HeldRequests.{BridgedRequest, RequestTable, holder, holds, is_numbered, newly_live, with_request, is_done_for, without_done, after_sending, may_send, table_limits_of}
 use Rattle.burst_plan.specs.PageMap.{address_of}
 use Rattle.bridge_core.specs.Bridge.{message_with, after_sent}
-use Rattle.bridge_core.specs.Laws.{outstanding, outstanding_of, IsServed}
+use Rattle.bridge_core.specs.Laws.{outstanding, IsServed}
 use Rattle.bridge_core.specs.Sending.{Sending, burst_of_piece}
 use Rattle.bridge_core.proofs.SendingLinks.{no_holder, sound_requests}
 use Rattle.bridge_core.proofs.NextSending.{IsNext}
-use Rattle.bridge_core.proofs.SentLinks.{found_by_number, holds_no_other, outstanding_sent, taken_by}
+use Rattle.bridge_core.proofs.SentLinks.{IsTakenBy, found_by_number, holds_no_other, outstanding_sent, taken_by}
 use Rattle.bridge_core.proofs.ServedRequests.{all-change_found}
 use Rattle.subordinate.specs.FreeMemory.{Pending, newly_pending, FreeMemory, beat_after, beat_at, has_serial, memory_after, performed, with_beat, with_performed, reads_as, writes_as}
 use Rattle.subordinate.specs.Laws.{IsSoundPending}
@@ -111,8 +110,8 @@ accept_keeps order state client beat foreseen keeps moves held =
         record {
           asked = foreseen;
           unwritten = λ isnt x. unwritten_yet order state.bridge.requests keeps.wrote (memory_bytes state) x keeps.history;
-          unsent = λ k n x piece past there within has. unwritten_yet order state.bridge.requests keeps.wrote (memory_bytes state) x keeps.history;
-          written = λ k n x piece below there first last has writes_it. absurd (omega (arith, below));
+          unsent = λ writing k n x piece past there within has. unwritten_yet order state.bridge.requests keeps.wrote (memory_bytes state) x keeps.history;
+          written = λ writing k n x piece below there first last has writes_it. absurd (omega (arith, below));
           gathered = gathered-start order state.bridge.requests state.memory.bus_bytes (message_with state.bridge client beat) keeps.regions;
         }
 
@@ -176,9 +175,8 @@ take_keeps order state client request sound keeps held =
 -- ---- the list of open bursts
 
 -- a burst just sent is of its ID alone
-sent_of_id : (id j serial : ℕ) (request : BridgedRequest) (range : PlannedRange) (burst : Bool × Piece) → is_of_id j (newly_pending serial (burst_of_piece id request range burst)) ≡ (id == j)
-sent_of_id id j serial request range (true, piece) = grind (arith, nat_tests)
-sent_of_id id j serial request range (false, piece) = refl
+sent_of_id : (id j serial : ℕ) (request : BridgedRequest) (range : PlannedRange) (piece : Piece) → is_of_id j (newly_pending serial (burst_of_piece id request range piece)) ≡ (id == j)
+sent_of_id id j serial request range piece = grind (arith, nat_tests)
 
 filter_more : (test : Pending → Bool) (pending : List Pending) (one : Pending) → test one ≡ true → filter test (pending ++ one ∷ []) ≡ filter test pending ++ one ∷ []
 filter_more test pending one is = filter-append test pending (one ∷ []) ∙ rw is refl
@@ -211,10 +209,10 @@ module _ (order : Order) (state : WorldState) (sending : Sending) (sent : IsNext
       all-find (λ (r : BridgedRequest). IsSoundRequest (table_limits_of sent_table.config) sent_table.accepted r.flight) (may_send sent_table) sent_table.live request (sound_requests sent_table sound.bridge_laws.requests) sent.found
 
   -- an atomic that writes does so with the value that it finds
-  sent_finds : reads_then_writes request.flight ≡ true → sent.write ≡ true → FindsSerially order request sent.range.address
+  sent_finds : reads_then_writes request.flight ≡ true → request.flight.writing ≡ true → FindsSerially order request sent.range.address
   sent_finds atomic writes =
       finds_writing order sent_table.config (table_limits_of sent_table.config) sent_table.accepted request sent.range.address sound.bridge_laws.requests.config served each sent.ready.undone atomic
-      (write_at request.flight request.flight.sent sent.piece (sent.next ∙ ap (λ (side : Bool). Some (side, sent.piece)) writes)).0
+      writes
       (planned_at sent_table.config order.regions request sent.range sound.bridge_laws.requests.config served.pages served sent.plan).address
       (subst (λ bus. IsGathered order bus request (address_of order.regions (request_of request.message))) sound.bus sent_of.gathered)
 
@@ -222,12 +220,12 @@ module _ (order : Order) (state : WorldState) (sending : Sending) (sent : IsNext
   sent_one = newly_pending state.memory.sent sending.burst
 
   -- so the burst puts what its request leaves
-  new_burst : IsBurstOf order state.memory.bus_bytes keeps.wrote sent_number sent_one (sent.write, sent.piece)
+  new_burst : IsBurstOf order state.memory.bus_bytes keeps.wrote sent_number request.flight.writing sent_one sent.piece
   new_burst =
-      subst (λ (burst : Burst). IsBurstOf order state.memory.bus_bytes keeps.wrote sent_number (newly_pending state.memory.sent burst) (sent.write, sent.piece)) (sym sent.burst)
-      (subst (λ bus. IsBurstOf order bus keeps.wrote sent_number (newly_pending state.memory.sent (burst_of_piece sending.id request sent.range (sent.write, sent.piece))) (sent.write, sent.piece)) (sym sound.bus)
-      (burst_of_next order sent_table.config keeps.wrote state.memory.sent sending.id request sent.range sent.write sent.piece sound.bridge_laws.requests.config served.pages served sent_of.asked sent.ready.undone sent.plan
-      sent.next sent_finds (λ write n x within has. sent_of.unsent request.flight.sent n x sent.piece (omega arith) (sent.next ∙ ap (λ (side : Bool). Some (side, sent.piece)) write) within has)))
+      subst (λ (burst : Burst). IsBurstOf order state.memory.bus_bytes keeps.wrote sent_number request.flight.writing (newly_pending state.memory.sent burst) sent.piece) (sym sent.burst)
+      (subst (λ bus. IsBurstOf order bus keeps.wrote sent_number request.flight.writing (newly_pending state.memory.sent (burst_of_piece sending.id request sent.range sent.piece)) sent.piece) (sym sound.bus)
+      (burst_of_next order sent_table.config keeps.wrote state.memory.sent sending.id request sent.range sent.piece sound.bridge_laws.requests.config served.pages served sent_of.asked sent.ready.undone sent.plan
+      sent.next sent_finds (λ writing n x within has. sent_of.unsent writing request.flight.sent n x sent.piece (omega arith) sent.next within has)))
 
   -- the request of the number has one burst more
   by_number : find (is_numbered sent_number) sent_table.live ≡ Some request
@@ -241,7 +239,7 @@ module _ (order : Order) (state : WorldState) (sending : Sending) (sent : IsNext
       record {
         asked = sent_of.asked;
         unwritten = sent_of.unwritten;
-        unsent = λ k n x piece past there within has. sent_of.unsent k n x piece (omega (arith, past)) there within has;
+        unsent = λ writing k n x piece past there within has. sent_of.unsent writing k n x piece (omega (arith, past)) there within has;
         written = sent_of.written;
         gathered = gathered-sent order state.memory.bus_bytes sending.id request (address_of order.regions (request_of request.message)) sent_of.gathered;
       }
@@ -249,16 +247,16 @@ module _ (order : Order) (state : WorldState) (sending : Sending) (sent : IsNext
   -- the open bursts of its ID
   one_of_id : (id : ℕ) → is_of_id id sent_one ≡ (sending.id == id)
   one_of_id id =
-      ap (λ (burst : Burst). is_of_id id (newly_pending state.memory.sent burst)) sent.burst ∙ sent_of_id sending.id id state.memory.sent request sent.range (sent.write, sent.piece)
+      ap (λ (burst : Burst). is_of_id id (newly_pending state.memory.sent burst)) sent.burst ∙ sent_of_id sending.id id state.memory.sent request sent.range sent.piece
 
-  mine_before : (held : Option BridgedRequest) → holder sending.id sent_table.live ≡ held → (held ≡ None) ⊎ (held ≡ Some request) → outstanding_of held ≡ outstanding request.flight
-      → AreBurstsOf order state.memory.bus_bytes keeps.wrote sent_number (filter (is_of_id sending.id) state.memory.pending) (outstanding request.flight)
-  mine_before None is was none =
-      let nothing = of_same_holder order state.memory.bus_bytes keeps.wrote (filter (is_of_id sending.id) state.memory.pending) (holder sending.id sent_table.live) None is (keeps.bursts sending.id) in
-      rw (nothing, sym none) tt
-  mine_before (Some other) is (inl no_one) none = absurd (cc (no_one))
-  mine_before (Some other) is (inr its) none =
-      of_same_holder order state.memory.bus_bytes keeps.wrote (filter (is_of_id sending.id) state.memory.pending) (holder sending.id sent_table.live) (Some request) (is ∙ its) (keeps.bursts sending.id)
+  mine_before : IsTakenBy sending.id sent_table.live request
+      → AreBurstsOf order state.memory.bus_bytes keeps.wrote sent_number request.flight.writing (filter (is_of_id sending.id) state.memory.pending) (outstanding request.flight)
+  mine_before taken =
+      let held = of_same_holder order state.memory.bus_bytes keeps.wrote (filter (is_of_id sending.id) state.memory.pending) (holder sending.id sent_table.live) in
+      elim taken.held [
+        | inl no_one ↦ rw (held None no_one (keeps.bursts sending.id), taken.free no_one) tt
+        | inr its ↦ held (Some request) its (keeps.bursts sending.id)
+      ]
 
   sent_own_bursts : AreOfHolder order state.memory.bus_bytes keeps.wrote (filter (is_of_id sending.id) (state.memory.pending ++ sent_one ∷ [])) (holder sending.id after)
   sent_own_bursts =
@@ -266,11 +264,11 @@ module _ (order : Order) (state : WorldState) (sending : Sending) (sent : IsNext
       let held = find-changed-found (holds sending.id) (is_numbered sent_number) (after_sending sending.id) sent_table.live request by_number (eq-eqb sending.id sending.id refl) taken.held in
       let mine = filter (is_of_id sending.id) state.memory.pending in
       of_same_holder order state.memory.bus_bytes keeps.wrote (filter (is_of_id sending.id) (state.memory.pending ++ sent_one ∷ [])) (Some (after_sending sending.id request)) (holder sending.id after) (sym held)
-      (subst (λ (ps : List Pending). AreBurstsOf order state.memory.bus_bytes keeps.wrote sent_number ps (outstanding (after_sending sending.id request).flight))
+      (subst (λ (ps : List Pending). AreBurstsOf order state.memory.bus_bytes keeps.wrote sent_number request.flight.writing ps (outstanding (after_sending sending.id request).flight))
       (sym (filter_more (is_of_id sending.id) state.memory.pending sent_one (one_of_id sending.id ∙ eq-eqb sending.id sending.id refl)))
-      (subst (λ (bs : List (Bool × Piece)). AreBurstsOf order state.memory.bus_bytes keeps.wrote sent_number (mine ++ sent_one ∷ []) bs)
-      (sym (outstanding_sent sending.id request (sent.write, sent.piece) each.answered sent.next))
-      (bursts_append order state.memory.bus_bytes keeps.wrote sent_number mine (outstanding request.flight) sent_one (sent.write, sent.piece) (mine_before (holder sending.id sent_table.live) refl taken.held taken.bursts) new_burst)))
+      (subst (λ (pieces : List Piece). AreBurstsOf order state.memory.bus_bytes keeps.wrote sent_number request.flight.writing (mine ++ sent_one ∷ []) pieces)
+      (sym (outstanding_sent sending.id request sent.piece each.answered sent.next))
+      (bursts_append order state.memory.bus_bytes keeps.wrote sent_number request.flight.writing mine (outstanding request.flight) sent_one sent.piece (mine_before taken) new_burst)))
 
   -- and those of the others
   sent_other_bursts : (id : ℕ) → (sending.id == id) ≡ false → AreOfHolder order state.memory.bus_bytes keeps.wrote (filter (is_of_id id) (state.memory.pending ++ sent_one ∷ [])) (holder id after)
@@ -299,13 +297,6 @@ module _ (order : Order) (state : WorldState) (sending : Sending) (sent : IsNext
         live = all-change_found (IsInOrder order state.memory.bus_bytes keeps.wrote) (is_numbered sent_number) (after_sending sending.id) sent_table.live request by_number in_order keeps.live;
         bursts = λ id. all_bursts id (sending.id == id) refl;
       }
-
--- ---- what its request hasn't written
-
--- a request that reads has written nothing
-pub reader_unwritten : (order : Order) (table : RequestTable) (bus_bytes : ℕ) (wrote : ℕ → ℕ → Bool) (request : BridgedRequest) (piece : Piece) (x : ℕ) → IsGoingOn order table request (false, piece)
-    → IsInOrder order bus_bytes wrote request → wrote request.flight.number x ≡ false
-reader_unwritten order table bus_bytes wrote request piece x going of = of.unwritten (read_at request.flight going.place piece going.planned).0 x
 
 -- ---- the step
 
@@ -340,11 +331,14 @@ module _ (order : Order) (state : WorldState) (pending : Pending) (beat : ℕ) (
   abbrev number : ℕ
   number = has.request.flight.number
 
-  abbrev one : IsOneOf order state.memory.bus_bytes keeps.wrote number mine (outstanding has.request.flight) (has_serial pending.serial) pending
-  one = open_one order state.memory.bus_bytes keeps.wrote number mine (outstanding has.request.flight) (has_serial pending.serial) pending has.are found_mine
+  abbrev write : Bool
+  write = has.request.flight.writing
 
-  abbrev going : IsGoingOn order table has.request one.burst
-  going = going_on order state id has.request one.place one.burst sound keeps.regions has.known one.there
+  abbrev one : IsOneOf order state.memory.bus_bytes keeps.wrote number write mine (outstanding has.request.flight) (has_serial pending.serial) pending
+  one = open_one order state.memory.bus_bytes keeps.wrote number write mine (outstanding has.request.flight) (has_serial pending.serial) pending has.are found_mine
+
+  abbrev going : IsGoingOn order table has.request one.piece
+  going = going_on order state id has.request one.place one.piece sound keeps.regions has.known one.there
 
   of : IsInOrder order state.memory.bus_bytes keeps.wrote has.request
   of = all-find (IsInOrder order state.memory.bus_bytes keeps.wrote) (holds id) table.live has.request keeps.live has.known.held
@@ -352,39 +346,38 @@ module _ (order : Order) (state : WorldState) (pending : Pending) (beat : ℕ) (
   sound_pending : IsSoundPending state.memory.bus_bytes pending
   sound_pending = all-find (IsSoundPending state.memory.bus_bytes) (has_serial pending.serial) state.memory.pending pending sound.memory_laws.each found
 
-  within : beat + 1 ≤ one.burst.1.len + 1
-  within = beat_within order state.memory.bus_bytes keeps.wrote number pending one.burst beat Waiting sound_pending one.is waits
+  within : beat + 1 ≤ one.piece.len + 1
+  within = beat_within order state.memory.bus_bytes keeps.wrote number write pending one.piece beat Waiting sound_pending one.is waits
 
   -- what a read takes is what its request finds
-  finds : (x : ℕ) → transfer_has one.burst.1.address one.burst.1.size (beat + 1) x ≡ true → one.burst.0 ≡ false → memory_bytes state x ≡ bytes_before order number x
+  finds : (x : ℕ) → transfer_has one.piece.address one.piece.size (beat + 1) x ≡ true → write ≡ false → memory_bytes state x ≡ bytes_before order number x
   finds x holds_it reads =
       found_here (writes order) (touches order) (bytes_before order) (started table) (is_finished table) keeps.wrote (memory_bytes state) number x keeps.history keeps.held going.started going.unfinished
-      (transfer_touches order table has.request one.burst (beat + 1) x going of.asked (omega arith) within holds_it)
-      (reader_unwritten order table state.memory.bus_bytes keeps.wrote has.request one.burst.1 x (subst (λ (side : Bool). IsGoingOn order table has.request (side, one.burst.1)) reads going) of)
+      (transfer_touches order table has.request one.piece (beat + 1) x going of.asked (omega arith) within holds_it)
+      (of.unwritten reads x)
 
-  does : PerformsSerially order state.memory keeps.wrote number pending one.burst beat
+  does : PerformsSerially order state.memory keeps.wrote number write pending one.piece beat
   does =
-      performs_serially order state.memory keeps.wrote number pending one.burst beat Waiting sound.memory_laws sound_pending keeps.faults one.is waits
+      performs_serially order state.memory keeps.wrote number write pending one.piece beat Waiting sound.memory_laws sound_pending keeps.faults one.is waits
       (λ x written. (writes_in_range order table.config has.request going.range x going.at of.asked written).good)
       (λ x holds_it page reads. finds x holds_it reads)
 
   -- the bytes that are written by it
   abbrev adds : ℕ → Bool
-  adds x = stores_by order number one.burst (beat + 1) x
+  adds x = stores_by order number write one.piece (beat + 1) x
 
   abbrev more : ℕ → ℕ → Bool
   more = with_written number adds keeps.wrote
 
-  stored_written : (burst : Bool × Piece) (n x : ℕ) → stores_by order number burst n x ≡ true → writes order number x ≡ true
-  stored_written (true, piece) n x there = (and_parts (transfer_has piece.address piece.size n x) (writes order number x) there).1
-  stored_written (false, piece) n x there = absurd (cc (there))
+  stored : (x : ℕ) → adds x ≡ true → (transfer_has one.piece.address one.piece.size (beat + 1) x ≡ true) × (writes order number x ≡ true)
+  stored x there = and_parts _ _ (and_parts write _ there).1
 
   history : IsHistory (writes order) (bytes_before order) (started table) (is_finished table) more (λ x. unwrap_or (byte_at_address (memory_after state.memory pending.burst beat) x) 0)
   history =
       history_stores (writes order) (touches order) (bytes_before order) (started table) (is_finished table) keeps.wrote (memory_bytes state)
       (λ x. unwrap_or (byte_at_address (memory_after state.memory pending.burst beat) x) 0) number adds (byte_left order number) keeps.history keeps.held (left_alone order) going.started going.unfinished
-      (λ x hit. stored_written one.burst (beat + 1) x hit)
-      (λ x hit. message_touches order number x has.request.message of.asked (stored_written one.burst (beat + 1) x hit))
+      (λ x hit. (stored x hit).1)
+      (λ x hit. message_touches order number x has.request.message of.asked (stored x hit).1)
       (λ x hit. refl)
       (λ x hit. ap (λ (o : Option ℕ). unwrap_or o 0) (does.set x hit))
       (λ x out. ap (λ (o : Option ℕ). unwrap_or o 0) (does.kept x out))
@@ -393,77 +386,59 @@ module _ (order : Order) (state : WorldState) (pending : Pending) (beat : ℕ) (
   kept i x there = store_keeps number adds keeps.wrote i x there
 
   -- a request that reads has written no more
-  same_unplanned : (burst : Bool × Piece) (x : ℕ) → IsGoingOn order table has.request burst → has.request.flight.writing ≡ false → stores_by order number burst (beat + 1) x ≡ false
-  same_unplanned (true, piece) x is_going isnt = absurd (cc ((write_at has.request.flight is_going.place piece is_going.planned).0, isnt))
-  same_unplanned (false, piece) x is_going isnt = refl
-
   same_unwritten : (r : BridgedRequest) → (r.flight.number ≡ number → r ≡ has.request) → r.flight.writing ≡ false → (x : ℕ) → more r.flight.number x ≡ keeps.wrote r.flight.number x
   same_unwritten r alone isnt x =
       elim (cases_eq r.flight.number number) [
         | inl its ↦
-            let same = alone its in
-            let none = same_unplanned one.burst x going (ap (λ (q : BridgedRequest). q.flight.writing) (sym same) ∙ isnt) in
+            let reads : write ≡ false = ap (λ (q : BridgedRequest). q.flight.writing) (sym (alone its)) ∙ isnt in
+            let none : adds x ≡ false = ap (λ w. stores_by order number w one.piece (beat + 1) x) reads in
             not_added number adds keeps.wrote r.flight.number x (and_right (r.flight.number == number) (adds x) none)
         | inr other ↦ not_added number adds keeps.wrote r.flight.number x (rw (ne_eqb r.flight.number number other) refl)
       ]
 
-  -- nothing is added where another transfer of a planned write would put it
-  none_added : (burst : Bool × Piece) → one.burst ≡ burst → (k n x : ℕ) (piece : Piece) → slice_get (planned has.request.flight) k ≡ Some (true, piece) → n ≤ piece.len
-      → transfer_has piece.address piece.size (n + 1) x ≡ true → (k ≡ going.place → n ≡ beat → ⊥) → stores_by order number burst (beat + 1) x ≡ false
-  none_added (false, own) is k n x piece there fits has_it other = refl
-  none_added (true, own) is k n x piece there fits has_it other = by_store (stores_by order number (true, own) (beat + 1) x) refl
+  -- nothing is added where another transfer of a planned piece would put it
+  none_added : (k n x : ℕ) (piece : Piece) → slice_get (planned has.request.flight) k ≡ Some piece → n ≤ piece.len → transfer_has piece.address piece.size (n + 1) x ≡ true
+      → (k ≡ going.place → n ≡ beat → ⊥) → adds x ≡ false
+  none_added k n x piece there fits has_it other = by_store (adds x) refl
     where
-      own_planned : slice_get (planned has.request.flight) going.place ≡ Some (true, own)
-      own_planned = going.planned ∙ ap (λ (burst : Bool × Piece). Some burst) is
-
-      own_within : beat + 1 ≤ own.len + 1
-      own_within = subst (λ (burst : Bool × Piece). beat + 1 ≤ burst.1.len + 1) is within
-
-      by_store : (b : Bool) → stores_by order number (true, own) (beat + 1) x ≡ b → b ≡ false
+      by_store : (b : Bool) → adds x ≡ b → b ≡ false
       by_store false isnt = refl
-      by_store true stored =
+      by_store true its =
           let same =
-          same_transfer has.request.flight going.range k going.place (n + 1) (beat + 1) x piece own going.at.plannable going.plan there own_planned (omega arith) (omega (arith, fits)) (omega arith) own_within has_it
-          (and_parts (transfer_has own.address own.size (beat + 1) x) (writes order number x) stored).0 in
+          same_transfer has.request.flight going.range k going.place (n + 1) (beat + 1) x piece one.piece going.at.plannable going.plan there going.planned (omega arith) (omega (arith, fits)) (omega arith) within has_it
+          (stored x its).0 in
           absurd (other same.0 (omega (arith, same.1)))
 
-  added_nowhere : (k n x : ℕ) (piece : Piece) → slice_get (planned has.request.flight) k ≡ Some (true, piece) → n ≤ piece.len → transfer_has piece.address piece.size (n + 1) x ≡ true
+  added_nowhere : (k n x : ℕ) (piece : Piece) → slice_get (planned has.request.flight) k ≡ Some piece → n ≤ piece.len → transfer_has piece.address piece.size (n + 1) x ≡ true
       → (k ≡ going.place → n ≡ beat → ⊥) → keeps.wrote number x ≡ false → more number x ≡ false
   added_nowhere k n x piece there fits has_it other none =
-      not_added number adds keeps.wrote number x (and_right (number == number) (adds x) (none_added one.burst refl k n x piece there fits has_it other)) ∙ none
+      not_added number adds keeps.wrote number x (and_right (number == number) (adds x) (none_added k n x piece there fits has_it other)) ∙ none
 
   -- the other beats of the burst, the other bursts, and what isn't sent
-  beats_left : (burst : Bool × Piece) → one.burst ≡ burst → LeavesOthers keeps.wrote more number beat burst
-  beats_left (false, piece) is = tt
-  beats_left (true, piece) is = λ k x other fits has_it none.
-      added_nowhere going.place k x piece (going.planned ∙ ap (λ (burst : Bool × Piece). Some burst) is) fits has_it (λ same at. other at) none
+  beats_left : LeavesOthers keeps.wrote more number beat one.piece
+  beats_left k x other fits has_it none = added_nowhere going.place k x one.piece going.planned fits has_it (λ same at. other at) none
 
-  burst_left : (k : ℕ) (burst : Bool × Piece) → slice_get (planned has.request.flight) k ≡ Some burst → k ≢ going.place → LeavesBurst keeps.wrote more number burst
-  burst_left k (false, piece) there other = tt
-  burst_left k (true, piece) there other = λ n x fits has_it none. added_nowhere k n x piece there fits has_it (λ same at. other same) none
+  burst_left : (k : ℕ) (piece : Piece) → slice_get (planned has.request.flight) k ≡ Some piece → k ≢ going.place → LeavesBurst keeps.wrote more number piece
+  burst_left k piece there other n x fits has_it none = added_nowhere k n x piece there fits has_it (λ same at. other same) none
 
-  others_left : (i : ℕ) (burst : Bool × Piece) → slice_get (outstanding has.request.flight) i ≡ Some burst → i ≢ one.place → LeavesBurst keeps.wrote more number burst
-  others_left i burst there other =
-      let at_place = part_at (planned has.request.flight) has.request.flight.answered has.request.flight.sent i burst there in
-      let own : going.place ≡ one.place + has.request.flight.answered = going_on-place order state id has.request one.place one.burst sound keeps.regions has.known one.there in
-      burst_left (i + has.request.flight.answered) burst at_place.0 (λ same. other (omega (arith, same, own)))
+  others_left : (i : ℕ) (piece : Piece) → slice_get (outstanding has.request.flight) i ≡ Some piece → i ≢ one.place → LeavesBurst keeps.wrote more number piece
+  others_left i piece there other =
+      let at_place = part_at (planned has.request.flight) has.request.flight.answered has.request.flight.sent i piece there in
+      let own : going.place ≡ one.place + has.request.flight.answered = going_on-place order state id has.request one.place one.piece sound keeps.regions has.known one.there in
+      burst_left (i + has.request.flight.answered) piece at_place.0 (λ same. other (omega (arith, same, own)))
 
-  unsent_left : (r : BridgedRequest) → (r.flight.number ≡ number → r ≡ has.request) → (k : ℕ) (burst : Bool × Piece) → r.flight.sent ≤ k → slice_get (planned r.flight) k ≡ Some burst
-      → LeavesBurst keeps.wrote more r.flight.number burst
-  unsent_left r alone k burst past there =
+  unsent_left : (r : BridgedRequest) → (r.flight.number ≡ number → r ≡ has.request) → (k : ℕ) (piece : Piece) → r.flight.sent ≤ k → slice_get (planned r.flight) k ≡ Some piece
+      → LeavesBurst keeps.wrote more r.flight.number piece
+  unsent_left r alone k piece past there =
       elim (cases_eq r.flight.number number) [
         | inl its ↦
             let same = alone its in
-            let own : LeavesBurst keeps.wrote more number burst =
-            burst_left k burst (ap (λ (q : BridgedRequest). slice_get (planned q.flight) k) (sym same) ∙ there)
+            let own : LeavesBurst keeps.wrote more number piece =
+            burst_left k piece (ap (λ (q : BridgedRequest). slice_get (planned q.flight) k) (sym same) ∙ there)
             (λ here. omega (arith, here, going.sent, past, ap (λ (q : BridgedRequest). q.flight.sent) same)) in
-            subst (λ i. LeavesBurst keeps.wrote more i burst) (sym its) own
-        | inr other ↦ left_alone_by burst (λ x. not_added number adds keeps.wrote r.flight.number x (rw (ne_eqb r.flight.number number other) refl))
+            subst (λ i. LeavesBurst keeps.wrote more i piece) (sym its) own
+        | inr other ↦ λ n x fits has_it none. not_added number adds keeps.wrote r.flight.number x (rw (ne_eqb r.flight.number number other) refl) ∙ none
       ]
-    where
-      left_alone_by : (burst : Bool × Piece) → ((x : ℕ) → more r.flight.number x ≡ keeps.wrote r.flight.number x) → LeavesBurst keeps.wrote more r.flight.number burst
-      left_alone_by (true, piece) same = λ n x fits has_it none. same x ∙ none
-      left_alone_by (false, piece) same = tt
 
   -- a request that holds another ID has written no more
   another_same : (j : ℕ) → id ≢ j → (held : Option BridgedRequest) → holder j table.live ≡ held → IfSome held (λ r. (x : ℕ) → more r.flight.number x ≡ keeps.wrote r.flight.number x)
@@ -495,7 +470,7 @@ module _ (order : Order) (state : WorldState) (pending : Pending) (beat : ℕ) (
   own_bursts =
       subst (λ (ps : List Pending). AreOfHolder order state.memory.bus_bytes more ps (holder id table.live)) (sym (filter-change-kept (has_serial pending.serial) (is_of_id id) change state.memory.pending pending found of_id of_id))
       (of_same_holder order state.memory.bus_bytes more (change_first (has_serial pending.serial) change mine) (Some has.request) (holder id table.live) (sym has.known.held)
-      (one.changed more change (kept number) others_left (does.still more (kept number) (λ x hit. store_adds number adds keeps.wrote x hit) (beats_left one.burst refl))))
+      (one.changed more change (kept number) others_left (does.still more (kept number) (λ x hit. store_adds number adds keeps.wrote x hit) beats_left)))
 
   other_bursts : (j : ℕ) → id ≢ j → AreOfHolder order state.memory.bus_bytes more (filter (is_of_id j) (change_first (has_serial pending.serial) change state.memory.pending)) (holder j table.live)
   other_bursts j other =

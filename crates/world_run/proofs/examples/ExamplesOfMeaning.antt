@@ -353,4 +353,4 @@ abbrev just_accepted : BridgedRequest
 just_accepted = newly_live (start plain).bridge.requests (message_of 0 put [])
 
 not_before_it_is_sent : IsInOrder order_of_put 8 (λ number x. true) just_accepted → ⊥
-not_before_it_is_sent of = let none = of.unsent 0 0 0x10008 piece (omega arith) refl (omega arith) refl in absurd (cc (none))
+not_before_it_is_sent of = let none = of.unsent refl 0 0 0x10008 piece (omega arith) refl (omega arith) refl in absurd (cc (none))

@@ -33,7 +33,7 @@ use Rattle.responses.proofs.AnswerLaws.{no_bytes}
 use Rattle.flight_table.specs.Laws.{IsSoundRequest}
 use Rattle.flight_table.specs.LiveRequests.{LiveRequest, pieces_planned, plan_for, planned, read_pieces, write_pieces, is_settled}
 use Rattle.flight_table.specs.declared.TableLimits.{TableLimits}
-use Rattle.flight_table.proofs.PhaseLaws.{length_reading, length_writing, read_at, write_at}
+use Rattle.flight_table.proofs.PhaseLaws.{length_reading, length_writing}
 use Rattle.config.specs.Configs.{is_valid, port_of}
 use Rattle.bridge_core.specs.Laws.{IsServed, answered_pieces, beats_in}
 use Rattle.bridge_core.specs.HeldRequests.{BridgedRequest, outline_in, range_at, range_of, reply_beats, value_found, after_read, after_response}
@@ -439,11 +439,11 @@ transfer_of_read order config request address piece n valid served at reading =
     k : ℕ
     k = request.flight.answered
 
-    read : (request.flight.writing ≡ false) × (slice_get (read_pieces request.flight) k ≡ Some piece)
-    read = read_at request.flight k piece reading.burst
+    read : slice_get (read_pieces request.flight) k ≡ Some piece
+    read = rw reading.reads at reading.burst
 
     has : reply_has_data request.flight.operation ≡ true
-    has = read_has (reply_has_data request.flight.operation) (pieces_planned request.flight.plan) k piece read.1
+    has = read_has (reply_has_data request.flight.operation) (pieces_planned request.flight.plan) k piece read
 
     sends : reply_has_data request.message.operation ≡ true
     sends = ap reply_has_data (sym served.flight.operation) ∙ has
@@ -458,11 +458,11 @@ transfer_of_read order config request address piece n valid served at reading =
     even = divides_evenly range (plannable config order.regions request range valid served.pages served plan).0
 
     listed : (k < burst_count range) × (piece ≡ piece_at range k)
-    listed = piece_listed range even k piece (rw parts at read.1)
+    listed = piece_listed range even k piece (rw parts at read)
 
     place : k * burst_beats range + n ≡ request.gathering.came
     place =
-        let before : beats_in (answered_pieces request.flight) ≡ k * burst_beats range = rw (read.0, parts) (beats_before range even k (omega (arith, listed.0))) in
+        let before : beats_in (answered_pieces request.flight) ≡ k * burst_beats range = rw (reading.reads, parts) (beats_before range even k (omega (arith, listed.0))) in
         omega (arith, before, reading.came)
 
 -- the next beat of a read tells, at its place, what the request finds
@@ -500,11 +500,8 @@ last_readable order config request piece count address r valid served at reading
     number : (reply_has_data request.message.operation ≡ true) × (request.message.size ≤ 3)
     number = atomic_small request.message.operation request.message.size (found_atomic (outline_in request) new.gathering found) served.message.atomic_size
 
-    read : (request.flight.writing ≡ false) × (slice_get (read_pieces request.flight) request.flight.answered ≡ Some piece)
-    read = read_at request.flight request.flight.answered piece reading.burst
-
     whole : answered_pieces new.flight ≡ read_pieces request.flight
-    whole = reads_came new.flight read.0 (omega (arith, leb-true (length (planned request.flight)) (request.flight.answered + 1) settles, length_reading request.flight read.0))
+    whole = reads_came new.flight reading.reads (omega (arith, leb-true (length (planned request.flight)) (request.flight.answered + 1) settles, length_reading request.flight reading.reads))
 
     counted : beats_in (read_pieces request.flight) ≡ reads_of config.axi_bytes (outline_in request)
     counted =
@@ -512,13 +509,13 @@ last_readable order config request piece count address r valid served at reading
         (has_range order config request address served at (rw number.0 refl))
 
     most : reads_of config.axi_bytes (outline_in request) ≤ min (request.gathering.came + 1) (reads_of config.axi_bytes (outline_in request))
-    most = omega (arith, counted, ap beats_in whole, answered_next request.flight piece read.0 read.1, reading.came, last)
+    most = omega (arith, counted, ap beats_in whole, answered_next request.flight piece reading.reads (rw reading.reads at reading.burst), reading.came, last)
 
     value_is : value_found new ≡ number_there order new address
     value_is =
         old_value_by order config new address (translated_to config order.regions request.message address valid served.pages served.message at)
         (found_atomic (outline_in request) new.gathering found) number.1 told most
-        (no_responses order config.axi_bytes new address told (rw read.0 refl))
+        (no_responses order config.axi_bytes new address told (rw reading.reads refl))
 
 -- one more read that tells what the request finds
 pub gathered-read : (order : Order) (config : Config) (request : BridgedRequest) (piece : Piece) (count address : ℕ) (r : RBeat) → is_valid config ≡ true → IsServed config order.regions request
@@ -528,11 +525,8 @@ pub gathered-read : (order : Order) (config : Config) (request : BridgedRequest)
 gathered-read order config request piece count address r valid served at reading last few tells told =
     settled_gathered order config.axi_bytes (with_read_told config.axi_bytes r r.last request) address (by_last r.last refl) (told_more r.last)
   where
-    reads : request.flight.writing ≡ false
-    reads = (read_at request.flight request.flight.answered piece reading.burst).0
-
     told_more : (b : Bool) → HasGathered order config.axi_bytes (with_read_told config.axi_bytes r b request) address
-    told_more b = read_told order config.axi_bytes request address r told (no_responses order config.axi_bytes request address told (rw reads refl)) few reads tells b
+    told_more b = read_told order config.axi_bytes request address r told (no_responses order config.axi_bytes request address told (rw reading.reads refl)) few reading.reads tells b
 
     by_last : (b : Bool) → r.last ≡ b → is_settled (with_read_told config.axi_bytes r b request).flight ≡ true
         → (not (with_read_told config.axi_bytes r b request).flight.writing && is_some (value_found (with_read_told config.axi_bytes r b request))) ≡ true
@@ -541,20 +535,17 @@ gathered-read order config request piece count address r valid served at reading
         last_readable order config request piece count address r valid served at reading (eqb-true count piece.len (sym last ∙ is)) (told_more true) settles
         (and_parts (not request.flight.writing) (is_some (value_found (with_read_told config.axi_bytes r true request))) found).1
     by_last false is settles found =
-        absurd (omega (arith, leb-true (length (planned request.flight)) request.flight.answered settles, slice_get_within (planned request.flight) request.flight.answered (false, piece) reading.burst))
+        absurd (omega (arith, leb-true (length (planned request.flight)) request.flight.answered settles, slice_get_within (planned request.flight) request.flight.answered piece reading.burst))
 
 -- ---- a response
 
 -- one more response to a write
-pub gathered-response : (order : Order) (config : Config) (request : BridgedRequest) (piece : Piece) (address : ℕ) (resp : Resp) → IsServed config order.regions request
-    → slice_get (planned request.flight) request.flight.answered ≡ Some (true, piece) → resp ≡ write_response (standing_at order.faults address)
+pub gathered-response : (order : Order) (config : Config) (request : BridgedRequest) (address : ℕ) (resp : Resp) → request.flight.writing ≡ true
+    → resp ≡ write_response (standing_at order.faults address)
     → HasGathered order config.axi_bytes request address → HasGathered order config.axi_bytes (after_response resp request) address
-gathered-response order config request piece address resp served burst is told =
+gathered-response order config request address resp writes is told =
     settled_gathered order config.axi_bytes (with_response_told resp request) address none_found (response_told order config.axi_bytes request address resp writes is told)
   where
-    writes : request.flight.writing ≡ true
-    writes = (write_at request.flight request.flight.answered piece burst).0
-
     none_found : is_settled (with_response_told resp request).flight ≡ true → (not request.flight.writing && is_some (value_found (with_response_told resp request))) ≡ true
         → is_okay (read_response order.faults address) ≡ true
     none_found settles test =
@@ -594,12 +585,13 @@ read_in_order order config limits accepted request piece count r valid served so
 -- a burst of a request's plan is on the page of its range
 standing_of_piece : (order : Order) (config : Config) (limits : TableLimits) (accepted : ℕ) (request : BridgedRequest) (piece : Piece) (address : ℕ) → is_valid config ≡ true
     → IsServed config order.regions request → request.flight.plan ≡ Some (range_at config (request_of request.message) address)
-    → slice_get (planned request.flight) request.flight.answered ≡ Some (true, piece) → standing_at order.faults piece.address ≡ standing_at order.faults address
+    → slice_get (planned request.flight) request.flight.answered ≡ Some piece → standing_at order.faults piece.address ≡ standing_at order.faults address
 standing_of_piece order config limits accepted request piece address valid served plan burst =
     let range = range_at config (request_of request.message) address in
     let plans = (plannable config order.regions request range valid served.pages served plan).0 in
     let even = divides_evenly range plans in
-    let (k, there) = piece_of_plan (record request.flight { sent = request.flight.answered }) range true piece plan burst in
+    let k = request.flight.answered in
+    let there = piece_of_plan request.flight range k piece plan burst in
     let (below, is) = piece_listed range even k piece there in
     let within = piece_within range even k below in
     let some = even.parts.some in
@@ -610,10 +602,10 @@ standing_of_piece order config limits accepted request piece address valid serve
 -- the response to a write that the memory gave
 pub response_in_order : (order : Order) (config : Config) (limits : TableLimits) (accepted : ℕ) (request : BridgedRequest) (piece : Piece) (resp : Resp) → is_valid config ≡ true
     → IsServed config order.regions request → IsSoundRequest limits accepted request.flight → request.flight.done ≡ false
-    → slice_get (planned request.flight) request.flight.answered ≡ Some (true, piece) → resp ≡ write_response (standing_at order.faults piece.address)
+    → request.flight.writing ≡ true → slice_get (planned request.flight) request.flight.answered ≡ Some piece → resp ≡ write_response (standing_at order.faults piece.address)
     → IsGathered order config.axi_bytes request (address_of order.regions (request_of request.message))
     → IsGathered order config.axi_bytes (after_response resp request) (address_of order.regions (request_of request.message))
-response_in_order order config limits accepted request piece resp valid served sound live burst is told =
+response_in_order order config limits accepted request piece resp valid served sound live writes burst is told =
     by_place (address_of order.regions (request_of request.message)) refl told
   where
     by_plan : (address : ℕ) → address_of order.regions (request_of request.message) ≡ Some address → (plan : Option PlannedRange) → request.flight.plan ≡ plan
@@ -633,5 +625,5 @@ response_in_order order config limits accepted request piece resp valid served s
     by_place None at so_far = absurd (cc (nowhere_done order config limits accepted request served sound at, live))
     by_place (Some address) at so_far =
         let plan = by_plan address at request.flight.plan refl in
-        gathered-response order config request piece address resp served burst
+        gathered-response order config request address resp writes
         (is ∙ ap write_response (standing_of_piece order config limits accepted request piece address valid served plan burst)) so_far
