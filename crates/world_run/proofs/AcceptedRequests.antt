@@ -52,23 +52,17 @@ request_at bridge _ _ = None
 -- the messages of a list of events are that of the first and those of the others
 pub messages_from-next : (heard : Heard) (step : Step) (answer : Answer) (rest : List (Step × Answer))
     → messages_from heard ((step, answer) ∷ rest) ≡ cons_option (message_at heard step answer) (messages_from (heard_after heard step answer) rest)
-messages_from-next heard (Offer client beat) More rest = refl
-messages_from-next heard (Offer client beat) (Accepted number) rest = refl
-messages_from-next heard _ _ rest = refl
+messages_from-next heard step answer rest = grind arith
 
 -- an answer that leaves all as it is tells nothing
 pub quiet_heard : (heard : Heard) (step : Step) (answer : Answer) → leaves_all answer ≡ true → heard_after heard step answer ≡ heard
-quiet_heard heard (Offer client beat) More still = absurd (cc)
-quiet_heard heard (Offer client beat) (Accepted number) still = absurd (cc)
-quiet_heard heard _ _ still = refl
+quiet_heard heard step answer still = grind (arith, still)
 
 pub quiet_message : (heard : Heard) (step : Step) (answer : Answer) → leaves_all answer ≡ true → message_at heard step answer ≡ None
-quiet_message heard (Offer client beat) (Accepted number) still = absurd (cc)
-quiet_message heard _ _ still = refl
+quiet_message heard step answer still = grind (arith, still)
 
 pub quiet_request : (bridge : BridgeState) (step : Step) (answer : Answer) → leaves_all answer ≡ true → request_at bridge step answer ≡ None
-quiet_request bridge (Offer client beat) (Accepted number) still = absurd (cc)
-quiet_request bridge _ _ still = refl
+quiet_request bridge step answer still = grind (arith, still)
 
 -- ---- what was heard is what the bridge holds
 
@@ -262,8 +256,7 @@ config_next state step = each_way (λ event outcome. outcome.state.bridge.reques
 
 -- an optional entry before a list
 pub cons_option-list : {A : Type 0} (o : Option A) (xs : List A) → cons_option o xs ≡ option_to_list o ++ xs
-cons_option-list None xs = refl
-cons_option-list (Some x) xs = refl
+cons_option-list o xs = grind arith
 
 -- an event keeps it
 pub has_accepted-next : (requests : List WholeRequest) (state : WorldState) (step : Step) (steps : List Step) → HasAccepted requests state (step ∷ steps)

@@ -31,8 +31,7 @@ use Rattle.world_run.specs.Serial.{Order, after_one, asked, bytes_before, gives_
 -- ---- bytes of a list
 
 not_given : (o : Option ℕ) (d : ℕ) → is_some o ≡ false → unwrap_or o d ≡ d
-not_given None d none = refl
-not_given (Some byte) d none = absurd (cc)
+not_given o d none = grind (arith, none)
 
 -- a byte outside the range
 outside : (bytes : List (Option ℕ)) (address size x : ℕ) → length bytes ≤ 2 ^ size → in_range address size x ≡ false → given_at bytes address x ≡ None
@@ -136,8 +135,7 @@ carried-first faults regions q qs m (suc n) = carried_one faults regions q qs (s
   where
     carried_one : (faults : Faults) (regions : List Region) (q : WholeRequest) (qs : List WholeRequest) (o : Option WholeRequest) (m k : Bytes) → m ≡ k
         → after_one (order_of faults regions (q ∷ qs)) o m ≡ after_one (order_of faults regions qs) o k
-    carried_one faults regions q qs None m k same = same
-    carried_one faults regions q qs (Some p) m k same = ap (λ (bytes : Bytes). (meaning faults regions p bytes).after) same
+    carried_one faults regions q qs o m k same = grind (arith, same)
 
 replies_carried : (faults : Faults) (regions : List Region) (qs : List WholeRequest) (m : Bytes) (n : ℕ)
     → slice_get (replies_in_order faults regions qs m) n ≡ option_map (λ q. (meaning faults regions q (carried faults regions qs m n)).reply) (slice_get qs n)
@@ -223,8 +221,7 @@ gives_where_written faults q Get address x old fine = none_given address x
 gives_where_written faults q (Intent write) address x old fine = none_given address x
 
 some_given : (o : Option ℕ) (d : ℕ) → is_some o ≡ true → o ≡ Some (unwrap_or o d)
-some_given None d there = absurd (cc (there))
-some_given (Some byte) d there = refl
+some_given o d there = grind (arith, there)
 
 -- on a good page they write what it leaves, where an atomic's old value is the number at its address
 pub gives_what_is_left : (faults : Faults) (q : WholeRequest) (m : Bytes) (operation : Operation) (standing : Standing) (bad : Bool) (address x old : ℕ) → is_good standing ≡ true

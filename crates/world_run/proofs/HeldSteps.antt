@@ -15,7 +15,7 @@ use Rattle.bus_words.proofs.FoundChanges.{find-changed-found, find-changed-unsee
 use Rattle.tl_messages.specs.Lanes.{in_range}
 use Rattle.tl_messages.specs.Requests.{HeldMessage, WholeRequest, request_of}
 use Rattle.tl_messages.specs.declared.Operation.{Operation}
-use Rattle.tl_messages.specs.declared.Operation.TheVariants.{Get, Intent}
+use Rattle.tl_messages.specs.declared.Operation.TheVariants.{Intent}
 use Rattle.axi_beats.specs.declared.RBeat.{RBeat}
 use Rattle.axi_beats.specs.declared.Resp.{Resp}
 use Rattle.burst_plan.specs.Pieces.{PlannedRange}
@@ -30,7 +30,7 @@ use Rattle.burst_plan.specs.PageMap.{address_of}
 use Rattle.config.specs.declared.Config.{Config}
 use Rattle.bridge_core.specs.Bridge.{message_with}
 use Rattle.bridge_core.proofs.SentLinks.{found_by_number, numbers}
-use Rattle.subordinate.specs.Faults.{Faults, is_good, standing_at}
+use Rattle.subordinate.specs.Faults.{Faults}
 use Rattle.world.specs.Laws.{IsSoundWorld}
 use Rattle.setups.specs.Setups.{SetupLists}
 use Rattle.world.specs.World.{Outcome, WorldState, next, opening_world}
@@ -53,8 +53,7 @@ unaccepted table j past = let none : nat_lt j table.accepted ≡ false = grind (
 
 -- who is finished has started
 pub done_begun : (o : Option BridgedRequest) → is_over o ≡ true → has_begun o ≡ true
-done_begun None over = refl
-done_begun (Some request) over = grind (arith, over)
+done_begun o over = grind (arith, over)
 
 -- ---- the range of a request that touches a byte
 
@@ -82,19 +81,14 @@ message_planned order config message k x is there =
 
 -- ranges with a byte in common meet
 share : (a b : Option PlannedRange) (x : ℕ) → HasByte a x → HasByte b x → share_bytes a b ≡ true
-share None b x in_a in_b = absurd in_a
-share (Some a) None x in_a in_b = absurd in_b
-share (Some a) (Some b) x in_a in_b = grind (arith, nat_tests)
+share a b x in_a in_b = grind (arith, in_a, in_b)
 
 -- who writes is no Get
 no_get_there : (faults : Faults) (q : WholeRequest) (address : ℕ) (operation : Operation) (x : ℕ) → gives_byte faults q address operation x ≡ true → is_get operation ≡ false
-no_get_there faults q address Get x gives = absurd (cc)
-no_get_there faults q address _ x gives = refl
+no_get_there faults q address operation x gives = grind (arith, gives)
 
 no_get_at : (faults : Faults) (q : WholeRequest) (place : Option ℕ) (x : ℕ) → writes_from faults q place x ≡ true → is_get q.operation ≡ false
-no_get_at faults q None x there = absurd (cc)
-no_get_at faults q (Some address) x there =
-    no_get_there faults q address q.operation x ((and_parts (is_good (standing_at faults address)) (gives_byte faults q address q.operation x) there).1)
+no_get_at faults q place x there = grind (arith, there)
 
 no_get : (order : Order) (message : HeldMessage) (k x : ℕ) → asked order k ≡ Some (request_of message) → writes order k x ≡ true → is_get message.operation ≡ false
 no_get order message k x is there =
@@ -256,11 +250,7 @@ search_changed {X = X} q p f (y ∷ ys) same = by_test (p y) (q y) refl (search_
         → (find q (change_first p f ys) ≡ find q ys) ⊎ ((x : X) × (find q ys ≡ Some x) × (find p ys ≡ Some x) × (find q (change_first p f ys) ≡ Some (f x)))
         → (find q (if b then f y ∷ ys else y ∷ change_first p f ys) ≡ (if c then Some y else find q ys))
         ⊎ ((x : X) × ((if c then Some y else find q ys) ≡ Some x) × ((if b then Some y else find p ys) ≡ Some x) × (find q (if b then f y ∷ ys else y ∷ change_first p f ys) ≡ Some (f x)))
-    by_test true true is rest = inr (y, refl, refl, rw (same y, is) refl)
-    by_test true false is rest = inl (rw (same y, is) refl)
-    by_test false true is rest = inl (rw is refl)
-    by_test false false is (inl kept) = inl (rw is kept)
-    by_test false false is (inr (x, at, first, now)) = inr (x, at, first, rw is now)
+    by_test b c is rest = grind (arith, is, rest)
 
 -- numbers above another
 none_above : (n : ℕ) (live : List BridgedRequest) → AllByRecursion (λ m. n < m) (map (λ (flight : LiveRequest). flight.number) (flights_of live)) → find (is_numbered n) live ≡ None
@@ -321,15 +311,13 @@ follows_answered old middle new id still same done held = record {
 }
   where
     held_some : (own : Option ℕ) → is_id id own ≡ true → is_some own ≡ true
-    held_some None held = absurd (cc (held))
-    held_some (Some own) held = refl
+    held_some own held = grind (arith, held)
 
 over_begun : (table : RequestTable) (j : ℕ) → is_finished table j ≡ true → started table j ≡ true
 over_begun table j over = rw (and_parts (nat_lt j table.accepted) (is_over (find (is_numbered j) table.live)) over).0 (done_begun (find (is_numbered j) table.live) (and_parts (nat_lt j table.accepted) (is_over (find (is_numbered j) table.live)) over).1)
 
 or_none : {X : Type 0} (o : Option X) → option_or o None ≡ o
-or_none None = refl
-or_none (Some x) = refl
+or_none o = grind arith
 
 -- ---- one number
 
@@ -402,8 +390,7 @@ reads_on order table beat all =
     }
 
     same : (flight : LiveRequest) (last : Bool) → let new = if last then with_answered flight else flight in (new.number ≡ flight.number) × (new.id ≡ flight.id) × (new.done ≡ flight.done)
-    same flight true = (refl, refl, refl)
-    same flight false = (refl, refl, refl)
+    same flight last = grind arith
 
 takes_on : (order : Order) (table : RequestTable) (client : ℕ) → AreAsked order table.live → IsSoundRequestTable table → MovesOn order table (without_done client table)
 takes_on order table client all sound = record {

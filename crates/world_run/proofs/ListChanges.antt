@@ -38,8 +38,7 @@ all_kept q [] = tt
 all_kept {X = X} q (y ∷ ys) = by_test (q y) refl (all_kept q ys)
   where
     by_test : (b : Bool) → q y ≡ b → AllByRecursion (λ x. q x ≡ true) (filter q ys) → AllByRecursion (λ x. q x ≡ true) (if b then y ∷ filter q ys else filter q ys)
-    by_test true is rest = (is, rest)
-    by_test false is rest = rest
+    by_test b is rest = grind (arith, is, rest)
 
 -- what holds of each entry by two things that hold of each
 pub all_both : {X : Type 0} (P Q R : X → Type 0) (xs : List X) → ((x : X) → P x → Q x → R x) → AllByRecursion P xs → AllByRecursion Q xs → AllByRecursion R xs

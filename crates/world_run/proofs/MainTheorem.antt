@@ -4,7 +4,7 @@
 use Rattle.std.specs.List.{AllByRecursion, IsDistinct, cons_option, list_all}
 use Rattle.std.proofs.Common.{◌≡◌, ℕ, ◌<◌, ◌==◌, Bool, true, false, List, [], ◌∷◌, map, length, Option, Some, None, refl, sym, subst, ap, ◌∙◌, arith, ◌++◌, filter, find, nat_eq, if◌then◌else◌, IsTrue, IfSome, option_map}
 use Rattle.std.proofs.lemmas.Bool.Decides.{nat_tests}
-use Rattle.std.proofs.lemmas.Bool.{false≢true, ne_eqb, and_from}
+use Rattle.std.proofs.lemmas.Bool.{ne_eqb, and_from}
 use Rattle.std.proofs.lemmas.List.{length-append}
 use Rattle.std.proofs.lemmas.List.Elements.{filter-append}
 use Rattle.std.proofs.lemmas.Option.{same_Some}
@@ -36,9 +36,7 @@ use Rattle.world.specs.Laws.{AreSoundAlong, IsSoundWorld, GoesWell}
 use Rattle.setups.specs.Setups.{SetupLists}
 use Rattle.world.specs.World.{WorldState, Outcome, leaves_all, next, opening_world, taken, outcomes, IsQuiet, after, byte_of, in_flight}
 use Rattle.world.specs.declared.Answer.{Answer}
-use Rattle.world.specs.declared.Answer.TheVariants.{Reply, Sent, B, R}
 use Rattle.world.specs.declared.Step.{Step}
-use Rattle.world.specs.declared.Step.TheVariants.{Take}
 use Rattle.world.proofs.Events.{each_way}
 use Rattle.world.proofs.TakesAll.{takes_all}
 use Rattle.world_run.specs.Runs.{HandedReply, handed_at, handed_in, bursts_in, sent_in, pumps_told, axi_history, answers_of, IsRunOf, accepted_in, handed_of}
@@ -160,8 +158,7 @@ found_accepted table p live request sound found =
 
 -- an answer that leaves all as it is hands out nothing
 quiet_hands_out : (step : Step) (answer : Answer) (beats : List DBeat) → leaves_all answer ≡ true → handed_at step answer beats ≡ None
-quiet_hands_out (Take client) (Reply number) beats still = absurd (false≢true still)
-quiet_hands_out _ _ beats still = refl
+quiet_hands_out step answer beats still = grind (arith, still)
 
 -- where the laws hold
 abbrev pub HandsOutRightly : WorldState → Step → Outcome → Type 0
@@ -257,8 +254,7 @@ bursts_along state steps = bursts_in (outcomes state steps)
 
 -- an answer that leaves all as it is tells no burst
 quiet_pumps : (answer : Answer) (answers : List Answer) → leaves_all answer ≡ true → pumps_told (answer ∷ answers) ≡ pumps_told answers
-quiet_pumps (Sent serial) answers still = absurd (false≢true still)
-quiet_pumps _ answers still = refl
+quiet_pumps answer answers still = grind (arith, still)
 
 -- a run sends one burst for each answer Sent
 paired_along : (state : WorldState) (steps : List Step) → length (bursts_along state steps) ≡ pumps_told (answers_of state steps)
@@ -323,10 +319,7 @@ legal_along config state (step ∷ steps) same along =
 
 -- an answer that leaves all as it is tells no AXI beat
 quiet_history : (answer : Answer) (answers : List Answer) (bursts : List Burst) → leaves_all answer ≡ true → axi_history (answer ∷ answers) bursts ≡ axi_history answers bursts
-quiet_history (Sent serial) answers bursts still = absurd (false≢true still)
-quiet_history (B b) answers bursts still = absurd (false≢true still)
-quiet_history (R r) answers bursts still = absurd (false≢true still)
-quiet_history _ answers bursts still = refl
+quiet_history answer answers bursts still = grind (arith, still)
 
 -- no beat of a run, sent or answered, breaks a rule at its place
 fine_along : (config : Config) (state : WorldState) (steps : List Step) → state.bridge.requests.config ≡ config → AreSoundAlong state steps

@@ -1,6 +1,6 @@
 -- A whole run: its replies are those of the accepted requests one at a time, and once it is quiet its memory is theirs. It knows that each
 -- event keeps the order, as a premise, and fixes the list of all requests; which event came is hidden.
-use Rattle.std.proofs.Common.{◌≡◌, ℕ, zero, suc, ◌==◌, ◌<◌, ◌≤◌, ◌^◌, nat_lt, Bool, true, false, List, [], ◌∷◌, length, Option, Some, None, refl, sym, subst, ◌∙◌, ap, arith, filter, find, is_some, nat_le, option_map, slice_get, unwrap_or, if◌then◌else◌}
+use Rattle.std.proofs.Common.{◌≡◌, ℕ, zero, suc, ◌==◌, ◌<◌, ◌≤◌, ◌^◌, nat_lt, Bool, true, List, [], ◌∷◌, length, Option, Some, None, refl, sym, subst, ◌∙◌, ap, arith, filter, find, is_some, nat_le, option_map, slice_get, unwrap_or, if◌then◌else◌}
 use Rattle.std.specs.List.{AllByRecursion, cons_option}
 use Rattle.std.proofs.lemmas.Bool.Decides.{nat_tests}
 use Rattle.std.proofs.lemmas.Bool.{and_parts, eqb-true}
@@ -28,9 +28,9 @@ use Rattle.world_run.specs.Serial.{Order, asked, bytes_before, touches, writes}
 use Rattle.setups.specs.Setups.{SetupLists}
 use Rattle.world.specs.World.{IsQuiet, Outcome, WorldState, after, byte_of, leaves_all, next, opening_world}
 use Rattle.world.specs.declared.Answer.{Answer}
-use Rattle.world.specs.declared.Answer.TheVariants.{Accepted, Reply}
+use Rattle.world.specs.declared.Answer.TheVariants.{Accepted}
 use Rattle.world.specs.declared.Step.{Step}
-use Rattle.world.specs.declared.Step.TheVariants.{Offer, Take}
+use Rattle.world.specs.declared.Step.TheVariants.{Offer}
 use Rattle.world_run.proofs.AcceptedRequests.{HasAccepted, has_accepted-here, has_accepted-next, has_accepted-opening, request_at}
 use Rattle.world.proofs.Events.{EachWay, each_way}
 use Rattle.world_run.proofs.gathered.GatheredAnswers.{reply_served_by}
@@ -72,8 +72,7 @@ foreseen order state step steps has =
 -- ---- a reply that is handed out
 
 quiet_handed : (step : Step) (answer : Answer) → leaves_all answer ≡ true → handed_at step answer [] ≡ None
-quiet_handed (Take client) (Reply number) still = absurd (cc)
-quiet_handed _ _ still = refl
+quiet_handed step answer still = grind (arith, still)
 
 -- the replies to all requests, one at a time
 abbrev pub replies_in : Order → List ReplyGiven
@@ -145,10 +144,7 @@ quiet_bytes order state keeps quiet count x =
 
 -- a byte is shown just where its page is good
 shown_byte : (good : Bool) (o : Option ℕ) (byte : ℕ) → is_some o ≡ good → unwrap_or o 0 ≡ byte → o ≡ (if good then Some byte else None)
-shown_byte true None byte there is = absurd (cc)
-shown_byte true (Some x) byte there is = ap Some is
-shown_byte false None byte there is = refl
-shown_byte false (Some x) byte there is = absurd (cc)
+shown_byte good o byte there is = grind (arith, there, is)
 
 quiet_shown : (order : Order) (state : WorldState) → IsSoundWorld state → KeepsOrder order state → IsQuiet state → state.bridge.requests.accepted ≡ length order.requests → (address : ℕ)
     → byte_of state address ≡ (if is_good (standing_at order.faults address) then Some (bytes_after_all order.faults order.regions order.requests zeros address) else None)

@@ -1,6 +1,6 @@
 -- A run with one event more: what it shows is what was shown before, and what the event shows. It knows lists of outcomes; what an event
 -- does is hidden.
-use Rattle.std.proofs.Common.{◌≡◌, ℕ, ◌+◌, ◌-◌, ◌≤◌, List, [], ◌∷◌, ◌++◌, length, Option, Some, None, option_to_list, drop, refl, sym, ap, ◌∙◌, arith, flat_map, slice_range}
+use Rattle.std.proofs.Common.{◌≡◌, ℕ, ◌+◌, ◌-◌, ◌≤◌, List, [], ◌∷◌, ◌++◌, length, Option, option_to_list, drop, refl, sym, ap, ◌∙◌, arith, flat_map, slice_range}
 use Rattle.std.specs.List.{cons_option}
 use Rattle.std.proofs.lemmas.List.{append_assoc, length-drop, take-append-le, drop-append-le}
 use Rattle.std.proofs.Math.Seq.{drop-append_seam, take-length}
@@ -26,12 +26,10 @@ answers_of-append state [] step = refl
 answers_of-append state (first ∷ steps) step = ap (λ rest. (next state first).answer ∷ rest) (answers_of-append (next state first).state steps step)
 
 pub cons_option-append : {A : Type 0} (o : Option A) (xs ys : List A) → cons_option o (xs ++ ys) ≡ cons_option o xs ++ ys
-cons_option-append None xs ys = refl
-cons_option-append (Some x) xs ys = refl
+cons_option-append o xs ys = grind arith
 
 cons_option-nil : {A : Type 0} (o : Option A) → cons_option o [] ≡ option_to_list o
-cons_option-nil None = refl
-cons_option-nil (Some x) = refl
+cons_option-nil o = grind arith
 
 -- the reply that one event more handed out
 pub handed_in-append : (state : WorldState) (steps : List Step) (step : Step)

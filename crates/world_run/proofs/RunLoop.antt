@@ -1,6 +1,6 @@
 -- A run's record with one event more: the record of a run is that of the run with the event at its end. It knows the lists of a record, for
 -- the loop of run; what an event does is hidden.
-use Rattle.std.proofs.Common.{◌≡◌, ℕ, ◌+◌, ◌≤◌, true, List, [], ◌∷◌, ◌++◌, map, length, take, Option, Some, None, Result, Ok, Err, option_to_list, refl, sym, ap, ◌∙◌, subst, flat_map, if◌then◌else◌, length-append, slice_get, IfSome, OnOk}
+use Rattle.std.proofs.Common.{◌≡◌, ℕ, ◌+◌, ◌≤◌, true, List, [], ◌∷◌, ◌++◌, map, length, take, Option, Some, None, Result, Ok, Err, option_to_list, refl, sym, ap, ◌∙◌, subst, flat_map, if◌then◌else◌, length-append, slice_get, IfSome, OnOk, arith}
 use Rattle.std.proofs.lemmas.List.{append-nil, append_assoc, map-append, take_all}
 use Rattle.bus_words.proofs.MappedPlaces.{map-take-next}
 use Rattle.tl_messages.specs.declared.DBeat.{DBeat}
@@ -61,8 +61,7 @@ tells_burst state step =
 
 -- only a Take that answers Reply hands out a reply
 handed_none : (step : Step) (answer : Answer) (beats : List DBeat) → ((client number : ℕ) → step ≡ Take client → answer ≡ Reply number → ⊥) → handed_at step answer beats ≡ None
-handed_none (Take client) (Reply number) beats never = absurd (never client number refl refl)
-handed_none _ _ beats never = refl
+handed_none step answer beats never = grind (arith, never)
 
 -- ---- one event more
 
@@ -143,8 +142,7 @@ sound_after {setup = setup} before step ran along last = sound_next (opening_wor
 
 -- it wasn't refused
 pub not_refused : {A E : Type 0} (fault : Option E) (made : A) → IfSome fault (λ e. Ok made ≡ Err e) → fault ≡ None
-not_refused None made refused = refl
-not_refused (Some e) made refused = absurd (cc)
+not_refused fault made refused = grind (arith, refused)
 
 -- so whatever is answered later
 pub refused_later : {A B E : Type 0} (fault : Option E) (made : A) (later : Result B E) → IfSome fault (λ e. Ok made ≡ Err e) → IfSome fault (λ e. later ≡ Err e)

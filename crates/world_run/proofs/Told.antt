@@ -1,8 +1,8 @@
 -- What a run's answers tell: one answer for each event, the numbers of the requests that were accepted, what their beats spell, and who
 -- took which reply. It knows the bridge; the memory plays no part.
-use Rattle.std.proofs.Common.{◌≡◌, ℕ, ◌<◌, suc, true, List, [], ◌∷◌, ◌++◌, map, length, Option, Some, None, option_to_list, refl, sym, subst, ap, ap₂, ◌∙◌, zip}
+use Rattle.std.proofs.Common.{◌≡◌, ℕ, ◌<◌, suc, true, List, [], ◌∷◌, ◌++◌, map, length, Option, option_to_list, refl, sym, subst, ap, ap₂, ◌∙◌, zip, arith}
 use Rattle.std.specs.List.{AllByRecursion, cons_option, range_with_len}
-use Rattle.std.proofs.lemmas.Bool.{false≢true, leb-false}
+use Rattle.std.proofs.lemmas.Bool.{leb-false}
 use Rattle.tl_messages.specs.Requests.{request_of}
 use Rattle.tl_messages.specs.declared.ABeat.{ABeat}
 use Rattle.tl_messages.specs.declared.DBeat.{DBeat}
@@ -13,9 +13,9 @@ use Rattle.world_run.specs.Runs.{Heard, heard_nothing, HandedReply, messages_fro
 use Rattle.setups.specs.Setups.{SetupLists}
 use Rattle.world.specs.World.{WorldState, Outcome, opening_world, outcomes, next, leaves_all}
 use Rattle.world.specs.declared.Answer.{Answer}
-use Rattle.world.specs.declared.Answer.TheVariants.{Accepted, Reply}
+use Rattle.world.specs.declared.Answer.TheVariants.{Reply}
 use Rattle.world.specs.declared.Step.{Step}
-use Rattle.world.specs.declared.Step.TheVariants.{Offer, Take}
+use Rattle.world.specs.declared.Step.TheVariants.{Take}
 use Rattle.world_run.proofs.AcceptedRequests.{IsHeard, accepted_at_step, heard_after, heard_at_first, heard_next, known_heard, message_at, messages_from-next, quiet_message, quiet_request, request_at, whole_heard}
 use Rattle.world.proofs.Events.{IsAccepted, each_way}
 
@@ -54,15 +54,11 @@ messages_along heard state steps = messages_from heard (zip steps (answers_of st
 -- how many messages, and requests, a list has with the first before it
 one_counted : {A B : Type 0} (a : Option A) (b : Option B) (xs : List A) (ys : List B) → length (option_to_list a) ≡ length (option_to_list b) → length xs ≡ length ys
     → length (cons_option a xs) ≡ length (cons_option b ys)
-one_counted None None xs ys here rest = rest
-one_counted None (Some y) xs ys here rest = absurd (cc)
-one_counted (Some x) None xs ys here rest = absurd (cc)
-one_counted (Some x) (Some y) xs ys here rest = ap suc rest
+one_counted a b xs ys here rest = grind (arith, here, rest)
 
 -- each message that is completed is a request
 request_for : (bridge : BridgeState) (heard : Heard) (step : Step) (answer : Answer) → length (option_to_list (request_at bridge step answer)) ≡ length (option_to_list (message_at heard step answer))
-request_for bridge heard (Offer client beat) (Accepted number) = refl
-request_for bridge heard _ _ = refl
+request_for bridge heard step answer = grind arith
 
 -- each accepted message has its request
 pub as_many_along : (config : Config) (state : WorldState) (heard : Heard) (steps : List Step) → IsHeard config state.bridge heard
@@ -78,8 +74,7 @@ as_many_along config state heard (step ∷ steps) is =
 
 -- an answer that leaves all as it is gives no number
 quiet_numbers : (answer : Answer) (answers : List Answer) → leaves_all answer ≡ true → accepted_numbers (answer ∷ answers) ≡ accepted_numbers answers
-quiet_numbers (Accepted number) answers still = absurd (false≢true still)
-quiet_numbers _ answers still = refl
+quiet_numbers answer answers still = grind (arith, still)
 
 -- the answers number the requests that a run accepts on from those accepted before it
 pub numbered_along : (config : Config) (state : WorldState) (heard : Heard) (steps : List Step) → IsHeard config state.bridge heard

@@ -13,7 +13,7 @@ use Rattle.tl_messages.specs.Operations.{has_data, reply_has_data}
 use Rattle.tl_messages.specs.Requests.{WholeRequest, request_of}
 use Rattle.tl_messages.specs.declared.AtomicOp.{AtomicOp}
 use Rattle.tl_messages.specs.declared.Operation.{Operation}
-use Rattle.tl_messages.specs.declared.Operation.TheVariants.{PutFull, PutPartial, Atomic, Intent}
+use Rattle.tl_messages.specs.declared.Operation.TheVariants.{Atomic, Intent}
 use Rattle.axi_beats.specs.Transfers.{transfer_has}
 use Rattle.axi_beats.specs.declared.Resp.{Resp}
 use Rattle.axi_beats.specs.declared.WBeat.{WBeat}
@@ -96,8 +96,7 @@ pub transfer_inside : (config : Config) (regions : List Region) (request : Bridg
 transfer_inside config regions request range piece n x at (k, listed) one last has = ((holds_each_byte_once range at.plannable).back k n x piece listed one last has).0
 
 not_intent : (operation : Operation) (plan : Option PlannedRange) (range : PlannedRange) → plan_for operation plan ≡ Some range → not (is_intent operation) ≡ true
-not_intent (Intent write) plan range is = absurd (cc (is))
-not_intent _ plan range is = refl
+not_intent operation plan range is = grind (arith, is)
 
 -- and these are the bytes that the request touches
 pub range_touched : (order : Order) (config : Config) (request : BridgedRequest) (range : PlannedRange) (x : ℕ) → IsServed config order.regions request → IsPlannedAt config order.regions request range
@@ -256,10 +255,7 @@ burst_of_next order config wrote serial id request range piece valid pages serve
 -- ---- requests that write nothing
 
 without_data : (faults : Faults) (q : WholeRequest) (address x : ℕ) (operation : Operation) → has_data operation ≡ false → gives_byte faults q address operation x ≡ false
-without_data faults q address x PutFull none = absurd (cc (none))
-without_data faults q address x PutPartial none = absurd (cc (none))
-without_data faults q address x (Atomic op) none = absurd (cc (none, (and_parts (reply_has_data (Atomic op)) (has_data (Atomic op)) (atomic_both (Atomic op) refl)).1))
-without_data faults q address x _ none = refl
+without_data faults q address x operation none = grind (arith, none)
 
 -- a Get or an Intent writes nothing
 pub no_data_written : (order : Order) (number : ℕ) (q : WholeRequest) (x : ℕ) → asked order number ≡ Some q → has_data q.operation ≡ false → writes order number x ≡ false
@@ -270,8 +266,7 @@ no_data_written order number q x is_asked none = ap (λ (o : Option WholeRequest
     by_address (Some address) = and_right (is_good (standing_at order.faults address)) (gives_byte order.faults q address q.operation x) (without_data order.faults q address x q.operation none)
 
 none_mapped : {A B : Type 0} (f : A → B) (o : Option A) → option_map f o ≡ None → o ≡ None
-none_mapped f None none = refl
-none_mapped f (Some x) none = absurd (cc (none))
+none_mapped f o none = grind (arith, none)
 
 -- a request without a plan writes nothing: it has no AXI address, or is an Intent
 pub nothing_written : (order : Order) (config : Config) (request : BridgedRequest) (x : ℕ) → IsServed config order.regions request → asked order request.flight.number ≡ Some (request_of request.message)
@@ -299,8 +294,7 @@ all_pieces_written order number range wrote once each inside x written =
 
 -- an atomic writes only where its word isn't bad
 atomic_fine : (faults : Faults) (q : WholeRequest) (address x : ℕ) (operation : Operation) → (reply_has_data operation && has_data operation) ≡ true → gives_byte faults q address operation x ≡ true → is_bad faults address ≡ false
-atomic_fine faults q address x (Atomic op) atomic gives = grind (arith, gives)
-atomic_fine faults q address x _ atomic gives = absurd (cc (atomic))
+atomic_fine faults q address x operation atomic gives = grind (arith, atomic, gives)
 
 -- an atomic that is done and only read found no old value, so it writes nothing
 failed_atomic : (order : Order) (config : Config) (request : BridgedRequest) (range : PlannedRange) (x : ℕ) → IsPlannedAt config order.regions request range → IsServed config order.regions request

@@ -4,13 +4,12 @@
 use Rattle.std.specs.Prelude.{unwrap_or, IfSome, slice_set, if◌then◌else◌}
 use Rattle.std.specs.List.{enumerate_from, list_all, list_any, slice_get, AllByRecursion, find, filter}
 use Rattle.std.proofs.Common.{◌≡◌, ◌≢◌, ℕ, zero, suc, ◌+◌, ◌-◌, ◌%◌, ◌<◌, ◌≤◌, ◌==◌, Bool, true, false, ◌&&◌, List, [], ◌∷◌, length, Option, Some, None, is_some, inl, inr, ◌⊎◌, refl, ap, sym, ◌∙◌, subst, arith, not, ◌||◌, ◌++◌}
-use Rattle.std.proofs.lemmas.Bool.Decides.{nat_tests}
 use Rattle.std.proofs.lemmas.Bool.{and_parts, and_from, eqb-true, or_parts, ne_eqb}
 use Rattle.std.proofs.lemmas.Option.{same_Some, slice_get_within}
 use Rattle.bus_words.specs.Lanes.{has_lane, lane_byte}
 use Rattle.bus_words.specs.Places.{change_first}
 use Rattle.bus_words.proofs.FoundChanges.{find-changed, find-changed-gone, part-empty}
-use Rattle.axi_beats.specs.Bursts.{IsLegal, WriteBurst, is_legal_address, is_legal_data, Burst, ReadBurst}
+use Rattle.axi_beats.specs.Bursts.{IsLegal, WriteBurst, is_legal_address, is_legal_data, Burst}
 use Rattle.axi_beats.specs.Transfers.{transfer_address, transfer_has}
 use Rattle.axi_beats.specs.declared.AwBeat.{AwBeat}
 use Rattle.axi_beats.specs.declared.Resp.{Resp}
@@ -263,8 +262,7 @@ performs_serially order memory wrote number false pending piece n beat sound sou
 -- an open burst has as many beats as its piece has transfers
 beats_counted : (order : Order) (bus_bytes : ℕ) (wrote : ℕ → ℕ → Bool) (number : ℕ) (write : Bool) (pending : Pending) (piece : Piece) → IsSoundPending bus_bytes pending
     → IsBurstOf order bus_bytes wrote number write pending piece → length pending.beats ≡ piece.len + 1
-beats_counted order bus_bytes wrote number true pending piece sound of = sound.whole ∙ ap transfers_in of.burst ∙ ap (λ n. n + 1) of.len
-beats_counted order bus_bytes wrote number false pending piece sound of = sound.whole ∙ ap transfers_in of.burst ∙ ap (λ n. n + 1) of.len
+beats_counted order bus_bytes wrote number write pending piece sound of = grind (arith, sound, of)
 
 -- a beat of an open burst is a transfer of its piece
 pub beat_within : (order : Order) (bus_bytes : ℕ) (wrote : ℕ → ℕ → Bool) (number : ℕ) (write : Bool) (pending : Pending) (piece : Piece) (n : ℕ) (beat : BeatState) → IsSoundPending bus_bytes pending
@@ -412,8 +410,7 @@ of_one_id : (n id other : ℕ) → id ≢ other → (n == id) ≡ true → (n ==
 of_one_id n id other apart is = let same : n ≡ id = eqb-true n id is in rw same (ne_eqb id other apart)
 
 pub burst_of_one : (id other : ℕ) (burst : Burst) → id ≢ other → (writes_as id burst || reads_as id burst) ≡ true → (writes_as other burst || reads_as other burst) ≡ false
-burst_of_one id other (WriteBurst aw w_beats) apart is = grind (arith, nat_tests)
-burst_of_one id other (ReadBurst ar) apart is = of_one_id ar.id id other apart is
+burst_of_one id other burst apart is = grind (arith, apart, is)
 
 pub of_one : (id other : ℕ) (pending : Pending) → id ≢ other → is_of_id id pending ≡ true → is_of_id other pending ≡ false
 of_one id other pending apart is = burst_of_one id other pending.burst apart is
@@ -437,8 +434,7 @@ IsOne id pending = is_of_id id pending ≡ true
 module _ (order : Order) (bus_bytes : ℕ) (wrote : ℕ → ℕ → Bool) (number id : ℕ) where
   -- on the other side than that of its request no burst of it is open
   not_across : (write : Bool) (pending : Pending) (piece : Piece) → IsBurstOf order bus_bytes wrote number write pending piece → is_on (not write) id pending ≡ false
-  not_across true pending piece of = rw of.burst refl
-  not_across false pending piece of = rw of.burst refl
+  not_across write pending piece of = grind (arith, of)
 
   none_across : (write : Bool) (mine : List Pending) (pieces : List Piece) → AreBurstsOf order bus_bytes wrote number write mine pieces → find (is_on (not write) id) mine ≡ None
   none_across write [] pieces are = refl
@@ -447,14 +443,10 @@ module _ (order : Order) (bus_bytes : ℕ) (wrote : ℕ → ℕ → Bool) (numbe
 
   -- and the first of its ID is the first on its own
   on_side : (write : Bool) (pending : Pending) → IsOne id pending → is_on (not write) id pending ≡ false → is_on write id pending ≡ true
-  on_side true pending one across = grind (arith, one, across)
-  on_side false pending one across = grind (arith, one, across)
+  on_side write pending one across = grind (arith, one, across)
 
   side_of : (write side : Bool) (mine : List Pending) (pending : Pending) → find (is_on side id) mine ≡ Some pending → find (is_on (not write) id) mine ≡ None → write ≡ side
-  side_of true true mine pending found none = refl
-  side_of false false mine pending found none = refl
-  side_of true false mine pending found none = absurd (cc (found, none))
-  side_of false true mine pending found none = absurd (cc (found, none))
+  side_of write side mine pending found none = grind (arith, found, none)
 
   -- an open burst is the first of its ID, and that of the first outstanding piece
   pub record IsFirstOf (write side : Bool) (mine : List Pending) (pieces : List Piece) (pending : Pending) : Type 0 where

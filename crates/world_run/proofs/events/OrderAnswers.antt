@@ -10,7 +10,7 @@ use Rattle.bus_words.specs.Places.{change_first, without_first}
 use Rattle.bus_words.proofs.PlaceChanges.{all-find, find-passes}
 use Rattle.bus_words.proofs.FoundChanges.{IsNextOf, filter-found, filter-without-other, part-next}
 use Rattle.tl_messages.specs.Requests.{request_of}
-use Rattle.axi_beats.specs.Bursts.{Burst, ReadBurst, WriteBurst}
+use Rattle.axi_beats.specs.Bursts.{Burst, ReadBurst}
 use Rattle.axi_beats.specs.declared.BBeat.{BBeat}
 use Rattle.axi_beats.specs.declared.Resp.{Resp}
 use Rattle.axi_beats.specs.declared.ArBeat.{ArBeat}
@@ -298,8 +298,7 @@ find_known id (q ∷ qs) p ar found is = by_burst q.burst found (λ later. find_
     by_burst : (burst : Burst) → find (is_read_of id) (record q { burst = burst } ∷ qs) ≡ Some p
         → (find (is_read_of id) qs ≡ Some p → find (read_of_id id) (reads_open qs) ≡ Some (record { ar = ar; came = p.answered }))
         → find (read_of_id id) (reads_open (record q { burst = burst } ∷ qs)) ≡ Some (record { ar = ar; came = p.answered })
-    by_burst (WriteBurst aw w_beats) later rest = rest later
-    by_burst (ReadBurst other) there rest = by_test (other.id == id) other there rest
+    by_burst burst later rest = grind (arith, later, rest)
 
 one_more : (n m : ℕ) → (n + 1 == m + 1) ≡ (n == m)
 one_more n m = grind (arith, nat_tests)

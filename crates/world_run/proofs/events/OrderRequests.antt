@@ -12,7 +12,7 @@ use Rattle.bus_words.proofs.PlaceChanges.{all-append, all-without_first, all-fin
 use Rattle.bus_words.proofs.FoundChanges.{find-append-fails, find-changed-found, find-changed-unseen, find-without_first}
 use Rattle.tl_messages.specs.Requests.{HeldMessage, request_of}
 use Rattle.tl_messages.specs.declared.ABeat.{ABeat}
-use Rattle.axi_beats.specs.Bursts.{Burst, ReadBurst, WriteBurst}
+use Rattle.axi_beats.specs.Bursts.{Burst}
 use Rattle.axi_beats.specs.Transfers.{transfer_has}
 use Rattle.axi_checker.specs.Rules.{id_of}
 use Rattle.burst_plan.specs.Pieces.{PlannedRange}
@@ -301,8 +301,7 @@ module _ (order : Order) (state : WorldState) (sending : Sending) (sent : IsNext
 -- ---- the step
 
 own_id : (burst : Burst) → (writes_as (id_of burst) burst || reads_as (id_of burst) burst) ≡ true
-own_id (WriteBurst aw w_beats) = rw (eq-eqb aw.id aw.id refl) refl
-own_id (ReadBurst ar) = eq-eqb ar.id ar.id refl
+own_id burst = grind arith
 
 -- who isn't of this number wrote nothing more
 not_added : (number : ℕ) (P : ℕ → Bool) (wrote : ℕ → ℕ → Bool) (i x : ℕ) → ((i == number) && P x) ≡ false → with_written number P wrote i x ≡ wrote i x

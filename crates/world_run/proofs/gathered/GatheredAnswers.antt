@@ -10,7 +10,7 @@ use Rattle.std.proofs.lemmas.Option.{slice_get_within}
 use Rattle.tl_messages.specs.Operations.{has_data, reply_has_data}
 use Rattle.tl_messages.specs.Requests.{HeldMessage, WholeRequest, request_of}
 use Rattle.tl_messages.specs.declared.Operation.{Operation}
-use Rattle.tl_messages.specs.declared.Operation.TheVariants.{PutFull, PutPartial, Atomic, Intent}
+use Rattle.tl_messages.specs.declared.Operation.TheVariants.{Atomic}
 use Rattle.tl_messages.specs.declared.AtomicOp.{AtomicOp}
 use Rattle.axi_beats.specs.Transfers.{IsBusWidth, transfer_address, transfer_end, transfer_has}
 use Rattle.axi_beats.specs.declared.RBeat.{RBeat}
@@ -44,7 +44,7 @@ use Rattle.bridge_core.proofs.ReadCounts.{config_parts, leads_there, reads_count
 use Rattle.bridge_core.proofs.AnswerLinks.{beats_in-next, answered_next}
 use Rattle.bridge_core.proofs.SentBursts.{plannable, piece_of_plan}
 use Rattle.bridge_core.proofs.ResponseLinks.{not_so}
-use Rattle.subordinate.specs.Faults.{Faults, is_bad, is_good, standing_at, IsAbsent, IsGood, IsSlaveError, Standing, read_response, read_response_on, write_response}
+use Rattle.subordinate.specs.Faults.{Faults, is_bad, is_good, standing_at, Standing, read_response, read_response_on, write_response}
 use Rattle.subordinate.proofs.EffectLaws.{okay_is_good}
 use Rattle.world_run.specs.InOrder.{HasGathered, IsGathered, TellsAt, TellsSerially}
 use Rattle.meaning.specs.Meaning.{Bytes, Effect, effect_at, meaning, bytes_at}
@@ -106,8 +106,7 @@ answered_as order config request address fits told =
 
 -- what is not an Intent has a plan
 plan_there : (operation : Operation) (plan : Option PlannedRange) → (reply_has_data operation || is_put operation) ≡ true → plan_for operation plan ≡ plan
-plan_there (Intent write) plan is = absurd (cc (is))
-plan_there _ plan is = refl
+plan_there operation plan is = grind (arith, is)
 
 pub has_range : (order : Order) (config : Config) (request : BridgedRequest) (address : ℕ) → IsServed config order.regions request → address_of order.regions (request_of request.message) ≡ Some address
     → (reply_has_data request.message.operation || is_put request.message.operation) ≡ true → request.flight.plan ≡ Some (range_at config (request_of request.message) address)
@@ -147,16 +146,11 @@ no_responses order bus_bytes request address told none = nil_from_length told.re
 
 -- a Put writes with all pieces of its plan
 put_sides : (operation : Operation) → is_put operation ≡ true → (reply_has_data operation ≡ false) × (has_data operation ≡ true)
-put_sides PutFull is = (refl, refl)
-put_sides PutPartial is = (refl, refl)
-put_sides _ is = absurd (cc (is))
+put_sides operation is = grind (arith, is)
 
 -- what has data is a Put or an atomic
 carries_none : (operation : Operation) → is_put operation ≡ false → (reply_has_data operation && has_data operation) ≡ false → has_data operation ≡ false
-carries_none PutFull isnt other = absurd (cc (isnt))
-carries_none PutPartial isnt other = absurd (cc (isnt))
-carries_none (Atomic op) isnt other = other
-carries_none _ isnt other = refl
+carries_none operation isnt other = grind (arith, isnt, other)
 
 -- all answers to a request that is done
 all_came : (order : Order) (config : Config) (limits : TableLimits) (accepted : ℕ) (request : BridgedRequest) (address : ℕ) → is_valid config ≡ true → IsServed config order.regions request
@@ -264,8 +258,7 @@ old_value_by order config request address fits atomic small told most none = by_
     by_responses (resp ∷ responses) is gathered answers = absurd (cc (is))
 
 pub atomic_small : (operation : Operation) (size : ℕ) → is_atomic operation ≡ true → ((op : AtomicOp) → operation ≡ Atomic op → size ≤ 3) → (reply_has_data operation ≡ true) × (size ≤ 3)
-atomic_small (Atomic op) size is small = (refl, small op refl)
-atomic_small _ size is small = absurd (cc (is))
+atomic_small operation size is small = grind (arith, is, small)
 
 -- the old value of an atomic whose reads all came and of which no write was answered
 pub old_value_served : (order : Order) (config : Config) (request : BridgedRequest) (address : ℕ) → is_valid config ≡ true → IsServed config order.regions request
@@ -288,18 +281,14 @@ writes_unanswered order config limits accepted request valid served sound undone
 
 -- what reads and writes is an atomic
 pub atomic_is : (operation : Operation) → (reply_has_data operation && has_data operation) ≡ true → is_atomic operation ≡ true
-atomic_is (Atomic op) is = refl
-atomic_is _ is = is
+atomic_is operation is = grind (arith, is)
 
 -- a range can be read where its page is good and its word isn't bad
 pub readable_is : (faults : Faults) (address : ℕ) → is_okay (read_response faults address) ≡ (is_good (standing_at faults address) && not (is_bad faults address))
 readable_is faults address = by_both (standing_at faults address) (is_bad faults address)
   where
     by_both : (standing : Standing) (bad : Bool) → is_okay (read_response_on standing bad) ≡ (is_good standing && not bad)
-    by_both IsGood true = refl
-    by_both IsGood false = refl
-    by_both IsSlaveError bad = refl
-    by_both IsAbsent bad = refl
+    by_both standing bad = grind arith
 
 -- ---- where it is the number at the address
 
@@ -307,8 +296,7 @@ found_where : (okay good bad : Bool) (number : ℕ) → okay ≡ (good && not ba
 found_where okay good bad number is there fine = rw (is, there, fine) refl
 
 okay_there : (okay : Bool) (number : ℕ) → IsSome (if okay then Some number else None) → okay ≡ true
-okay_there true number found = refl
-okay_there false number found = absurd (cc (found))
+okay_there okay number found = grind (arith, found)
 
 isnt_bad : (bad : Bool) → not bad ≡ true → bad ≡ false
 isnt_bad bad is = grind (arith, is)
@@ -555,8 +543,7 @@ gathered-response order config request address resp writes is told =
 -- ---- the answers as the memory gives them
 
 no_range : (operation : Operation) → plan_for operation None ≡ None
-no_range (Intent write) = refl
-no_range _ = refl
+no_range operation = grind arith
 
 -- a request without an AXI address is done
 nowhere_done : (order : Order) (config : Config) (limits : TableLimits) (accepted : ℕ) (request : BridgedRequest) → IsServed config order.regions request → IsSoundRequest limits accepted request.flight
@@ -617,8 +604,7 @@ response_in_order order config limits accepted request piece resp valid served s
         at_address = ap (λ (place : Option ℕ). plan_for request.message.operation (option_map (range_at config (request_of request.message)) place)) at
 
         of_message : (operation : Operation) → plan_for operation (Some (range_at config (request_of request.message) address)) ≡ Some range → Some (range_at config (request_of request.message) address) ≡ Some range
-        of_message (Intent write) same = absurd (cc (same))
-        of_message _ same = same
+        of_message operation same = grind (arith, same)
 
     by_place : (place : Option ℕ) → address_of order.regions (request_of request.message) ≡ place → IsGathered order config.axi_bytes request place
         → IsGathered order config.axi_bytes (after_response resp request) place
