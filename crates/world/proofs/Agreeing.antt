@@ -1,6 +1,6 @@
 -- Bridge and memory agree after each event. It knows the events by case and both parts' laws; which bytes move is hidden, and why neither
 -- refuses the other stands in TakesAll.
-use Rattle.std.proofs.Common.{◌≡◌, ℕ, ◌+◌, ◌^◌, ◌<◌, ◌≤◌, Bool, true, false, List, [], ◌∷◌, length, Option, Some, refl, ap, sym, ◌∙◌, arith}
+use Rattle.std.proofs.Common.{◌≡◌, ℕ, ◌+◌, ◌^◌, ◌<◌, ◌≤◌, Bool, true, List, [], ◌∷◌, length, Option, Some, refl, ap, sym, ◌∙◌, arith}
 use Rattle.std.specs.Prelude.{find, if◌then◌else◌, nat_le, sum_by, Result, Ok, Err}
 use Rattle.std.specs.List.{AllByRecursion}
 use Rattle.std.proofs.lemmas.Bool.{cond_both, leb-false}
@@ -103,8 +103,7 @@ read_sent bus_bytes r request most = by_last r.last
     gathers = after_r bus_bytes (outline_in request) r request.gathering.came request.gathering
 
     by_last : (last : Bool) → all_sent request.flight ≤ all_sent (settled (record request { flight = if last then with_answered request.flight else request.flight; gathering = gathers })).flight
-    by_last true = settled_sent (record request { flight = with_answered request.flight; gathering = gathers }) most
-    by_last false = settled_sent (record request { gathering = gathers }) most
+    by_last last = grind arith
 
 abbrev IsSoundOne : BridgeState → BridgedRequest → Type 0
 IsSoundOne state request = IsSoundRequest (table_limits_of state.requests.config) state.requests.accepted request.flight

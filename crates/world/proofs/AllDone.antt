@@ -22,7 +22,7 @@ use Rattle.flight_table.specs.Tables.{is_undone}
 use Rattle.flight_table.specs.Work.{unsent_work}
 use Rattle.bridge_core.specs.Bridge.{BridgeState, burst_to_send}
 use Rattle.bridge_core.specs.HeldRequests.{table_limits_of, BridgedRequest, RequestTable, flights_of, holder, holds, may_send}
-use Rattle.bridge_core.specs.Laws.{IsPartWay, IsServed, IsSoundBridge, IsSoundRequestTable, came_of_next, open_read, open_reads, open_writes, outstanding, reads_held, writes_held}
+use Rattle.bridge_core.specs.Laws.{IsPartWay, IsServed, IsSoundBridge, IsSoundRequestTable, came_of_next, open_reads, open_writes, outstanding, reads_held, writes_held}
 use Rattle.bridge_core.proofs.AnswerLinks.{holder_known}
 use Rattle.bridge_core.proofs.NextSending.{next_sending-some}
 use Rattle.bridge_core.proofs.JoinedRequests.{limits_made}
@@ -113,8 +113,7 @@ held_ready bridge id request sound idle held =
     (free (is_held (flights_of table.live) request.flight) request.flight.id known.has_id in_order)
   where
     free : (b : Bool) (own : Option ℕ) → own ≡ Some id → (b ≡ true → own ≡ None) → b ≡ false
-    free true own has none = let not_any = none refl in absurd (cc (has, not_any))
-    free false own has none = refl
+    free b own has none = grind (arith, has, none)
 
 nobody_holds : (bridge : BridgeState) (id : ℕ) → IsSoundBridge bridge → IsIdle bridge → burst_to_send bridge ≡ None → holder id bridge.requests.live ≡ None
 nobody_holds bridge id sound idle none =
@@ -200,9 +199,7 @@ not_waiting_at (Written ∷ beats) (suc n) beat none at = not_waiting_at beats n
 not_waiting_at (Captured payload resp ∷ beats) (suc n) beat none at = not_waiting_at beats n beat none at
 
 read_gives : (ar : ArBeat) (id : ℕ) (p : Pending) (beat : BeatState) → IsBeatOf (ReadBurst ar) beat → is_waiting beat ≡ false → is_some (r_with id p (Some beat)) ≡ true
-read_gives ar id p Waiting of_read performed = absurd (cc (performed))
-read_gives ar id p Written of_read performed = absurd of_read
-read_gives ar id p (Captured payload resp) of_read performed = refl
+read_gives ar id p beat of_read performed = grind (arith, of_read, performed)
 
 -- a memory without enabled steps
 pub record IsStill (memory : FreeMemory) : Type 0 where
@@ -242,11 +239,7 @@ nothing_open memory sound still to_come = by_pending memory.pending refl
 -- ---- an open read has beats to come
 
 first_read : (id : ℕ) (write : Bool) (came : ℕ) (pieces : List Piece) (read : OpenRead) (reads : List OpenRead) → IsPartWay write came pieces → open_reads id write came pieces ≡ read ∷ reads → read.came ≤ read.ar.len
-first_read id true came pieces read reads way is = absurd (cc (is))
-first_read id false came [] read reads way is = absurd (cc (is))
-first_read id false came (piece ∷ pieces) read reads way is =
-    let same : open_read id came piece ≡ read = cc in
-    subst (λ (r : OpenRead). r.came ≤ r.ar.len) same way
+first_read id write came pieces read reads way is = grind (arith, way, is)
 
 beats_to_come : (state : WorldState) (id : ℕ) (p : Pending) → IsSoundWorld state → find (is_read_of id) state.memory.pending ≡ Some p → p.answered < transfers_in p.burst
 beats_to_come state id p sound found =
@@ -296,8 +289,7 @@ no_items f [] none = refl
 no_items f (x ∷ xs) none = absurd (cc (none))
 
 no_burst_goes : {X : Type 0} (o : Option X) (step : Step) → (if is_some o then step ∷ [] else []) ≡ [] → o ≡ None
-no_burst_goes None step none = refl
-no_burst_goes (Some x) step none = absurd (cc (none))
+no_burst_goes o step none = grind (arith, none)
 
 -- no step is enabled, of whatever kind
 pub nothing_enabled : (state : WorldState) → IsSoundWorld state → enabled state ≡ [] → IsQuiet state × (work_left state ≡ 0)

@@ -1,12 +1,12 @@
 -- A box is in stock wherever a request is ready: each ID has at most as many bursts outstanding as it may have on one side. It counts; what
 -- a box holds is hidden.
-use Rattle.std.proofs.Common.{◌≡◌, ◌⊎◌, inl, inr, ℕ, suc, ◌+◌, ◌-◌, ◌==◌, ◌<◌, ◌≤◌, false, List, [], ◌∷◌, ◌++◌, length, Option, Some, None, refl, ap, sym, ◌∙◌, subst, arith}
+use Rattle.std.proofs.Common.{◌≡◌, ◌⊎◌, ℕ, suc, ◌+◌, ◌-◌, ◌==◌, ◌<◌, ◌≤◌, false, List, [], ◌∷◌, ◌++◌, length, Option, Some, None, refl, ap, sym, ◌∙◌, subst, arith}
 use Rattle.std.specs.Prelude.{IsSome, option_map, filter}
 use Rattle.std.specs.List.{AllByRecursion}
 use Rattle.std.proofs.lemmas.List.{length-append}
 use Rattle.std.proofs.lemmas.List.Elements.{filter-append}
 use Rattle.std.proofs.lemmas.Bool.{eq-eqb}
-use Rattle.axi_beats.specs.Bursts.{Burst, WriteBurst, ReadBurst}
+use Rattle.axi_beats.specs.Bursts.{Burst}
 use Rattle.axi_checker.specs.Monitors.{HasFewOfEach}
 use Rattle.axi_checker.specs.OpenBursts.{OpenBursts, read_of_id, write_of_id}
 use Rattle.axi_checker.specs.Rules.{id_of}
@@ -36,8 +36,7 @@ count_of id pending = length (filter (λ p. id_of_pending p == id) pending)
 -- ---- how many bursts an ID has outstanding
 
 by_side : (id : ℕ) (burst : Burst) → ((reads_as id burst ≡ false) × (writes_as id burst ≡ (id_of burst == id))) ⊎ ((writes_as id burst ≡ false) × (reads_as id burst ≡ (id_of burst == id)))
-by_side id (WriteBurst aw ws) = inl (refl, refl)
-by_side id (ReadBurst ar) = inr (refl, refl)
+by_side id burst = grind arith
 
 both_sides : (id : ℕ) (pending : List Pending) → count_of id pending ≡ length (filter (is_write_of id) pending) + length (filter (is_read_of id) pending)
 both_sides id [] = refl

@@ -101,13 +101,11 @@ abbrev pub pump_count : Bool → ℕ
 pump_count pumps = if pumps then 1 else 0
 
 pub pump_most : (pumps : Bool) → pump_count pumps ≤ 1
-pump_most true = omega arith
-pump_most false = omega arith
+pump_most pumps = grind arith
 
 -- as the code counts it
 pub pump_byte : (pumps : Bool) → bool_byte pumps ≡ pump_count pumps
-pump_byte true = refl
-pump_byte false = refl
+pump_byte pumps = grind arith
 
 pub all_counted : (pumps : Bool) (waiting : List (ℕ × ℕ)) (answers : List Step) → length (all_enabled pumps waiting answers) ≡ pump_count pumps + length waiting + length answers
 all_counted true waiting answers = ap suc (length-after perform_at waiting answers) ∙ omega arith
@@ -115,9 +113,7 @@ all_counted false waiting answers = length-after perform_at waiting answers ∙ 
 
 past_pump : (pumps : Bool) (waiting : List (ℕ × ℕ)) (answers : List Step) (k : ℕ) → pump_count pumps ≤ k
     → slice_get (all_enabled pumps waiting answers) k ≡ slice_get (map perform_at waiting ++ answers) (k - pump_count pumps)
-past_pump true waiting answers zero past = absurd (omega (arith, past))
-past_pump true waiting answers (suc k) past = let less : suc k - 1 ≡ k = omega arith in rw less refl
-past_pump false waiting answers k past = let less : k - 0 ≡ k = omega arith in rw less refl
+past_pump pumps waiting answers k past = grind (arith, past)
 
 pub answer_found : (pumps : Bool) (waiting : List (ℕ × ℕ)) (answers : List Step) (k : ℕ) → pump_count pumps ≤ k → length waiting ≤ k - pump_count pumps
     → slice_get (all_enabled pumps waiting answers) k ≡ slice_get answers (k - pump_count pumps - length waiting)

@@ -16,7 +16,6 @@ use Rattle.bridge_core.specs.HeldRequests.{table_limits_of, BridgedRequest, afte
 use Rattle.bridge_core.specs.Laws.{IsSoundBridge}
 use Rattle.bridge_core.proofs.AnswerLinks.{finds_reader}
 use Rattle.bridge_core.proofs.Pumps.{ready_goes}
-use Rattle.bridge_core.proofs.ResponseLinks.{not_so}
 use Rattle.subordinate.specs.FreeMemory.{FreeMemory, Pending, after_r_of, b_from, b_of, first_with_b, first_with_r, gives_last, is_read_of, is_write_of, pending_after_r, performed, r_of, waiting_beats, waiting_in}
 use Rattle.subordinate.specs.declared.Performed.{Performed}
 use Rattle.subordinate.specs.declared.Performed.TheVariants as perform
@@ -33,8 +32,7 @@ use Rattle.world.proofs.TakesAll.{r_unbroken}
 
 -- a Pump tells by its answer whether a burst went
 pub pump_tells : (state : WorldState) (burst : Option Burst) → is_sent (pumped state burst).answer ≡ is_some burst
-pump_tells state None = refl
-pump_tells state (Some burst) = refl
+pump_tells state burst = grind arith
 
 pub first_pump : (state : WorldState) → is_some (burst_to_send state.bridge) ≡ true → slice_get (enabled state) 0 ≡ Some Pump
 first_pump state goes = rw goes refl
@@ -59,22 +57,18 @@ pub none_first : (state : WorldState) → IsPerformed state → first_with_b sta
 none_first state still no_b no_r = none_at (enabled state) (sym (first_answer state still) ∙ sym (first_is_r state.memory no_b) ∙ rw no_r refl)
 
 none_goes : (o : Option Burst) → is_some o ≡ false → o ≡ None
-none_goes None none = refl
-none_goes (Some burst) none = absurd (cc (none))
+none_goes o none = grind (arith, none)
 
 -- where a Pump tells that no burst went, no request is ready and nothing changed
 pub unpumped : (state : WorldState) → is_sent (next state Pump).answer ≡ false → (burst_to_send state.bridge ≡ None) × ((next state Pump).state ≡ state)
 unpumped state stays = by_burst (burst_to_send state.bridge) (sym (pump_tells state (burst_to_send state.bridge)) ∙ stays)
   where
     by_burst : (o : Option Burst) → is_some o ≡ false → (o ≡ None) × ((pumped state o).state ≡ state)
-    by_burst None none = (refl, refl)
-    by_burst (Some burst) none = absurd (cc (none))
+    by_burst o none = grind (arith, none)
 
 -- a beat that is performed makes no request ready
 performed_apart : (state : WorldState) (made : FreeMemory × Performed) → (performed_by state made).state.bridge ≡ state.bridge
-performed_apart state (memory, perform.NoSuch) = refl
-performed_apart state (memory, perform.Already) = refl
-performed_apart state (memory, perform.Done) = refl
+performed_apart state made = grind arith
 
 pub stays_unready : (state : WorldState) (serial beat : ℕ) → burst_to_send state.bridge ≡ None → burst_to_send (next state (Perform serial beat)).state.bridge ≡ None
 stays_unready state serial beat idle = ap burst_to_send (performed_apart state (performed state.memory serial beat)) ∙ idle
@@ -121,8 +115,7 @@ pub record StaysRead (state : WorldState) : Type 0 where
   pub written : first_with_b state.memory ≡ None
 
 not_last : (state : WorldState) (id : ℕ) (o : Option RBeat) → goes_on (answered_r state id o).answer ≡ true → (r : RBeat) × (o ≡ Some r) × (r.last ≡ false)
-not_last state id None goes = absurd (cc (goes))
-not_last state id (Some r) goes = (r, refl, not_so r.last goes)
+not_last state id o goes = grind (arith, goes)
 
 pub reads_on : (state : WorldState) (id : ℕ) → IsSoundWorld state → IsSoundWorld (next state (AnswerR id)).state → StaysRead state → goes_on (next state (AnswerR id)).answer ≡ true
     → StaysRead (next state (AnswerR id)).state

@@ -1,5 +1,5 @@
 -- An answer that tells that nothing changed is right.
-use Rattle.std.proofs.Common.{◌≡◌, true, false, refl}
+use Rattle.std.proofs.Common.{◌≡◌, true, false, refl, arith}
 use Rattle.bridge_core.specs.Bridge.{BridgeState}
 use Rattle.bridge_core.specs.declared.Offered.{Offered}
 use Rattle.bridge_core.specs.declared.Offered.TheVariants as offer
@@ -27,9 +27,4 @@ next_kept state =
 
 -- no offer hands out a reply
 pub offer_is_no_reply : (state : WorldState) (result : BridgeState × Offered) → is_reply (offered_to state result).answer ≡ false
-offer_is_no_reply state (bridge, offer.NoClient) = refl
-offer_is_no_reply state (bridge, offer.Refused rule) = refl
-offer_is_no_reply state (bridge, offer.NotReady) = refl
-offer_is_no_reply state (bridge, offer.Exhausted) = refl
-offer_is_no_reply state (bridge, offer.More) = refl
-offer_is_no_reply state (bridge, offer.Accepted number) = refl
+offer_is_no_reply state result = grind arith

@@ -41,8 +41,7 @@ few_transfers bus_bytes (WriteBurst aw ws) legal =
     few_by bus_bytes aw.address aw.len aw.size aw.burst (and_parts (is_legal_address bus_bytes aw.address aw.len aw.size aw.burst) (length ws == aw.len + 1) right.0).0
 
 answers_few : (answered : ℕ) (burst : Burst) → answers_left answered burst ≤ transfers_in burst
-answers_few answered (WriteBurst aw ws) = omega arith
-answers_few answered (ReadBurst ar) = omega arith
+answers_few answered burst = grind arith
 
 work_in_few : (bus_bytes : ℕ) (p : Pending) → IsSoundPending bus_bytes p → work_in p ≤ 512
 work_in_few bus_bytes p sound =
@@ -117,8 +116,7 @@ write_work : (id : ℕ) (p : Pending) → is_write_of id p ≡ true → answers_
 write_work id p is = by_burst p.burst is
   where
     by_burst : (burst : Burst) → writes_as id burst ≡ true → answers_left p.answered burst ≡ 1
-    by_burst (WriteBurst aw ws) is = refl
-    by_burst (ReadBurst ar) is = absurd (cc (is))
+    by_burst burst is = grind (arith, is)
 
 pub work_open-b : (memory : FreeMemory) (id : ℕ) (b : BBeat) → b_of memory id ≡ Some b → work_open memory ≡ 1 + work_open (after_b_of memory id)
 work_open-b memory id b is =
@@ -170,8 +168,7 @@ read_work : (id : ℕ) (p : Pending) → is_read_of id p ≡ true → (n : ℕ) 
 read_work id p is = by_burst p.burst is
   where
     by_burst : (burst : Burst) → reads_as id burst ≡ true → (n : ℕ) → answers_left n burst ≡ transfers_in burst - n
-    by_burst (WriteBurst aw ws) is n = absurd (cc (is))
-    by_burst (ReadBurst ar) is n = refl
+    by_burst burst is n = grind (arith, is)
 
 pub work_open-r : (memory : FreeMemory) (id : ℕ) (r : RBeat) → IsSoundMemory memory → r_of memory id ≡ Some r → work_open memory ≡ 1 + work_open (after_r_of memory id)
 work_open-r memory id r sound is = by_last (gives_last finds.read) refl

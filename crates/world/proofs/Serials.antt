@@ -1,9 +1,9 @@
 -- Serials of bursts don't run out. It counts bursts by request; everything else is hidden.
-use Rattle.std.proofs.Common.{◌≡◌, ℕ, ◌*◌, ◌^◌, ◌<◌, ◌≤◌, ◌⊎◌, inl, inr, Bool, true, false, List, [], length, Option, Some, None, refl, sym, subst, arith}
+use Rattle.std.proofs.Common.{◌≡◌, ℕ, ◌*◌, ◌^◌, ◌<◌, ◌≤◌, ◌⊎◌, inl, inr, Bool, true, List, [], length, Option, Some, None, refl, sym, subst, arith}
 use Rattle.std.specs.Prelude.{if◌then◌else◌, min}
 use Rattle.std.proofs.Math.Nat.{mul-le-mul_left, mul-le-mul_right}
 use Rattle.std.proofs.Math.Pow.{pow_mono}
-use Rattle.tl_messages.specs.Operations.{has_data, reply_has_data}
+use Rattle.tl_messages.specs.Operations.{reply_has_data}
 use Rattle.std.proofs.lemmas.Bool.{cases_lt}
 use Rattle.burst_plan.specs.Pieces.{IsPlannable, PlannedRange, pieces}
 use Rattle.burst_plan.specs.PlannedTransfers.{beat_bytes, burst_beats, burst_bytes}
@@ -16,7 +16,6 @@ use Rattle.bridge_core.specs.HeldRequests.{BridgedRequest}
 use Rattle.config.specs.declared.Config.{Config}
 use Rattle.bridge_core.proofs.SentBursts.{plannable}
 use Rattle.flight_table.specs.LiveRequests.{LiveRequest, all_sent, pieces_planned, planned, read_pieces}
-use Rattle.flight_table.proofs.PhaseLaws.{length_reading, length_writing}
 
 -- ---- a plan has at most 1,024 pieces
 
@@ -27,8 +26,7 @@ few_of_one : (count bytes n : ℕ) → n ≡ count * bytes → 0 < bytes → cou
 few_of_one count bytes n whole some = let rows : count * 1 ≤ count * bytes = mul-le-mul_left count some in omega (arith, rows)
 
 wide_beats : (n bus : ℕ) → (bus ≡ 4) ⊎ (bus ≡ 8) → 4 ≤ n → 4 ≤ min n bus
-wide_beats n bus (inl four) wide = omega (arith, four, wide)
-wide_beats n bus (inr eight) wide = omega (arith, eight, wide)
+wide_beats n bus h2 wide = grind (arith, h2, wide)
 
 at_least : (beats beat : ℕ) → 1 ≤ beats → beat ≤ beats * beat
 at_least beats beat some = let rows : 1 * beat ≤ beats * beat = mul-le-mul_right beat some in omega (arith, rows)
@@ -52,15 +50,13 @@ few_planned : (flight : LiveRequest) → length (pieces_planned flight.plan) ≤
 few_planned flight few most = by_side flight.writing refl
   where
     few_if : (test : Bool) → length (if test then pieces_planned flight.plan else []) ≤ 1024
-    few_if true = few
-    few_if false = omega arith
+    few_if test = grind arith
 
     reads : length (read_pieces flight) ≤ 1024
     reads = few_if (reply_has_data flight.operation)
 
     by_side : (b : Bool) → flight.writing ≡ b → all_sent flight ≤ 2048
-    by_side true is = rw is (omega (arith, most, length_writing flight is, few_if (has_data flight.operation), reads))
-    by_side false is = rw is (omega (arith, most, length_reading flight is, reads))
+    by_side b is = grind (arith, is)
 
 -- what holds of the pieces of each range that can be planned holds of those of a live request
 pub plan_has : (P : List Piece → Type 0) → P [] → ((range : PlannedRange) → IsPlannable range → P (pieces range)) → (config : Config) (regions : List Region) (request : BridgedRequest)

@@ -1,6 +1,6 @@
 -- In a sound world neither part refuses what the other hands it. It knows the laws of both parts and their outstanding bursts; how a state
 -- was reached, and all bytes, are hidden.
-use Rattle.std.proofs.Common.{◌≡◌, ◌≢◌, ℕ, ◌+◌, ◌==◌, ◌<◌, Bool, true, false, Option, Some, None, refl, ap, sym, ◌∙◌, subst, arith}
+use Rattle.std.proofs.Common.{◌≡◌, ◌≢◌, ℕ, ◌+◌, ◌==◌, ◌<◌, Bool, false, Option, Some, None, refl, ap, sym, ◌∙◌, subst, arith}
 use Rattle.std.specs.Prelude.{IfSome, find, nat_le, not}
 use Rattle.std.specs.Bool.{beq}
 use Rattle.std.proofs.lemmas.Bool.{lt-leb}
@@ -79,8 +79,7 @@ b_unbroken state id b sound is =
 -- ---- an R
 
 same_flag : (b : Bool) → not (beq b b) ≡ false
-same_flag true = refl
-same_flag false = refl
+same_flag b = grind arith
 
 pub r_unbroken : (state : WorldState) (id : ℕ) (r : RBeat) → IsSoundWorld state → r_of state.memory id ≡ Some r → r_fault state.bridge r ≡ None
 r_unbroken state id r sound is =

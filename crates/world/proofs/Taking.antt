@@ -101,13 +101,10 @@ paired_first bridge device new (Some at) paired done laws = paired_performed bri
 
 pub none_done : (bridge : StockedBridge) (device new : DeviceState) (serial : Option ℕ) (first : Option (ℕ × ℕ)) → is_some first ≡ false → FirstDone device new first
     → (first ≡ None) × (world_state bridge new serial ≡ world_state bridge device serial)
-none_done bridge device new serial None none done = (refl, ap (λ (d : DeviceState). world_state bridge d serial) done)
-none_done bridge device new serial (Some at) none done = absurd (cc (none))
+none_done bridge device new serial first none done = grind (arith, none, done)
 
 done_state : (state : WorldState) (made : FreeMemory × Performed) → made.1 ≡ perform.Done → (performed_by state made).state ≡ record { bridge = state.bridge; memory = made.0; last_sent = None }
-done_state state (memory, perform.NoSuch) is = absurd (cc (is))
-done_state state (memory, perform.Already) is = absurd (cc (is))
-done_state state (memory, perform.Done) is = refl
+done_state state made is = grind (arith, is)
 
 pub first_done : (bridge : StockedBridge) (device new : DeviceState) (serial : Option ℕ) (first : Option (ℕ × ℕ)) → slice_get (waiting_beats device.memory) 0 ≡ first → is_some first ≡ true → FirstDone device new first
     → PerformsFirst (world_state bridge device serial) (world_state bridge new None)
@@ -141,18 +138,14 @@ take_nowhere state client = by_test (nat_le state.bridge.requests.config.clients
   where
     by_test : (beyond : Bool) (found : Option BridgedRequest) → ◌≡◌ {A = Taken} (if beyond then take.NoClient else taken_of found) take.NoClient
         → ◌≡◌ {A = Outcome} (if beyond then unchanged state answer.NoClient else world.taken state client (if beyond then None else found)) (unchanged state answer.NoClient)
-    by_test true found = λ is. refl
-    by_test false None = λ is. absurd (cc (is))
-    by_test false (Some request) = λ is. absurd (cc (is))
+    by_test beyond found = grind arith
 
 pub take_nothing : (state : WorldState) (client : ℕ) → taken state.bridge client ≡ take.Nothing → next state (Take client) ≡ unchanged state answer.Nothing
 take_nothing state client = by_test (nat_le state.bridge.requests.config.clients client) (oldest_done state.bridge.requests.live client)
   where
     by_test : (beyond : Bool) (found : Option BridgedRequest) → ◌≡◌ {A = Taken} (if beyond then take.NoClient else taken_of found) take.Nothing
         → ◌≡◌ {A = Outcome} (if beyond then unchanged state answer.NoClient else world.taken state client (if beyond then None else found)) (unchanged state answer.Nothing)
-    by_test true found = λ is. absurd (cc (is))
-    by_test false None = λ is. refl
-    by_test false (Some request) = λ is. absurd (cc (is))
+    by_test beyond found = grind arith
 
 pub take_reply : (state : WorldState) (client number : ℕ) (request : BridgedRequest) → taken state.bridge client ≡ take.Reply number → reply_taken state.bridge client ≡ Some request
     → next state (Take client) ≡ record (changed (after_take state.bridge client) state.memory (answer.Reply number)) { reply = reply_beats request }
@@ -162,9 +155,7 @@ take_reply state client number request = by_test (nat_le state.bridge.requests.c
         → ◌≡◌ {A = Option BridgedRequest} (if beyond then None else found) (Some request)
         → ◌≡◌ {A = Outcome} (if beyond then unchanged state answer.NoClient else world.taken state client (if beyond then None else found))
         (record (changed (after_take state.bridge client) state.memory (answer.Reply number)) { reply = reply_beats request })
-    by_test true found = λ is same. absurd (cc (is))
-    by_test false None = λ is same. absurd (cc (same))
-    by_test false (Some other) = λ is same. cc (is, same)
+    by_test beyond found = grind arith
 
 -- where no reply is answered, none is there to take
 pub none_there : (state : BridgeState) (client : ℕ) → ((number : ℕ) → taken state client ≡ take.Reply number → ⊥) → reply_taken state client ≡ None
