@@ -74,8 +74,7 @@ IsSent state = (sending : Sending) × (next_sending state.requests ≡ Some send
 
 -- what the table answers tells whether one goes
 pub told_sent : (o : Option Sending) (burst : Option Burst) → option_map (λ (sending : Sending). Some sending.burst) o ≡ Some burst → (sending : Sending) × (o ≡ Some sending) × (burst ≡ Some sending.burst)
-told_sent None burst is = absurd (cc (is))
-told_sent (Some sending) burst is = (sending, refl, cc)
+told_sent o burst is = grind (arith, is)
 
 pub told_none : (o : Option Sending) → option_map (λ (sending : Sending). Some sending.burst) o ≡ None → o ≡ None
 told_none o is = grind arith

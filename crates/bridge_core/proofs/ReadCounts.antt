@@ -108,8 +108,7 @@ pieces_counted range plans =
     ∙ quotient_most (2 ^ range.size) range.bus_bytes plans.bus (pow_pos range.size)
 
 if_reads : (reads : Bool) (parts : List Piece) (n : ℕ) → beats_in parts ≡ n → beats_in (if reads then parts else []) ≡ (if reads then n else 0)
-if_reads true parts n counted = counted
-if_reads false parts n counted = refl
+if_reads reads parts n counted = grind (arith, counted)
 
 -- the read transfers of a request that has a plan are those that its reply needs
 pub reads_counted : (config : Config) (regions : List Region) (request : BridgedRequest) (range : PlannedRange) → is_valid config ≡ true → IsPageMap regions → IsServed config regions request → request.flight.plan ≡ Some range
