@@ -12,6 +12,7 @@ pub mod PhaseLaws
 pub mod StepWorth
 pub mod KeyLaws
 pub mod TableChanges
+pub mod SlotPlaces
 pub mod Steps
 pub mod NewRequests
 pub mod Ranges

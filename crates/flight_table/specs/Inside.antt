@@ -1,5 +1,5 @@
 -- How the live requests lie in a slab, and the index of their keys.
-use Rattle.std.specs.Prelude.{◌≡◌, ℕ, ◌<◌, ◌≤◌, ⊤, Option, Some, filter, slice_set, ◌-◌, ◌==◌, Bool, false, ◌&&◌, not, List, [], ◌∷◌, map, length, None, is_some, nat_lt, unwrap_or, if◌then◌else◌}
+use Rattle.std.specs.Prelude.{◌≡◌, ℕ, ◌<◌, ◌≤◌, ⊤, Option, Some, filter, slice_set, ◌-◌, ◌==◌, Bool, false, ◌&&◌, not, List, [], ◌∷◌, map, length, None, is_some, nat_lt, unwrap_or, slice_index_or, suc, if◌then◌else◌}
 use Rattle.std.specs.List.{AllByRecursion, list_any, range_with_len}
 use Rattle.bus_words.specs.Places.{AreDistinct}
 use Rattle.slab.specs.Slab.{Slab, get, ContainsKey, slab_len}
@@ -29,6 +29,15 @@ pub record IsIndex (slab : Slab LiveRequest) (keys : List ℕ) : Type 0 where
   pub there : AllByRecursion (ContainsKey slab) keys
   pub distinct : AreDistinct keys
   pub count : length keys ≡ slab_len slab
+
+-- the slots of the keys hold their places, which rise from this one
+abbrev pub ArePlaces : ℕ → List ℕ → List ℕ → Type 0
+ArePlaces place places [] = ⊤
+ArePlaces place places (key ∷ keys) = (slice_index_or places key 0 ≡ place) × ArePlaces (suc place) places keys
+
+-- a place, after the request at this one was taken out
+abbrev pub lowered_place : ℕ → ℕ → ℕ
+lowered_place place other = other - (if nat_lt place other then 1 else 0)
 
 -- ---- what is kept by place
 

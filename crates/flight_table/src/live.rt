@@ -129,25 +129,6 @@ impl Live {
         self.slots.get(key)
     }
 
-    /// The place of the request of this number, where none between it and the first was taken out. What is found doesn't rest
-    /// on it.
-    fn guess(&self, number: u64) -> usize {
-        match self.spans.first() {
-            Some(first) => number.saturating_sub(first.number) as usize,
-            None => 0,
-        }
-    }
-
-    /// The place of the request of a key.
-    fn place_of(&self, key: Key) -> usize
-        requires { IsSome (request_in key self.now.entries) }
-        ensures place { position (has_key key) self.now.entries ≡ Some result }
-        ensures within { result < length (requests_of self.now.entries) }
-    {
-        let guess = self.guess(self.slots.get(key).number);
-        self.slots.place_of(key, guess)
-    }
-
     /// The request of a key takes a step by which it isn't done. It is inline as the step is.
     #[inline(always)]
     pub(crate) fn take(&mut self, key: Key, step: Step)
@@ -157,7 +138,7 @@ impl Live {
         ensures table { self.new ≡ with_entries (change_first (has_key key) (change_entry (stepped step)) self.old.entries) self.old }
         ensures keys { HaveOwnKeys self.new.entries }
     {
-        let place = self.place_of(key);
+        let place = self.slots.place_of(key);
         let old = self.slots.get(key);
         let id = old.id;
         let worth = old.worth(step);
@@ -178,7 +159,7 @@ impl Live {
         ensures table { self.new ≡ with_entries (change_first (has_key key) (change_entry finished) self.old.entries) self.old }
         ensures keys { HaveOwnKeys self.new.entries }
     {
-        let place = self.place_of(key);
+        let place = self.slots.place_of(key);
         let request = self.slots.get(key);
         let client = request.client;
         let id = request.id;
@@ -208,7 +189,7 @@ impl Live {
         ensures table { self.new ≡ with_entries (without_first (has_key key) self.old.entries) self.old }
         ensures keys { HaveOwnKeys self.new.entries }
     {
-        let place = self.place_of(key);
+        let place = self.slots.place_of(key);
         let client = self.slots.get(key).client;
         self.able.remove(place);
         self.named.remove(place);
@@ -216,7 +197,7 @@ impl Live {
         self.unheld.remove(place);
         self.rows.remove(place);
         self.spans.remove(place);
-        self.slots.remove(key, place);
+        self.slots.remove(key);
         self.clients.remove(client, key);
     }
 
@@ -240,7 +221,7 @@ impl Live {
         requires { IsSome (request_in key self.now.entries) }
         ensures { IfSome (request_in key self.now.entries) (λ request. result ≡ length (filter (holds_back request) (requests_of self.now.entries))) }
     {
-        self.holders[self.place_of(key)]
+        self.holders[self.slots.place_of(key)]
     }
 
     /// Whether a live request of a client has this source.

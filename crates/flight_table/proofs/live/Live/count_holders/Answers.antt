@@ -5,4 +5,4 @@ pub returns : goal.returns
 returns c =
     let i = c.self.inside in
     rw (← c.self.view_is)
-    (counted i.limits.depth c.args.key i.slots i.able i.named i.holders.items i.unheld c.place_of.result c.index.result.now c.self.invariant.0 (rw (← c.self.view_is) at c.place_of.ensures.place) c.index.ensures)
+    (counted i.limits.depth c.args.key i.slots i.able i.named i.holders.items i.unheld c.place_of.result c.index.result.now c.self.invariant.0 c.place_of.ensures.place c.index.ensures)

@@ -33,7 +33,7 @@ lower-requires-clause-places c =
     ∙ length_row (requests_of c.self.inside.slots) c.self.inside.rows c.row-row.result c.page.result c.count.result c.deref.result.now c.self.invariant.5 c.count.ensures.count c.row-row.ensures.row (c.deref.ensures.value ∙ c.self.invariant.6))
 
 pub clear_to-requires : goal.clear_to-requires
-clear_to-requires c = omega (arith, ap length c.row-row.ensures.row ∙ length-marks c.count.result _, c.count.ensures.count, rw (← c.self.view_is) at c.place_of-place.ensures.within)
+clear_to-requires c = omega (arith, ap length c.row-row.ensures.row ∙ length-marks c.count.result _, c.count.ensures.count, c.place_of-place.ensures.within)
 
 pub rename-requires : goal.rename-requires
 rename-requires c =
@@ -47,7 +47,7 @@ pub less-self-inside-requires : goal.less-self-inside-requires
 less-self-inside-requires c =
     let i = c.self.inside in
     let r = c.get-request.result.now in
-    let at = placed c.args.key i.slots c.place_of-place.result r (rw (← c.self.view_is) at c.place_of-place.ensures.place) c.get-request.ensures.request in
+    let at = placed c.args.key i.slots c.place_of-place.result r c.place_of-place.ensures.place c.get-request.ensures.request in
     rw c.self.invariant.3.sums_are (are_part (requests_of i.slots) c.place_of-place.result Done r c.worth-worth.result at.within (at.there r) c.worth-worth.ensures)
 
 pub finish-requires-clause-client : goal.finish-requires-clause-client
@@ -67,7 +67,7 @@ invariant_of-self c =
     let r = c.get-request.result.now in
     let found = c.get-request.ensures.request in
     let place = c.place_of-place.result in
-    let at = placed c.args.key i.slots place r (rw (← c.self.view_is) at c.place_of-place.ensures.place) found in
+    let at = placed c.args.key i.slots place r c.place_of-place.ensures.place found in
     let one = named_with c.args.key i.slots r (λ old. IfSome old.id (HasOneHolder i.limits.ids (requests_of i.slots))) found (rw (← c.self.view_is) at c.requires.id) in
     let d = c.index_mut.result.now in
     let span = c.index_mut.ensures.value ∙ ap (λ (spans : List Span). get_or spans place d) c.self.invariant.6 ∙ get_or-map span_of (requests_of i.slots) place r d at.within ∙ ap span_of (at.there r) in

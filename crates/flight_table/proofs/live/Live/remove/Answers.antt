@@ -29,7 +29,7 @@ remove-requires-8-clause-there c =
 
 pub remove-requires-5 : goal.remove-requires-5
 remove-requires-5 c =
-    let at = placed c.args.key c.self.inside.slots c.place_of-place.result c.get.result.now (rw (← c.self.view_is) at c.place_of-place.ensures.place) c.get.ensures.request in
+    let at = placed c.args.key c.self.inside.slots c.place_of-place.result c.get.result.now c.place_of-place.ensures.place c.get.ensures.request in
     omega (arith, at.within, c.self.invariant.3.few)
 
 pub invariant_of-self : goal.invariant_of-self
@@ -39,7 +39,7 @@ invariant_of-self c =
     let done = named_with c.args.key i.slots r (λ q. q.done ≡ true) c.get.ensures.request (rw (← c.self.view_is) at c.requires.done) in
     let no_id = named_with c.args.key i.slots r (λ q. q.id ≡ None) c.get.ensures.request (rw (← c.self.view_is) at c.requires.no_id) in
     let place = c.place_of-place.result in
-    let at = placed c.args.key i.slots place r (rw (← c.self.view_is) at c.place_of-place.ensures.place) c.get.ensures.request in
+    let at = placed c.args.key i.slots place r c.place_of-place.ensures.place c.get.ensures.request in
     let after = ap requests_of c.remove-7.ensures.entries ∙ requests_without c.args.key i.slots place r at in
     let room : 64 ≤ vec_capacity c.remove-3.new.self = omega (arith, c.self.invariant.1, c.remove-3.ensures.capacity) in
     let more : 64 ≤ vec_capacity c.remove-6.new.self = omega (arith, c.self.invariant.7, c.remove-6.ensures.capacity) in (

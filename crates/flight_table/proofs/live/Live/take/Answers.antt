@@ -36,7 +36,7 @@ pub less-self-inside-requires : goal.less-self-inside-requires
 less-self-inside-requires c =
     let i = c.self.inside in
     let r = c.get-old.result.now in
-    let at = placed c.args.key i.slots c.place_of-place.result r (rw (← c.self.view_is) at c.place_of-place.ensures.place) c.get-old.ensures.request in
+    let at = placed c.args.key i.slots c.place_of-place.result r c.place_of-place.ensures.place c.get-old.ensures.request in
     rw c.self.invariant.3.sums_are (are_part (requests_of i.slots) c.place_of-place.result c.args.step r c.worth-worth.result at.within (at.there r) c.worth-worth.ensures)
 
 pub invariant_of-self : goal.invariant_of-self
@@ -47,7 +47,7 @@ invariant_of-self c =
     let new = stepped c.args.step r in
     let progress = goes_on c.args.step r c.requires.goes_on in
     let place = c.place_of-place.result in
-    let at = placed c.args.key i.slots place r (rw (← c.self.view_is) at c.place_of-place.ensures.place) found in
+    let at = placed c.args.key i.slots place r c.place_of-place.ensures.place found in
     let is = request_taken (stepped c.args.step) c.args.key i.slots c.take.new.self r c.get-request.result.now found c.take.ensures.entries c.get-request.ensures.request in
     let names = named_with c.args.key i.slots r (λ old. MayName i.limits.ids (requests_of i.slots) old.id (stepped c.args.step old).id) found (rw (← c.self.view_is) at c.requires.id) in
     let same : c.take.new.self ≡ change_first (has_key c.args.key) (change_entry (λ o. new)) i.slots = c.take.ensures.entries ∙ sym (change-constant (stepped c.args.step) c.args.key i.slots r new found refl) in

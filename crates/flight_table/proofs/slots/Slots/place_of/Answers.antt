@@ -1,15 +1,16 @@
-use Rattle.std.proofs.Common.{◌==◌, ap, sym, ◌∙◌}
-use Rattle.std.specs.List.{position}
-use Rattle.flight_table.proofs.Index.{key_placed, place_keyed}
+use Rattle.flight_table.proofs.Index.{key_placed, length_requests, place_keyed}
+use Rattle.flight_table.proofs.SlotPlaces.{place_first, place_is}
 use Rattle.flight_table.proofs.slots.Slots.place_of.Goals as goal
-
-pub place_from-requires : goal.place_from-requires
-place_from-requires c = rw c.deref.ensures.value c.self.invariant.0.distinct
-
-pub unwrap-requires : goal.unwrap-requires
-unwrap-requires c = rw (c.place_from.ensures, c.deref.ensures.value) (key_placed c.self.inside.requests c.args.key c.self.inside.order.items (rw c.self.view_is c.requires))
 
 pub returns-clause-place : goal.returns-clause-place
 returns-clause-place c =
-    rw (← c.self.view_is, place_keyed c.self.inside.requests c.args.key c.self.inside.order.items)
-    (ap (position (λ k. k == c.args.key)) (sym c.deref.ensures.value) ∙ sym c.place_from.ensures ∙ c.unwrap.ensures)
+    let ks = c.self.inside.order.items in
+    rw (← c.self.view_is, place_keyed c.self.inside.requests c.args.key ks, c.from.ensures, c.slot.ensures.value)
+    (place_is c.self.inside.places ks c.args.key c.self.invariant.4 (key_placed c.self.inside.requests c.args.key ks (rw c.self.view_is c.requires)))
+
+pub returns-clause-within : goal.returns-clause-within
+returns-clause-within c =
+    let s = c.self.inside.requests in
+    let ks = c.self.inside.order.items in
+    rw (← c.self.view_is, length_requests s ks, c.from.ensures, c.slot.ensures.value)
+    (place_first c.self.inside.places ks c.args.key c.self.invariant.4 (key_placed s c.args.key ks (rw c.self.view_is c.requires))).within
