@@ -5,7 +5,7 @@ use Rattle.bus_words.specs.Places.{AreDistinct}
 use Rattle.slab.specs.Slab.{Slab, get, ContainsKey, slab_len}
 use Rattle.tl_messages.specs.declared.Operation.TheVariants.{Get}
 use Rattle.flight_table.specs.LiveRequests.{LiveRequest, next_burst, unanswered}
-use Rattle.flight_table.specs.Order.{holders, holds_back, holds_id}
+use Rattle.flight_table.specs.Order.{holders, holds_id}
 use Rattle.flight_table.specs.Tables.{KeyedRequest, KeyedTable, key_in}
 use Rattle.flight_table.specs.declared.TableLimits.{TableLimits}
 
@@ -65,12 +65,11 @@ is_named depth request = is_open depth request && is_some request.id
 abbrev pub count_holders : List LiveRequest → LiveRequest → ℕ
 count_holders live request = length (holders live request)
 
--- what is kept is what it says: which bursts are open, which of their requests hold an ID, how many hold back each, and which nobody holds back
-pub record IsKept (depth : ℕ) (live : List LiveRequest) (open_marks named_marks : List Bool) (counts : List ℕ) (free_marks : List Bool) : Type 0 where
+-- what is kept is what it says: which bursts are open, which of their requests hold an ID, and which nobody holds back
+pub record IsKept (depth : ℕ) (live : List LiveRequest) (open_marks named_marks free_marks : List Bool) : Type 0 where
   pub open_bursts : open_marks ≡ map (is_open depth) live
   pub named_bursts : named_marks ≡ map (is_named depth) live
-  pub holders : counts ≡ map (count_holders live) live
-  pub free : free_marks ≡ map (λ count. count == 0) counts
+  pub free : free_marks ≡ map (λ request. count_holders live request == 0) live
 
 -- what sending and answering make of a request that isn't done; nothing that tells whose it is, or whom it holds back
 pub record IsProgress (old new : LiveRequest) : Type 0 where
@@ -80,12 +79,6 @@ pub record IsProgress (old new : LiveRequest) : Type 0 where
   pub operation : new.operation ≡ old.operation
   pub plan : new.plan ≡ old.plan
   pub done : new.done ≡ old.done
-
--- the counts, of each request that this one holds back lowered by one
-abbrev pub lowered : LiveRequest → List LiveRequest → List ℕ → List ℕ
-lowered request [] counts = []
-lowered request (other ∷ live) [] = []
-lowered request (other ∷ live) (count ∷ counts) = (count - (if holds_back other request then 1 else 0)) ∷ lowered request live counts
 
 -- ---- what is kept by ID
 

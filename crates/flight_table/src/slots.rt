@@ -1,5 +1,5 @@
 //! The live requests in a slab, and their keys by rising number.
-ghost use Rattle.std.specs.Prelude.{◌≡◌, ◌<◌, ◌≤◌, Bool, [], ◌∷◌, ◌++◌, Some, IfOk, IfSome, IsSome, IsSomeAnd, None, length, map, position};
+ghost use Rattle.std.specs.Prelude.{◌≡◌, ◌<◌, ◌≤◌, ℕ, Bool, [], ◌∷◌, ◌++◌, Some, IfOk, IfSome, IsSome, IsSomeAnd, None, length, map, position};
 ghost use Rattle.flight_table.specs.Inside.{lowered_place};
 ghost use Rattle.flight_table.specs.LiveRequests.{LiveRequest};
 ghost use Rattle.bus_words.specs.Places.{change_first, without_first};
@@ -98,6 +98,7 @@ impl Slots {
         requires { length self.old < 64 }
         ensures entries { self.new ≡ self.old ++ record { key = result; request = request } ∷ [] }
         ensures fresh { request_in result self.old ≡ None }
+        ensures old_keys { HaveOwnKeys self.old }
         ensures keys { HaveOwnKeys self.new }
     {
         let slot = self.requests.insert_reserved(request);
@@ -134,13 +135,24 @@ impl Slots {
         self.requests[key.slot()].take(step);
     }
 
+    /// The place of a slot's request in the order of acceptance.
+    pub(crate) fn place_in(&self, slot: usize) -> usize
+        requires slot { slot < 64 }
+        requires live { IsSome (request_in slot self.now) }
+        ensures place { position (has_key slot) self.now ≡ Some result }
+        ensures within { result < length (requests_of self.now) }
+        ensures keys { HaveOwnKeys self.now }
+    {
+        usize::from(self.places[slot])
+    }
+
     /// The place of a key in the order of acceptance.
     pub(crate) fn place_of(&self, key: Key) -> usize
         requires { IsSome (request_in key self.now) }
         ensures place { position (has_key key) self.now ≡ Some result }
         ensures within { result < length (requests_of self.now) }
     {
-        usize::from(self.places[key.slot()])
+        self.place_in(key.slot())
     }
 
     /// The key at a place, where there is one.

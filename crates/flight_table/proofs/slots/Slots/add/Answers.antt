@@ -28,6 +28,9 @@ pub returns-clause-fresh : goal.returns-clause-fresh
 returns-clause-fresh c =
     rw (← c.self.view_is) (fresh-add c.self.inside.requests c.insert_reserved-slot.result c.self.inside.order.items c.self.invariant.0 c.insert_reserved-slot.ensures.was_vacant)
 
+pub returns-clause-old_keys : goal.returns-clause-old_keys
+returns-clause-old_keys c = rw (← c.self.view_is, keys_of c.self.inside.requests c.self.inside.order.items) c.self.invariant.0.distinct
+
 pub returns-clause-keys : goal.returns-clause-keys
 returns-clause-keys c =
     let s = c.self.inside.requests in
