@@ -39,7 +39,7 @@ there-same s t key [] others same there = tt
 there-same s t key (k ∷ ks) others same there = (rw (same k others.0) there.0, there-same s t key ks others.1 same there.1)
 
 -- a key without a value isn't in the index
-fresh : (s : Slab LiveRequest) (key : ℕ) (ks : List ℕ) → get s key ≡ None → AllByRecursion (ContainsKey s) ks → AreOthers key ks
+pub fresh : (s : Slab LiveRequest) (key : ℕ) (ks : List ℕ) → get s key ≡ None → AllByRecursion (ContainsKey s) ks → AreOthers key ks
 fresh s key [] none there = tt
 fresh s key (k ∷ ks) none there = (λ e. grind (arith, none, e, there.0), fresh s key ks none there.1)
 
@@ -130,7 +130,7 @@ request_taken change key entries after r now found made is = same_Some now (chan
 
 -- ---- a request less
 
-without-others : (key : ℕ) (ks : List ℕ) → AreDistinct ks → AreOthers key (without_first (λ k. k == key) ks)
+pub without-others : (key : ℕ) (ks : List ℕ) → AreDistinct ks → AreOthers key (without_first (λ k. k == key) ks)
 without-others key [] distinct = tt
 without-others key (k ∷ ks) distinct =
     elim (cases_eq k key) [

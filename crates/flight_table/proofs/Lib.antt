@@ -5,13 +5,15 @@ pub mod ClientLaws
 pub mod Ready
 pub mod Kept
 pub mod RowLaws
-pub mod Lowered
-pub mod LowerLater
+pub mod Walks
+pub mod SlotMarks
+pub mod Conflicts
 pub mod Index
 pub mod PhaseLaws
 pub mod StepWorth
 pub mod KeyLaws
 pub mod TableChanges
+pub mod SlotPlaces
 pub mod Steps
 pub mod NewRequests
 pub mod Ranges

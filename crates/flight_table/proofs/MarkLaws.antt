@@ -11,9 +11,9 @@ use native.Mathlib.Nat.{two-pow-succ, zero-div, div-one, div-div-eq-div-mul, div
 use lib.Pow.{pow_mono}
 use mir.Val.{bool_byte}
 use Rattle.std.proofs.lemmas.Nat.{and-not, and_comm, and_mask, or_comm, or_shifted, pow_pos, shl_whole}
-use lib.Bits.{bit_and, bit_or, and_self, and_step, and_zero_l, and_zero_r}
+use lib.Bits.{bit_and, bit_or, and_self, and_step, and_zero_l, and_zero_r, or_step, or_zero_r}
 use Rattle.bus_words.proofs.FirstPlaces.{position_is_first}
-use Rattle.flight_table.specs.Marks.{both, marks_of, number_of, unmarked_to, without_bit}
+use Rattle.flight_table.specs.Marks.{both, marks_of, number_of, without_bit}
 use Rattle.std.proofs.lemmas.Bool.Decides.{nat_tests}
 
 abbrev bit : Bool → ℕ
@@ -31,7 +31,7 @@ next_half : (mark : Bool) (n place : ℕ) → (bit mark + 2 * n) / 2 ^ suc place
 next_half mark n place =
     ap (λ d. (bit mark + 2 * n) / d) (pow-suc 2 place ∙ mul_comm (2 ^ place) 2) ∙ sym (div-div-eq-div-mul (bit mark + 2 * n) 2 (2 ^ place)) ∙ ap (λ h. h / 2 ^ place) (lowest mark n).1
 
-byte_is : (mark : Bool) → bool_byte mark ≡ bit mark
+pub byte_is : (mark : Bool) → bool_byte mark ≡ bit mark
 byte_is mark = grind arith
 
 small : (mark : Bool) → bool_byte mark < 2 ^ 1
@@ -75,18 +75,6 @@ put_is [] place mark within = absurd (omega (arith, within))
 put_is (m ∷ marks) zero mark within = omega arith
 put_is (m ∷ marks) (suc place) mark within = grind (arith, two-pow-succ place, put_is marks place mark (omega (arith, within)))
 
--- ---- none up to a place
-
-pub length_unmarked : (place : ℕ) (marks : List Bool) → length (unmarked_to place marks) ≡ length marks
-length_unmarked place [] = refl
-length_unmarked zero (m ∷ marks) = refl
-length_unmarked (suc place) (m ∷ marks) = ap suc (length_unmarked place marks)
-
-unmarked_is : (marks : List Bool) (place : ℕ) → place < length marks → number_of marks / 2 ^ place / 2 * 2 * 2 ^ place ≡ number_of (unmarked_to place marks)
-unmarked_is [] place within = absurd (omega (arith, within))
-unmarked_is (m ∷ marks) zero within = rw (div-one (number_of (m ∷ marks))) (omega (arith, (lowest m (number_of marks)).1))
-unmarked_is (m ∷ marks) (suc place) within = rw (next_half m (number_of marks) place, two-pow-succ place) (omega (arith, unmarked_is marks place (omega (arith, within))))
-
 -- ---- two lists at once
 
 least : (a b : Bool) → min (bit a) (bit b) ≡ bit (a && b)
@@ -115,10 +103,6 @@ pushed_bits marks mark value room is =
 
 pub bits_fit : (marks : List Bool) → length marks ≤ 64 → number_of marks < 18446744073709551616
 bits_fit marks few = omega (arith, below marks, pow_mono {i = length marks} {j = 64} few)
-
--- the number after the marks up to a place went
-pub unmarked_bits : (marks : List Bool) (place : ℕ) → place < length marks → length marks ≤ 64 → number_of marks / 2 ^ place / 2 * 2 * 2 ^ place % 18446744073709551616 ≡ number_of (unmarked_to place marks)
-unmarked_bits marks place within few = rw (unmarked_is marks place within) (omega (arith, bits_fit (unmarked_to place marks) (omega (arith, few, length_unmarked place marks))))
 
 -- the number after another mark at its place
 bit_at_place : (marks : List Bool) (place : ℕ) → number_of marks / 2 ^ place % 2 ≡ bit (get_or marks place false)
@@ -224,8 +208,15 @@ first_taken marks place at = first_cleared marks ∙ ap (λ k. number_of (set ma
 pub unit_is : (place : ℕ) → place < 64 → 1 * 2 ^ place % 18446744073709551616 ≡ 2 ^ place
 unit_is place small = shl_whole 1 1 place 64 (omega arith) (omega (arith, small)) ∙ one-mul (2 ^ place)
 
-pub bit_fits : (bits place : ℕ) → bits < 2 ^ place → place < 64 → bits + 2 ^ place < 18446744073709551616
-bit_fits bits place fits small = omega (arith, fits, two-pow-succ place, pow_mono {i = suc place} {j = 64} (omega (arith, small)))
+-- and one that is set
+pub or_put : (marks : List Bool) (place : ℕ) → place < length marks → bit_or (number_of marks) (2 ^ place) ≡ number_of (set marks place true)
+or_put [] place within = absurd (omega (arith, within))
+or_put (m ∷ marks) zero within = or_step (number_of (m ∷ marks)) 1 ∙ rw ((lowest m (number_of marks)).0, (lowest m (number_of marks)).1) (grind (arith, or_zero_r (number_of marks)))
+or_put (m ∷ marks) (suc place) within =
+    let half : 2 ^ suc place / 2 ≡ 2 ^ place = omega (arith, two-pow-succ place) in
+    let even : 2 ^ suc place % 2 ≡ 0 = omega (arith, two-pow-succ place) in
+    or_step (number_of (m ∷ marks)) (2 ^ suc place)
+    ∙ rw ((lowest m (number_of marks)).0, (lowest m (number_of marks)).1, half, even, or_put marks place (omega (arith, within))) (grind arith)
 
 pub length-both : (marks others : List Bool) → length (both marks others) ≤ length marks
 length-both [] others = omega arith

@@ -233,3 +233,8 @@ released old key r entries sound found made own =
 pub release_is : (old now : KeyedTable) (key : ℕ) (r : LiveRequest) (entries : List KeyedRequest) → old ≡ now → IsSound old → request_at key old ≡ Some r → entries ≡ without_first (has_key key) old.entries → HaveOwnKeys entries
     → IsReleased now (record old { entries = entries }) r.number
 release_is old now key r entries same sound found made own = subst (λ t. IsReleased t (record old { entries = entries }) r.number) same (released old key r entries sound found made own)
+
+-- a request that is done as it is accepted has no plan
+pub none_planned : (plan : Option PlannedRange) → is_none plan ≡ true → plan ≡ None
+none_planned None none = refl
+none_planned (Some range) none = absurd (cc (none))

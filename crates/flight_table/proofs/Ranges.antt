@@ -1,12 +1,12 @@
--- Ranges that meet have an address in common, and spans tell which requests hold back which.
+-- Ranges that meet have an address in common, and spans tell which requests conflict.
 use Rattle.std.proofs.Common.{◌≡◌, ◌↔◌, ℕ, true, false, ◌&&◌, not, Option, Some, None, IsTrue, refl, ap, max, arith, nat_lt}
 use Rattle.std.proofs.lemmas.Bool.{and_from, and_parts, lt-ltb, ltb-true}
 use Rattle.std.proofs.lemmas.Nat.{pow_pos}
 use Rattle.burst_plan.specs.Pieces.{PlannedRange, range_end}
 use Rattle.flight_table.specs.Inside.{IsProgress}
 use Rattle.flight_table.specs.LiveRequests.{LiveRequest}
-use Rattle.flight_table.specs.Order.{HaveCommonAddress, holds_back, is_get, ranges_meet, share_bytes}
-use Rattle.flight_table.specs.Spans.{IsSpanOf, end_of, span_holds, span_of, spans_meet, start_of}
+use Rattle.flight_table.specs.Order.{HaveCommonAddress, conflict, is_get, ranges_meet, share_bytes}
+use Rattle.flight_table.specs.Spans.{IsSpanOf, end_of, span_of, spans_conflict, spans_meet, start_of}
 use Rattle.flight_table.specs.declared.spans.Span.{Span}
 use Rattle.std.proofs.lemmas.Bool.Decides.{nat_tests}
 
@@ -35,14 +35,12 @@ none_below n = grind (arith, nat_tests)
 ranges_share : (a b : Option PlannedRange) → (nat_lt (start_of a) (end_of b) && nat_lt (start_of b) (end_of a)) ≡ share_bytes a b
 ranges_share a b = grind (arith, none_below)
 
-pub span_held : (later earlier : LiveRequest) → span_holds (span_of later) (span_of earlier) ≡ holds_back later earlier
-span_held later earlier =
-    ap (λ shared. nat_lt earlier.number later.number && not earlier.done && (shared && not (is_get earlier.operation && is_get later.operation)))
-    (ranges_share earlier.plan later.plan)
+pub span_conflicts : (a b : LiveRequest) → spans_conflict (span_of a) (span_of b) ≡ conflict a b
+span_conflicts a b = ap (λ shared. shared && not (is_get a.operation && is_get b.operation)) (ranges_share a.plan b.plan)
 
 pub span_met : (x y : Span) (a b : Option PlannedRange) → IsSpanOf a x → IsSpanOf b y → IsTrue (spans_meet x y) ↔ HaveCommonAddress a b
 span_met x y a b is_a is_b = rw (is_a.start, is_a.end, is_b.start, is_b.end, ranges_share a b) (common_address a b)
 
 -- sending and answering change nothing of it
 pub same_span : (old new : LiveRequest) → IsProgress old new → span_of new ≡ span_of old
-same_span old new progress = rw (progress.number, progress.plan, progress.done, progress.operation) refl
+same_span old new progress = rw (progress.plan, progress.operation) refl

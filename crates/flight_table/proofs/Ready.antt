@@ -1,5 +1,5 @@
 -- The first place that is marked is that of the first request that may send.
-use Rattle.std.proofs.Common.{◌≡◌, ℕ, ◌==◌, Bool, true, false, not, ◌&&◌, is_some, List, [], ◌∷◌, map, length, refl, ap, ap₂, ◌∙◌, arith}
+use Rattle.std.proofs.Common.{◌≡◌, ◌==◌, Bool, true, false, not, ◌&&◌, is_some, List, [], ◌∷◌, map, length, refl, ap, ap₂, ◌∙◌, arith}
 use Rattle.std.specs.List.{filter, list_any, position}
 use Rattle.flight_table.specs.Inside.{IsKept, count_holders, is_named, is_open}
 use Rattle.flight_table.specs.LiveRequests.{LiveRequest}
@@ -12,10 +12,6 @@ both_map : {X : Type 0} (f g : X → Bool) (xs : List X) → both (map f xs) (ma
 both_map f g [] = refl
 both_map f g (x ∷ xs) = rw (both_map f g xs) refl
 
-map_map : {X : Type 0} (f : X → ℕ) (g : ℕ → Bool) (xs : List X) → map g (map f xs) ≡ map (λ x. g (f x)) xs
-map_map f g [] = refl
-map_map f g (x ∷ xs) = rw (map_map f g xs) refl
-
 none_counted : {X : Type 0} (q : X → Bool) (xs : List X) → (length (filter q xs) == 0) ≡ not (list_any q xs)
 none_counted q [] = refl
 none_counted q (x ∷ xs) = grind (arith, none_counted q xs)
@@ -27,20 +23,20 @@ sends_with limits live x free = grind (arith, free, none_counted (holds_back x) 
 sends_without : (limits : TableLimits) (live : List LiveRequest) (x : LiveRequest) → is_some (free_id limits.ids live) ≡ false → (is_named limits.depth x && (count_holders live x == 0)) ≡ may_send limits live x
 sends_without limits live x free = grind (arith, free, none_counted (holds_back x) live)
 
-first_of : (test : LiveRequest → Bool) (live : List LiveRequest) (marks unheld : List Bool) (counts : List ℕ) → marks ≡ map test live → counts ≡ map (count_holders live) live → unheld ≡ map (λ count. count == 0) counts
+first_of : (test : LiveRequest → Bool) (live : List LiveRequest) (marks unheld : List Bool) → marks ≡ map test live → unheld ≡ map (λ x. count_holders live x == 0) live
     → position (λ mark. mark) (both marks unheld) ≡ position (λ x. test x && (count_holders live x == 0)) live
-first_of test live marks unheld counts marked counted free =
-    ap (position (λ mark. mark)) (ap₂ both marked (free ∙ ap (map (λ count. count == 0)) counted ∙ map_map (count_holders live) (λ count. count == 0) live) ∙ both_map test (λ x. count_holders live x == 0) live)
+first_of test live marks unheld marked free =
+    ap (position (λ mark. mark)) (ap₂ both marked free ∙ both_map test (λ x. count_holders live x == 0) live)
     ∙ position_map (λ x. test x && (count_holders live x == 0)) (λ mark. mark) live
 
-pub first_with : (limits : TableLimits) (live : List LiveRequest) (able named unheld : List Bool) (counts : List ℕ) → IsKept limits.depth live able named counts unheld → is_some (free_id limits.ids live) ≡ true
+pub first_with : (limits : TableLimits) (live : List LiveRequest) (able named unheld : List Bool) → IsKept limits.depth live able named unheld → is_some (free_id limits.ids live) ≡ true
     → position (λ mark. mark) (both able unheld) ≡ position (may_send limits live) live
-first_with limits live able named unheld counts kept free =
-    first_of (is_open limits.depth) live able unheld counts kept.open_bursts kept.holders kept.free
+first_with limits live able named unheld kept free =
+    first_of (is_open limits.depth) live able unheld kept.open_bursts kept.free
     ∙ position_same (λ x. is_open limits.depth x && (count_holders live x == 0)) (may_send limits live) live (λ x. sends_with limits live x free)
 
-pub first_without : (limits : TableLimits) (live : List LiveRequest) (able named unheld : List Bool) (counts : List ℕ) → IsKept limits.depth live able named counts unheld → is_some (free_id limits.ids live) ≡ false
+pub first_without : (limits : TableLimits) (live : List LiveRequest) (able named unheld : List Bool) → IsKept limits.depth live able named unheld → is_some (free_id limits.ids live) ≡ false
     → position (λ mark. mark) (both named unheld) ≡ position (may_send limits live) live
-first_without limits live able named unheld counts kept free =
-    first_of (is_named limits.depth) live named unheld counts kept.named_bursts kept.holders kept.free
+first_without limits live able named unheld kept free =
+    first_of (is_named limits.depth) live named unheld kept.named_bursts kept.free
     ∙ position_same (λ x. is_named limits.depth x && (count_holders live x == 0)) (may_send limits live) live (λ x. sends_without limits live x free)

@@ -6,11 +6,12 @@ use Rattle.std.specs.List.{AllByRecursion, find, list_any, range_with_len, slice
 use Rattle.std.specs.Option.{option_or}
 use Rattle.std.proofs.lemmas.Bool.{eqb-true, leb-true}
 use Rattle.bus_words.proofs.PlaceChanges.{find-passes}
+use Rattle.bus_words.proofs.MappedPlaces.{length_map}
 use Rattle.bus_words.specs.Places.{change_first}
 use Rattle.tl_messages.specs.Operations.{has_data, reply_has_data}
 use Rattle.flight_table.specs.Inside.{HasOneHolder, MayName}
 use Rattle.flight_table.specs.Laws.{HaveOwnKeys, IsSound, IsSoundRequest, IsSoundTable}
-use Rattle.flight_table.specs.LiveRequests.{LiveRequest, all_sent, awaits_write, finished, is_settled, planned, with_answered, with_sent, with_write}
+use Rattle.flight_table.specs.LiveRequests.{LiveRequest, all_sent, awaits_write, finished, is_settled, pieces_planned, planned, with_answered, with_sent, with_write}
 use Rattle.flight_table.specs.Progress.{HasAnswers}
 use Rattle.flight_table.specs.Order.{free_id, holds_back, holds_id, id_for, is_free, is_held, is_id, is_ready}
 use Rattle.flight_table.specs.Tables.{FlightTable, KeyedRequest, KeyedTable, change_entry, change_key, change_number, has_key, has_number, key_in, request_at, request_in, requests_of, table_of}
@@ -146,6 +147,21 @@ step_finished table r sound =
       back = λ x holds. done_holds_none x r holds;
       order = λ undone held. absurd (cc (undone));
     }
+
+-- nobody holds back a request that isn't done and whose bursts are answered
+pub settled_free : (limits : TableLimits) (accepted : ℕ) (live : List LiveRequest) (r : LiveRequest) → IsSoundRequest limits accepted r → (r.done ≡ false → is_held live r ≡ true → r.id ≡ None) → is_settled r ≡ true
+    → r.done ≡ false → 1 ≤ length (pieces_planned r.plan) → is_held live r ≡ false
+settled_free limits accepted live r sound order settled undone some = by_held (is_held live r) refl
+  where
+    many : (writing : Bool) → r.writing ≡ writing → length (planned r) ≡ length (pieces_planned r.plan)
+    many true is = rw (is, sound.writes is undone) (length_map _ (pieces_planned r.plan))
+    many false is = rw (is, sound.reads is) (length_map _ (pieces_planned r.plan))
+
+    by_held : (held : Bool) → is_held live r ≡ held → is_held live r ≡ false
+    by_held true is =
+        let sent : 0 < all_sent r = omega (arith, some, many r.writing refl, leb-true (length (planned r)) r.answered settled, sound.answered) in
+        absurd (cc (order undone is, sound.holds undone sent))
+    by_held false is = is
 
 -- ---- the table after a change
 

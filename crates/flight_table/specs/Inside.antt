@@ -1,11 +1,11 @@
 -- How the live requests lie in a slab, and the index of their keys.
-use Rattle.std.specs.Prelude.{◌≡◌, ℕ, ◌<◌, ◌≤◌, ⊤, Option, Some, filter, slice_set, ◌-◌, ◌==◌, Bool, false, ◌&&◌, not, List, [], ◌∷◌, map, length, None, is_some, nat_lt, unwrap_or, if◌then◌else◌}
+use Rattle.std.specs.Prelude.{◌≡◌, ℕ, ◌<◌, ◌≤◌, ⊤, Option, Some, filter, slice_set, ◌-◌, ◌==◌, Bool, false, ◌&&◌, not, List, [], ◌∷◌, map, length, None, is_some, nat_lt, unwrap_or, slice_index_or, suc, if◌then◌else◌}
 use Rattle.std.specs.List.{AllByRecursion, list_any, range_with_len}
 use Rattle.bus_words.specs.Places.{AreDistinct}
 use Rattle.slab.specs.Slab.{Slab, get, ContainsKey, slab_len}
 use Rattle.tl_messages.specs.declared.Operation.TheVariants.{Get}
 use Rattle.flight_table.specs.LiveRequests.{LiveRequest, next_piece, unanswered}
-use Rattle.flight_table.specs.Order.{holders, holds_back, holds_id}
+use Rattle.flight_table.specs.Order.{holders, holds_id}
 use Rattle.flight_table.specs.Tables.{KeyedRequest, KeyedTable, key_in}
 use Rattle.flight_table.specs.declared.TableLimits.{TableLimits}
 
@@ -29,6 +29,15 @@ pub record IsIndex (slab : Slab LiveRequest) (keys : List ℕ) : Type 0 where
   pub there : AllByRecursion (ContainsKey slab) keys
   pub distinct : AreDistinct keys
   pub count : length keys ≡ slab_len slab
+
+-- the slots of the keys hold their places, which rise from this one
+abbrev pub ArePlaces : ℕ → List ℕ → List ℕ → Type 0
+ArePlaces place places [] = ⊤
+ArePlaces place places (key ∷ keys) = (slice_index_or places key 0 ≡ place) × ArePlaces (suc place) places keys
+
+-- a place, after the request at this one was taken out
+abbrev pub lowered_place : ℕ → ℕ → ℕ
+lowered_place place other = other - (if nat_lt place other then 1 else 0)
 
 -- ---- what is kept by place
 
@@ -56,12 +65,11 @@ is_named depth request = is_open depth request && is_some request.id
 abbrev pub count_holders : List LiveRequest → LiveRequest → ℕ
 count_holders live request = length (holders live request)
 
--- what is kept is what it says: which bursts are open, which of their requests hold an ID, how many hold back each, and which nobody holds back
-pub record IsKept (depth : ℕ) (live : List LiveRequest) (open_marks named_marks : List Bool) (counts : List ℕ) (free_marks : List Bool) : Type 0 where
+-- what is kept is what it says: which bursts are open, which of their requests hold an ID, and which nobody holds back
+pub record IsKept (depth : ℕ) (live : List LiveRequest) (open_marks named_marks free_marks : List Bool) : Type 0 where
   pub open_bursts : open_marks ≡ map (is_open depth) live
   pub named_bursts : named_marks ≡ map (is_named depth) live
-  pub holders : counts ≡ map (count_holders live) live
-  pub free : free_marks ≡ map (λ count. count == 0) counts
+  pub free : free_marks ≡ map (λ request. count_holders live request == 0) live
 
 -- what sending and answering make of a request that isn't done; nothing that tells whose it is, or whom it holds back
 pub record IsProgress (old new : LiveRequest) : Type 0 where
@@ -71,12 +79,6 @@ pub record IsProgress (old new : LiveRequest) : Type 0 where
   pub operation : new.operation ≡ old.operation
   pub plan : new.plan ≡ old.plan
   pub done : new.done ≡ old.done
-
--- the counts, of each request that this one holds back lowered by one
-abbrev pub lowered : LiveRequest → List LiveRequest → List ℕ → List ℕ
-lowered request [] counts = []
-lowered request (other ∷ live) [] = []
-lowered request (other ∷ live) (count ∷ counts) = (count - (if holds_back other request then 1 else 0)) ∷ lowered request live counts
 
 -- ---- what is kept by ID
 

@@ -9,4 +9,5 @@ pub mod Rows
 pub mod Spans
 pub mod Laws
 pub mod Inside
+pub mod Conflicts
 pub mod Clients

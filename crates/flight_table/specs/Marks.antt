@@ -1,5 +1,5 @@
 -- Marks at places, as the bits of a number.
-use Rattle.std.specs.Prelude.{ℕ, zero, suc, ◌+◌, ◌*◌, ◌/◌, ◌%◌, ◌^◌, ◌==◌, Bool, false, ◌&&◌, List, [], ◌∷◌, if◌then◌else◌}
+use Rattle.std.specs.Prelude.{ℕ, zero, suc, ◌+◌, ◌*◌, ◌/◌, ◌%◌, ◌^◌, ◌==◌, Bool, ◌&&◌, List, [], ◌∷◌, if◌then◌else◌}
 
 -- the number of which bit k is the mark at place k
 abbrev pub number_of : List Bool → ℕ
@@ -20,9 +20,3 @@ both (mark ∷ marks) (other ∷ others) = (mark && other) ∷ both marks others
 -- a number without the bit at a place; the higher ones move down
 abbrev pub without_bit : ℕ → ℕ → ℕ
 without_bit place bits = bits % 2 ^ place + bits / 2 ^ place / 2 * 2 ^ place
-
--- none of them up to a place, that one too
-abbrev pub unmarked_to : ℕ → List Bool → List Bool
-unmarked_to place [] = []
-unmarked_to zero (mark ∷ marks) = false ∷ marks
-unmarked_to (suc place) (mark ∷ marks) = false ∷ unmarked_to place marks

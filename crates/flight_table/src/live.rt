@@ -1,15 +1,15 @@
 //! The live requests, with what is kept of them by their places in the order of acceptance, so that no question walks over them.
-ghost use Rattle.std.specs.Prelude.{◌≡◌, ◌==◌, ◌<◌, ◌≤◌, ◌^◌, [], ◌∷◌, ◌++◌, Some, None, IfOk, IfSome, IsFalse, IsSome, IsSomeAnd, IsTrue, length, filter, map, position, sum_by};
+ghost use Rattle.std.specs.Prelude.{◌≡◌, ◌==◌, ◌<◌, ◌≤◌, ◌^◌, [], ◌∷◌, ◌++◌, Some, None, false, true, IfOk, IfSome, IsFalse, IsSome, IsSomeAnd, IsTrue, length, filter, map, position, sum_by};
 ghost use Rattle.std.specs.List.{AllByRecursion, list_any};
 ghost use Rattle.std.specs.Option.{option_or};
 ghost use Rattle.bus_words.specs.Places.{change_first, without_first};
 ghost use Rattle.flight_table.specs.Inside.{HasOneHolder, MayName, with_entries};
-ghost use Rattle.flight_table.specs.LiveRequests.{finished};
+ghost use Rattle.flight_table.specs.LiveRequests.{finished, pieces_planned};
 ghost use Rattle.flight_table.specs.Progress.{MayStep, ends, stepped};
 ghost use Rattle.flight_table.specs.declared.live_request.Step.TheVariants.{Done};
-ghost use Rattle.flight_table.specs.Order.{free_id, holds_back, holds_id, may_send};
+ghost use Rattle.flight_table.specs.Order.{free_id, holds_back, holds_id, is_held, may_send};
 ghost use Rattle.flight_table.specs.Tables.{change_entry, has_key, has_number, has_source, is_done_of, is_of, is_undone, key_in, request_in, requests_of};
-ghost use Rattle.flight_table.specs.Laws.{AreRising, HaveOwnKeys};
+ghost use Rattle.flight_table.specs.Laws.{HaveOwnKeys};
 ghost use Rattle.flight_table.specs.Work.{unsent_work, work_of};
 
 use crate::TableLimits;
@@ -19,14 +19,15 @@ use crate::live_request::{LiveRequest, Step};
 use crate::marks::Marks;
 use crate::rows::Rows;
 use crate::slots::{Key, ROOM, Slots};
-use crate::spans::{Span, count_in, lower};
+use crate::spans::{Span, join, release};
 use crate::sums::Sums;
 use std::alloc::{AllocError, Global};
 use std::marker::Model;
 
 /// The live requests by rising number. By its place in this order is kept of each: whether a burst of it is open, that is,
-/// planned, unsent and within the depth; whether it holds an ID besides; and how many others hold it back. By client is kept
-/// which live requests it has, by AXI page which lie in it, and by place what tells whom each holds back.
+/// planned, unsent and within the depth; whether it holds an ID besides; and whether nobody holds it back. By slot is kept of
+/// each how many hold it back, what tells whom it conflicts with, and the set of those that it holds back, as bits at their
+/// slots; by AXI page, which lie in it; and by client, which live requests it has.
 #[derive(Drop)]
 pub(crate) struct Live {
     pub(crate) limits: TableLimits,
@@ -36,19 +37,18 @@ pub(crate) struct Live {
     sums: Sums,
     able: Marks,
     named: Marks,
-    holders: Vec<u8>,
     unheld: Marks,
+    holders: [u8; 64],
+    held: [u64; 64],
+    spans: [Span; 64],
     rows: Rows,
-    spans: Vec<Span>,
 }
 
 impl Model for Live {
-    ghost use Rattle.std.specs.Prelude.{◌≡◌, ◌≤◌, map};
-    ghost use Rattle.std.specs.Vec.{vec_capacity};
+    ghost use Rattle.std.specs.Prelude.{◌≡◌};
     ghost use Rattle.flight_table.specs.Clients.{AreOwned};
     ghost use Rattle.flight_table.specs.Inside.{IsKept, LiveEntries, holders_of_ids};
-    ghost use Rattle.flight_table.specs.Rows.{AreInRows};
-    ghost use Rattle.flight_table.specs.Spans.{span_of};
+    ghost use Rattle.flight_table.specs.Conflicts.{AreInSlots};
     ghost use Rattle.flight_table.specs.Sums.{IsSummed};
     ghost use Rattle.flight_table.specs.Tables.{requests_of};
 
@@ -56,7 +56,7 @@ impl Model for Live {
 
     ghost view = { λ l. record { limits = l.limits; entries = l.slots } };
 
-    ghost invariant = { λ l. IsKept l.limits.depth (requests_of l.slots) l.able l.named l.holders.items l.unheld × (64 ≤ vec_capacity l.holders) × (l.ids ≡ holders_of_ids l.limits.ids l.slots) × IsSummed (requests_of l.slots) l.sums × AreOwned 8 l.slots l.clients × AreInRows (requests_of l.slots) l.rows × (l.spans.items ≡ map span_of (requests_of l.slots)) × (64 ≤ vec_capacity l.spans) };
+    ghost invariant = { λ l. IsKept l.limits.depth (requests_of l.slots) l.able l.named l.unheld × AreInSlots l.slots l.holders l.held l.spans l.rows × (l.ids ≡ holders_of_ids l.limits.ids l.slots) × IsSummed (requests_of l.slots) l.sums × AreOwned 8 l.slots l.clients };
 }
 
 impl Live {
@@ -68,9 +68,12 @@ impl Live {
         let slots = Slots::new(alloc)?;
         let clients = Clients::new(alloc)?;
         let ids = Ids::new(alloc, limits.ids)?;
-        let holders = Vec::with_capacity(alloc, ROOM)?;
         let rows = Rows::new(alloc)?;
-        let spans = Vec::with_capacity(alloc, ROOM)?;
+        let none = Span {
+            start: 0,
+            end: 0,
+            get: true,
+        };
         Ok(Live {
             limits,
             slots,
@@ -79,10 +82,11 @@ impl Live {
             sums: Sums::new(),
             able: Marks::new(),
             named: Marks::new(),
-            holders,
             unheld: Marks::new(),
+            holders: [0; 64],
+            held: [0; 64],
+            spans: [none; 64],
             rows,
-            spans,
         })
     }
 
@@ -92,6 +96,7 @@ impl Live {
         requires client { request.client < 8 }
         requires quota { length (filter (is_of request.client) (requests_of self.old.entries)) < 8 }
         requires no_id { request.id ≡ None }
+        requires sends { request.done ≡ true → request.plan ≡ None }
         requires latest { AllByRecursion (λ earlier. earlier.number < request.number) (requests_of self.old.entries) }
         ensures table { self.new ≡ with_entries (self.old.entries ++ record { key = result; request = request } ∷ []) self.old }
         ensures fresh { request_in result self.old.entries ≡ None }
@@ -99,18 +104,19 @@ impl Live {
     {
         let able = request.is_open(self.limits.depth);
         let page = request.page();
-        let place = self.slots.count();
-        let row = self.rows.row(page, place);
         let span = request.span();
-        let holders = count_in(&self.spans, &span, row);
-        self.rows.add(page, place);
+        let row = self.rows.row(page);
         self.able.push(able);
         self.named.push(request.is_named(able));
-        self.holders.push_reserved(holders);
-        self.unheld.push(holders == 0);
-        self.spans.push_reserved(span);
         self.sums = self.sums.with(&request);
         let key = self.slots.add(request);
+        let slot = key.slot();
+        let holders = join(&self.spans, &span, row, &mut self.held, slot);
+        self.rows.add(page, slot);
+        self.unheld.push(holders == 0);
+        self.holders[slot] = holders;
+        self.held[slot] = 0;
+        self.spans[slot] = span;
         let own = OwnRequest {
             key,
             source: request.source,
@@ -129,25 +135,6 @@ impl Live {
         self.slots.get(key)
     }
 
-    /// The place of the request of this number, where none between it and the first was taken out. What is found doesn't rest
-    /// on it.
-    fn guess(&self, number: u64) -> usize {
-        match self.spans.first() {
-            Some(first) => number.saturating_sub(first.number) as usize,
-            None => 0,
-        }
-    }
-
-    /// The place of the request of a key.
-    fn place_of(&self, key: Key) -> usize
-        requires { IsSome (request_in key self.now.entries) }
-        ensures place { position (has_key key) self.now.entries ≡ Some result }
-        ensures within { result < length (requests_of self.now.entries) }
-    {
-        let guess = self.guess(self.slots.get(key).number);
-        self.slots.place_of(key, guess)
-    }
-
     /// The request of a key takes a step by which it isn't done. It is inline as the step is.
     #[inline(always)]
     pub(crate) fn take(&mut self, key: Key, step: Step)
@@ -157,7 +144,7 @@ impl Live {
         ensures table { self.new ≡ with_entries (change_first (has_key key) (change_entry (stepped step)) self.old.entries) self.old }
         ensures keys { HaveOwnKeys self.new.entries }
     {
-        let place = self.place_of(key);
+        let place = self.slots.place_of(key);
         let old = self.slots.get(key);
         let id = old.id;
         let worth = old.worth(step);
@@ -173,32 +160,27 @@ impl Live {
     /// The request of a key is done from here on, holds back none, and holds no ID.
     pub(crate) fn finish(&mut self, key: Key)
         requires step { IsSomeAnd (request_in key self.old.entries) (MayStep Done) }
-        requires rising { AreRising (map (λ request. request.number) (requests_of self.old.entries)) }
+        requires free { IsSomeAnd (request_in key self.old.entries) (λ old. old.done ≡ false → 1 ≤ length (pieces_planned old.plan) → is_held (requests_of self.old.entries) old ≡ false) }
         requires id { IsSomeAnd (request_in key self.old.entries) (λ old. IfSome old.id (HasOneHolder self.old.limits.ids (requests_of self.old.entries))) }
         ensures table { self.new ≡ with_entries (change_first (has_key key) (change_entry finished) self.old.entries) self.old }
         ensures keys { HaveOwnKeys self.new.entries }
     {
-        let place = self.place_of(key);
+        let place = self.slots.place_of(key);
         let request = self.slots.get(key);
         let client = request.client;
         let id = request.id;
         let worth = request.worth(Step::Done);
-        let mut row = self.rows.row(request.page(), self.slots.count());
-        row.clear_to(place);
-        lower(
-            &self.spans,
-            &request.span(),
-            row,
-            &mut self.holders,
-            &mut self.unheld,
-        );
+        let slot = key.slot();
+        self.rows.remove(request.open_page(), slot);
+        let held = Marks::of(self.held[slot], ROOM);
+        release(&self.slots, held, &mut self.holders, &mut self.unheld);
+        self.held[key.slot()] = 0;
         self.slots.take(key, Step::Done);
         self.able.put(place, false);
         self.named.put(place, false);
         self.ids.rename(key, id, None);
         self.sums = self.sums.less(worth);
         self.clients.finish(client, key);
-        self.spans[place].done = true;
     }
 
     /// Takes the request of a key out, which is done.
@@ -208,15 +190,12 @@ impl Live {
         ensures table { self.new ≡ with_entries (without_first (has_key key) self.old.entries) self.old }
         ensures keys { HaveOwnKeys self.new.entries }
     {
-        let place = self.place_of(key);
+        let place = self.slots.place_of(key);
         let client = self.slots.get(key).client;
         self.able.remove(place);
         self.named.remove(place);
-        self.holders.remove(place);
         self.unheld.remove(place);
-        self.rows.remove(place);
-        self.spans.remove(place);
-        self.slots.remove(key, place);
+        self.slots.remove(key);
         self.clients.remove(client, key);
     }
 
@@ -240,7 +219,7 @@ impl Live {
         requires { IsSome (request_in key self.now.entries) }
         ensures { IfSome (request_in key self.now.entries) (λ request. result ≡ length (filter (holds_back request) (requests_of self.now.entries))) }
     {
-        self.holders[self.place_of(key)]
+        self.holders[key.slot()]
     }
 
     /// Whether a live request of a client has this source.

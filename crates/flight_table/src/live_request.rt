@@ -4,7 +4,7 @@ ghost use Rattle.flight_table.specs.LiveRequests.{awaits_write, flight_for, read
 ghost use Rattle.flight_table.specs.Inside.{is_open};
 ghost use Rattle.std.specs.List.{AllByRecursion};
 ghost use Rattle.burst_plan.specs.Pieces.{IsPlannable, range_end};
-ghost use Rattle.flight_table.specs.Rows.{page_of};
+ghost use Rattle.flight_table.specs.Rows.{open_page, page_of};
 ghost use Rattle.flight_table.specs.Spans.{span_of};
 ghost use Rattle.flight_table.specs.Progress.{IsWorth, MayStep, stepped};
 ghost use Rattle.flight_table.specs.Work.{AreWorth, later_work, unsent_work, work_of};
@@ -126,6 +126,13 @@ impl LiveRequest {
             }
             None => None,
         }
+    }
+
+    /// The same of a request that isn't done.
+    pub(crate) fn open_page(&self) -> Option<u32>
+        ensures { result ≡ open_page self.now }
+    {
+        if self.done { None } else { self.page() }
     }
 
     /// How many pieces the plan has.
@@ -282,10 +289,8 @@ impl LiveRequest {
             None => (0, 0),
         };
         Span {
-            number: self.number,
             start,
             end,
-            done: self.done,
             get: matches!(self.operation, Operation::Get),
         }
     }

@@ -1,7 +1,7 @@
 //! Marks at places, as the bits of a word.
 ghost use Rattle.std.specs.Prelude.{◌≡◌, ◌<◌, ◌≤◌, ◌^◌, Bool, ◌&&◌, true, false, List, [], ◌∷◌, ◌++◌, length, None, IfSome, position, replicate, slice_set};
 ghost use Rattle.std.specs.List.{remove};
-ghost use Rattle.flight_table.specs.Marks.{both, marks_of, number_of, unmarked_to, without_bit};
+ghost use Rattle.flight_table.specs.Marks.{both, marks_of, number_of, without_bit};
 
 use std::marker::Model;
 
@@ -68,14 +68,6 @@ impl Marks {
     {
         self.bits = without_bit(self.bits, place);
         self.count -= 1;
-    }
-
-    /// No marks up to a place, that one too.
-    pub(crate) fn clear_to(&mut self, place: usize)
-        requires { place < length self.old }
-        ensures { self.new ≡ unmarked_to place self.old }
-    {
-        self.bits = ((self.bits >> place) / 2 * 2) << place;
     }
 
     /// The first place that is marked.

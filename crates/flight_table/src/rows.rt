@@ -1,24 +1,24 @@
-//! Which live requests lie in which AXI page. A request's range lies in one page, so that it can conflict only with those of
-//! its row.
-ghost use Rattle.std.specs.Prelude.{◌≡◌, ℕ, ◌+◌, ◌^◌, ◌<◌, ◌≤◌, [], IfOk, None, Some, if◌then◌else◌, length, map, position, slice_index_or};
+//! Which live requests lie in which AXI page until they are done. A request's range lies in one page, so that only those of its
+//! row can hold it back.
+ghost use Rattle.std.specs.Prelude.{◌≡◌, ℕ, ◌+◌, ◌^◌, ◌<◌, ◌≤◌, [], IfOk, IfSome, None, Some, if◌then◌else◌, length, map, position, slice_index_or};
 ghost use Rattle.bus_words.specs.Places.{AreDistinct};
-ghost use Rattle.flight_table.specs.Marks.{marks_of, without_bit};
-ghost use Rattle.flight_table.specs.Rows.{bits_in, bits_of, cut, has_page, is_vacant, lies_in};
+ghost use Rattle.flight_table.specs.Marks.{marks_of};
+ghost use Rattle.flight_table.specs.Rows.{bits_in, bits_of, has_page, is_vacant, lies_in};
 ghost use Rattle.flight_table.specs.declared.rows.Row.{Row};
 
-use crate::marks::{Marks, without_bit};
+use crate::marks::Marks;
 use crate::slots::ROOM;
 use std::alloc::{AllocError, Global};
 use std::marker::Model;
 
-/// An AXI page, and the places of the live requests that lie in it: bit `k` is for place `k` in the order of acceptance.
+/// An AXI page, and the slots of the requests that lie in it and aren't done: bit `k` is for slot `k`.
 #[derive(Clone, Copy)]
 pub(crate) struct Row {
     pub(crate) page: u32,
-    pub(crate) places: u64,
+    pub(crate) slots: u64,
 }
 
-/// A row for each page that live requests lie in. A row without places is free for another page.
+/// A row for each page that such requests lie in. A row without slots is free for another page.
 #[derive(Drop)]
 pub(crate) struct Rows {
     rows: Vec<Row>,
@@ -65,30 +65,11 @@ fn place_of(rows: &[Row], page: u32) -> Option<usize>
     searched(rows, page)
 }
 
-/// The place of a row without places.
+/// The place of a row without slots.
 fn first_vacant(rows: &[Row]) -> Option<usize>
     ensures { result ≡ position is_vacant rows.now }
 {
-    rows.iter().position(|row| row.places == 0)
-}
-
-/// Takes the request at a place out of all rows; the later ones move up.
-fn take_out(rows: &mut [Row], place: usize)
-    requires { place < 64 }
-    ensures { rows.new ≡ map (cut place) rows.old }
-{
-    for row in rows.iter_mut() {
-        row.places = without_bit(row.places, place);
-    }
-}
-
-/// The same of the first place, by a shift of each row.
-fn take_first_out(rows: &mut [Row])
-    ensures { rows.new ≡ map (cut 0) rows.old }
-{
-    for row in rows.iter_mut() {
-        row.places /= 2;
-    }
+    rows.iter().position(|row| row.slots == 0)
 }
 
 impl Rows {
@@ -100,29 +81,27 @@ impl Rows {
         Ok(Rows { rows })
     }
 
-    /// The places of the row of a page, where it has one.
-    fn places(&self, page: Option<u32>) -> u64
-        ensures places { result ≡ bits_in page self.now }
-        ensures pages { AreDistinct (map (λ row. row.page) self.now) }
+    /// The slots of the row of a page, where it has one.
+    fn slots(&self, page: Option<u32>) -> u64
+        ensures { result ≡ bits_in page self.now }
     {
         let _ = &self.rows;
         let Some(page) = page else {
             return 0;
         };
         match place_of(&self.rows, page) {
-            Some(k) => self.rows[k].places,
+            Some(k) => self.rows[k].slots,
             None => 0,
         }
     }
 
-    /// Marks of the live requests that lie in a page, of which there are so many.
-    pub(crate) fn row(&self, page: Option<u32>, count: usize) -> Marks
-        requires few { count ≤ 64 }
-        requires fits { bits_in page self.now < 2 ^ count }
-        ensures row { result ≡ marks_of count (bits_in page self.now) }
+    /// Marks at the slots of the requests that lie in a page.
+    pub(crate) fn row(&self, page: Option<u32>) -> Marks
+        ensures row { result ≡ marks_of 64 (bits_in page self.now) }
         ensures pages { AreDistinct (map (λ row. row.page) self.now) }
     {
-        Marks::of(self.places(page), count)
+        let _ = &self.rows;
+        Marks::of(self.slots(page), ROOM)
     }
 
     /// The row of a page, which is a new one where it has none.
@@ -135,7 +114,7 @@ impl Rows {
         if let Some(k) = place_of(&self.rows, page) {
             return k;
         }
-        let row = Row { page, places: 0 };
+        let row = Row { page, slots: 0 };
         if let Some(k) = first_vacant(&self.rows) {
             self.rows[k] = row;
             return k;
@@ -144,29 +123,30 @@ impl Rows {
         self.rows.len() - 1
     }
 
-    /// The latest request, at this place, lies in a page, or in none.
-    pub(crate) fn add(&mut self, page: Option<u32>, place: usize)
+    /// The request of a slot lies in a page, or in none, from here on.
+    pub(crate) fn add(&mut self, page: Option<u32>, slot: usize)
         requires room { position is_vacant self.old ≡ None → length self.old < 64 }
-        requires place { place < 64 }
-        requires fits { bits_in page self.old < 2 ^ place }
-        ensures { (other : ℕ) → bits_of other self.new ≡ bits_of other self.old + (if lies_in (Some other) page then 2 ^ place else 0) }
+        requires slot { slot < 64 }
+        requires fits { bits_in page self.old + 2 ^ slot < 2 ^ 64 }
+        ensures { (other : ℕ) → bits_of other self.new ≡ bits_of other self.old + (if lies_in (Some other) page then 2 ^ slot else 0) }
     {
         let Some(page) = page else {
             return;
         };
         let k = self.claim(page);
-        self.rows[k].places += 1u64 << place;
+        self.rows[k].slots += 1u64 << slot;
     }
 
-    /// Takes the request at a place out; the later ones move up.
-    pub(crate) fn remove(&mut self, place: usize)
-        requires { place < 64 }
-        ensures { self.new ≡ map (cut place) self.old }
+    /// The request of a slot, which lies in a page or in none, lies in none from here on.
+    pub(crate) fn remove(&mut self, page: Option<u32>, slot: usize)
+        requires slot { slot < 64 }
+        requires there { IfSome page (λ p. 2 ^ slot ≤ bits_of p self.old) }
+        ensures { (other : ℕ) → bits_of other self.new + (if lies_in (Some other) page then 2 ^ slot else 0) ≡ bits_of other self.old }
     {
-        if place == 0 {
-            take_first_out(&mut self.rows);
-        } else {
-            take_out(&mut self.rows, place);
-        }
+        let Some(page) = page else {
+            return;
+        };
+        let k = place_of(&self.rows, page).unwrap();
+        self.rows[k].slots -= 1u64 << slot;
     }
 }

@@ -1,8 +1,8 @@
 //! The live requests in a slab, and their keys by rising number.
-ghost use Rattle.std.specs.Prelude.{◌≡◌, ◌==◌, ◌<◌, ◌≤◌, Bool, [], ◌∷◌, ◌++◌, Some, None, IfOk, IfSome, IsSome, IsSomeAnd, length, position};
+ghost use Rattle.std.specs.Prelude.{◌≡◌, ◌<◌, ◌≤◌, ℕ, Bool, [], ◌∷◌, ◌++◌, Some, IfOk, IfSome, IsSome, IsSomeAnd, None, length, map, position};
+ghost use Rattle.flight_table.specs.Inside.{lowered_place};
 ghost use Rattle.flight_table.specs.LiveRequests.{LiveRequest};
-ghost use Rattle.std.specs.Vec.{vec_len, vec_capacity};
-ghost use Rattle.bus_words.specs.Places.{AreDistinct, change_first, without_first};
+ghost use Rattle.bus_words.specs.Places.{change_first, without_first};
 ghost use Rattle.flight_table.specs.Tables.{change_entry, has_key, has_number, key_in, request_in, requests_of};
 ghost use Rattle.flight_table.specs.Laws.{HaveOwnKeys};
 ghost use Rattle.flight_table.specs.Progress.{MayStep, stepped};
@@ -20,7 +20,7 @@ pub(crate) const ROOM: usize = 64;
 /// are 64 of them, so that what else is kept of a live request may lie in the slot of its key.
 #[derive(Clone, Copy, PartialEq, Eq)]
 pub struct Key {
-    slot: usize,
+    slot: u8,
 }
 
 impl Model for Key {
@@ -41,57 +41,38 @@ impl Key {
         ensures value { result ≡ self }
         ensures within { result < 64 }
     {
-        self.slot
+        usize::from(self.slot)
     }
 }
 
-/// The live requests, each in a slab under its key, and the keys in the order of acceptance.
+/// The live requests, each in a slab under its key, the keys in the order of acceptance, and by slot its request's place there.
 #[derive(Drop)]
 pub(crate) struct Slots {
     requests: Slab<LiveRequest>,
     order: Vec<Key>,
+    places: [u8; 64],
 }
 
 impl Model for Slots {
-    ghost use Rattle.std.specs.Prelude.{◌≡◌, List, ◌≤◌};
+    ghost use Rattle.std.specs.Prelude.{◌≡◌, List, ◌≤◌, length};
     ghost use Rattle.std.specs.Vec.{vec_len, vec_capacity};
-    ghost use Rattle.flight_table.specs.Inside.{IsIndex, entries_in};
+    ghost use Rattle.flight_table.specs.Inside.{ArePlaces, IsIndex, entries_in};
     ghost use Rattle.flight_table.specs.Tables.{KeyedRequest};
 
     ghost Value = { List KeyedRequest };
 
     ghost view = { λ l. entries_in l.requests l.order.items };
 
-    ghost invariant = { λ l. IsIndex l.requests l.order.items × (64 ≤ vec_capacity l.order) × (l.requests.capacity ≡ 64) × (vec_len l.order ≤ 64) };
+    ghost invariant = { λ l. IsIndex l.requests l.order.items × (64 ≤ vec_capacity l.order) × (l.requests.capacity ≡ 64) × (vec_len l.order ≤ 64) × ArePlaces 0 l.places l.order.items × (length l.places ≡ 64) };
 }
 
-/// The place of a key.
-fn place_of(order: &[Key], key: Key) -> Option<usize>
-    ensures { result ≡ position (λ k. k == key) order.now }
+/// The places, after the request at one of them was taken out: the later ones fall by one.
+fn lower(places: &mut [u8; 64], place: u8)
+    ensures { places.new ≡ map (lowered_place place) places.old }
 {
-    order.iter().position(|k| *k == key)
-}
-
-/// The place of a key, of which no two are the same; where it stands at `guess`, no other place is looked at.
-fn place_from(order: &[Key], key: Key, guess: usize) -> Option<usize>
-    requires { AreDistinct order.now }
-    ensures { result ≡ position (λ k. k == key) order.now }
-{
-    if guess < order.len() && order[guess] == key {
-        return Some(guess);
+    for other in places.iter_mut() {
+        *other -= u8::from(*other > place);
     }
-    place_of(order, key)
-}
-
-/// Takes the first key that is this one out; no two are the same.
-fn take_out(order: &mut Vec<Key>, key: Key, guess: usize)
-    requires there { IsSome (position (λ k. k == key) order.old.items) }
-    requires distinct { AreDistinct order.old.items }
-    ensures items { order.new.items ≡ without_first (λ k. k == key) order.old.items }
-    ensures capacity { vec_capacity order.new ≡ vec_capacity order.old }
-{
-    let place = place_from(order, key, guess).unwrap();
-    order.remove(place);
 }
 
 impl Slots {
@@ -105,7 +86,11 @@ impl Slots {
             return Err(AllocError);
         }
         let order = Vec::with_capacity(alloc, ROOM)?;
-        Ok(Slots { requests, order })
+        Ok(Slots {
+            requests,
+            order,
+            places: [0; 64],
+        })
     }
 
     /// Adds the latest request, and answers its key.
@@ -113,10 +98,12 @@ impl Slots {
         requires { length self.old < 64 }
         ensures entries { self.new ≡ self.old ++ record { key = result; request = request } ∷ [] }
         ensures fresh { request_in result self.old ≡ None }
+        ensures old_keys { HaveOwnKeys self.old }
         ensures keys { HaveOwnKeys self.new }
     {
         let slot = self.requests.insert_reserved(request);
-        let key = Key { slot };
+        let key = Key { slot: slot as u8 };
+        self.places[slot] = self.order.len() as u8;
         self.order.push_reserved(key);
         key
     }
@@ -135,7 +122,7 @@ impl Slots {
         ensures request { request_in key self.now ≡ Some result.now }
         ensures keys { HaveOwnKeys self.now }
     {
-        &self.requests[key.slot]
+        &self.requests[key.slot()]
     }
 
     /// The request of a key takes a step, where it lies.
@@ -145,16 +132,27 @@ impl Slots {
         ensures entries { self.new ≡ change_first (has_key key) (change_entry (stepped step)) self.old }
         ensures keys { HaveOwnKeys self.new }
     {
-        self.requests[key.slot].take(step);
+        self.requests[key.slot()].take(step);
     }
 
-    /// The place of a key in the order of acceptance; where it stands at `guess`, no other place is looked at.
-    pub(crate) fn place_of(&self, key: Key, guess: usize) -> usize
+    /// The place of a slot's request in the order of acceptance.
+    pub(crate) fn place_in(&self, slot: usize) -> usize
+        requires slot { slot < 64 }
+        requires live { IsSome (request_in slot self.now) }
+        ensures place { position (has_key slot) self.now ≡ Some result }
+        ensures within { result < length (requests_of self.now) }
+        ensures keys { HaveOwnKeys self.now }
+    {
+        usize::from(self.places[slot])
+    }
+
+    /// The place of a key in the order of acceptance.
+    pub(crate) fn place_of(&self, key: Key) -> usize
         requires { IsSome (request_in key self.now) }
         ensures place { position (has_key key) self.now ≡ Some result }
         ensures within { result < length (requests_of self.now) }
     {
-        place_from(&self.order, key, guess).unwrap()
+        self.place_in(key.slot())
     }
 
     /// The key at a place, where there is one.
@@ -166,14 +164,16 @@ impl Slots {
         key_at(&self.order, place)
     }
 
-    /// Takes the request of a key out; where it stands at `guess`, no other place is looked at.
-    pub(crate) fn remove(&mut self, key: Key, guess: usize)
+    /// Takes the request of a key out.
+    pub(crate) fn remove(&mut self, key: Key)
         requires { IsSome (request_in key self.old) }
         ensures entries { self.new ≡ without_first (has_key key) self.old }
         ensures keys { HaveOwnKeys self.new }
     {
-        take_out(&mut self.order, key, guess);
-        self.requests.try_remove(key.slot);
+        let place = self.places[key.slot()];
+        self.order.remove(usize::from(place));
+        lower(&mut self.places, place);
+        self.requests.try_remove(key.slot());
     }
 
     /// The key of the request with this number.

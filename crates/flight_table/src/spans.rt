@@ -1,20 +1,19 @@
-//! What of each live request tells whom it holds back.
-ghost use Rattle.std.specs.Prelude.{◌≡◌, ◌↔◌, ◌==◌, ◌≤◌, Option, IsTrue, length, map};
-ghost use Rattle.std.specs.Vec.{vec_capacity, vec_len};
+//! What of each live request tells whom it holds back, by slot.
+ghost use Rattle.std.specs.Prelude.{◌≡◌, ◌↔◌, ◌==◌, ◌<◌, ℕ, Option, IsSome, IsTrue, length, map, slice_index_or, true, false};
 ghost use Rattle.burst_plan.specs.Pieces.{PlannedRange};
 ghost use Rattle.flight_table.specs.Order.{HaveCommonAddress};
-ghost use Rattle.flight_table.specs.Spans.{IsSpanOf, counted_in, lowered_in, span_holds, spans_meet};
+ghost use Rattle.flight_table.specs.Spans.{IsSpanOf, counted_in, joined_in, lowered_in, spans_conflict, spans_meet};
+ghost use Rattle.flight_table.specs.Tables.{request_in};
 
 use crate::marks::Marks;
+use crate::slots::Slots;
 
-/// A live request's number, its range of AXI addresses from `start` to before `end`, which is empty where it sends nothing,
-/// whether it is done, and whether it is a Get.
+/// A live request's range of AXI addresses from `start` to before `end`, which is empty where it sends nothing, and whether it
+/// is a Get.
 #[derive(Clone, Copy)]
 pub(crate) struct Span {
-    pub(crate) number: u64,
     pub(crate) start: u64,
     pub(crate) end: u64,
-    pub(crate) done: bool,
     pub(crate) get: bool,
 }
 
@@ -27,52 +26,48 @@ impl Span {
         (self.start < other.end) & (other.start < self.end)
     }
 
-    /// Whether the request holds back another: it was accepted earlier, isn't done, sent or waiting, and they conflict, that
-    /// is, their ranges share a byte and at least one is no Get.
-    fn holds_back(&self, later: &Span) -> bool
-        ensures { result ≡ span_holds later.now self.now }
+    /// Whether the requests conflict: their ranges share a byte, and at least one is no Get.
+    fn conflicts(&self, other: &Span) -> bool
+        ensures { result ≡ spans_conflict self.now other.now }
     {
-        self.meets(later) && self.number < later.number && !self.done && !(self.get && later.get)
+        self.meets(other) & !(self.get & other.get)
     }
 }
 
-/// How many of the requests at the marked places hold back this one.
-pub(crate) fn count_in(spans: &[Span], request: &Span, mut row: Marks) -> u8
-    requires places { length row ≡ length spans.now }
-    requires few { length spans.now ≤ 64 }
-    ensures { result ≡ counted_in row request.now spans.now }
+/// How many of the requests at the marked slots conflict with this one, which each of them then holds back: the bit of its slot
+/// is set in the set of each.
+pub(crate) fn join(
+    spans: &[Span; 64],
+    request: &Span,
+    mut row: Marks,
+    held: &mut [u64; 64],
+    slot: usize,
+) -> u8
+    requires slots { length row ≡ 64 }
+    requires slot { slot < 64 }
+    ensures count { result ≡ counted_in row request.now spans.now }
+    ensures held { held.new ≡ joined_in row request.now spans.now slot held.old }
 {
     let mut count = 0u8;
-    while let Some(place) = row.take_first() {
-        let earlier = spans[place];
-        count += u8::from(earlier.holds_back(request));
+    while let Some(earlier) = row.take_first() {
+        let holds = spans[earlier].conflicts(request);
+        count += u8::from(holds);
+        held[earlier] |= u64::from(holds) << slot;
     }
     count
 }
 
-/// Lowers the count of each request at a marked place that this one holds back, and marks those that nobody holds back any
-/// more.
-pub(crate) fn lower(
-    spans: &[Span],
-    request: &Span,
-    mut row: Marks,
-    holders: &mut Vec<u8>,
-    unheld: &mut Marks,
-)
-    requires places { length row ≡ length spans.now }
-    requires holders { vec_len holders.old ≡ length spans.now }
-    requires unheld { unheld.old ≡ map (λ count. count == 0) holders.old.items }
-    ensures holders { holders.new.items ≡ lowered_in row request.now spans.now holders.old.items }
-    ensures unheld { unheld.new ≡ map (λ count. count == 0) holders.new.items }
-    ensures capacity { vec_capacity holders.new ≡ vec_capacity holders.old }
+/// Lowers the count of each request at a marked slot, and marks by place those that nobody holds back any more.
+pub(crate) fn release(slots: &Slots, mut held: Marks, holders: &mut [u8; 64], unheld: &mut Marks)
+    requires slots { length held ≡ 64 }
+    requires live { (slot : ℕ) → slice_index_or held slot false ≡ true → IsSome (request_in slot slots.now) }
+    requires unheld { unheld.old ≡ map (λ entry. slice_index_or holders.old entry.key 0 == 0) slots.now }
+    ensures holders { holders.new ≡ lowered_in held holders.old }
+    ensures unheld { unheld.new ≡ map (λ entry. slice_index_or holders.new entry.key 0 == 0) slots.now }
 {
-    while let Some(place) = row.take_first() {
-        let later = spans[place];
-        if !request.holds_back(&later) {
-            continue;
-        }
-        let count = holders[place].saturating_sub(1);
-        holders[place] = count;
-        unheld.put(place, count == 0);
+    while let Some(slot) = held.take_first() {
+        let count = holders[slot].saturating_sub(1);
+        holders[slot] = count;
+        unheld.put(slots.place_in(slot), count == 0);
     }
 }

@@ -11,6 +11,6 @@ pub returns-then-rows-guess : goal.returns-then-rows-guess
 returns-then-rows-guess c =
     let rows = c.args.rows.now in
     let g = c.guess-guess.result in
-    let none : Row = record { page = 0; places = 0 } in
+    let none : Row = record { page = 0; slots = 0 } in
     let at = get_or-map (λ (row : Row). row.page) rows g none 0 c.if-guess-rows.true ∙ c.if-rows-guess.true in
     sym (sym (position_map (λ (row : Row). row.page) (λ page. page == c.args.page) rows) ∙ position_here (pages_of rows) g 0 c.args.page c.requires (rw (length_map (λ (row : Row). row.page) rows) c.if-guess-rows.true) at)

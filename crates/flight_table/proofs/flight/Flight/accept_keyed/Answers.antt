@@ -1,9 +1,9 @@
 use Rattle.std.proofs.Common.{ap, ◌+◌, [], ◌∷◌, ◌++◌, refl}
 use Rattle.flight_table.specs.Inside.{keyed_of}
-use Rattle.flight_table.specs.LiveRequests.{LiveRequest}
+use Rattle.flight_table.specs.LiveRequests.{LiveRequest, plan_for}
 use Rattle.flight_table.specs.Laws.{IsSound}
 use Rattle.flight_table.specs.Tables.{KeyedTable}
-use Rattle.flight_table.proofs.NewRequests.{accepted_laws, is_latest, known_client, quota_left, room_left}
+use Rattle.flight_table.proofs.NewRequests.{accepted_laws, is_latest, known_client, none_planned, quota_left, room_left}
 use Rattle.flight_table.proofs.flight.Flight.accept_keyed.Goals as goal
 
 pub add-key-requires-clause-room : goal.add-key-requires-clause-room
@@ -25,6 +25,9 @@ add-key-requires-clause-latest c = rw c.accepted.ensures (is_latest (keyed_of c.
 
 pub add-key-requires-clause-no_id : goal.add-key-requires-clause-no_id
 add-key-requires-clause-no_id c = ap (λ (q : LiveRequest). q.id) c.accepted.ensures
+
+pub add-key-requires-clause-sends : goal.add-key-requires-clause-sends
+add-key-requires-clause-sends c = rw c.accepted.ensures (none_planned (plan_for c.args.request.now.operation c.args.plan))
 
 sound : (c : goal.After-self-1) → IsSound (keyed_of (c.self.inside.accepted + 1) c.add-key.new.self)
 sound c =

@@ -1,8 +1,7 @@
-use Rattle.flight_table.proofs.Kept.{counted}
+use Rattle.flight_table.proofs.Conflicts.{slot_count}
 use Rattle.flight_table.proofs.live.Live.count_holders.Goals as goal
 
 pub returns : goal.returns
 returns c =
     let i = c.self.inside in
-    rw (← c.self.view_is)
-    (counted i.limits.depth c.args.key i.slots i.able i.named i.holders.items i.unheld c.place_of.result c.index.result.now c.self.invariant.0 (rw (← c.self.view_is) at c.place_of.ensures.place) c.index.ensures)
+    rw (← c.self.view_is, c.slot.ensures.value) (slot_count i.slots i.holders i.held i.spans i.rows c.args.key c.self.invariant.1)

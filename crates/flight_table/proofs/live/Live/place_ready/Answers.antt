@@ -9,10 +9,10 @@ pub returns-then-has_free : goal.returns-then-has_free
 returns-then-has_free c =
     let i = c.self.inside in
     let free = ap is_some (ap (position is_none) c.self.invariant.2 ∙ first_free i.limits.ids i.slots) in
-    rw (← c.self.view_is) (c.first_common.ensures ∙ first_with i.limits (requests_of i.slots) i.able i.named i.unheld i.holders.items c.self.invariant.0 (sym free ∙ sym c.has_free.ensures ∙ c.if-has_free.true))
+    rw (← c.self.view_is) (c.first_common.ensures ∙ first_with i.limits (requests_of i.slots) i.able i.named i.unheld c.self.invariant.0 (sym free ∙ sym c.has_free.ensures ∙ c.if-has_free.true))
 
 pub returns : goal.returns
 returns c =
     let i = c.self.inside in
     let free = ap is_some (ap (position is_none) c.self.invariant.2 ∙ first_free i.limits.ids i.slots) in
-    rw (← c.self.view_is) (c.first_common-2.ensures ∙ first_without i.limits (requests_of i.slots) i.able i.named i.unheld i.holders.items c.self.invariant.0 (sym free ∙ sym c.has_free.ensures ∙ c.if-has_free.false))
+    rw (← c.self.view_is) (c.first_common-2.ensures ∙ first_without i.limits (requests_of i.slots) i.able i.named i.unheld c.self.invariant.0 (sym free ∙ sym c.has_free.ensures ∙ c.if-has_free.false))

@@ -2,7 +2,7 @@ use lib.Bits.{bit_and}
 use Rattle.std.proofs.Common.{◌≡◌, ℕ, ◌-◌, ◌^◌, ◌<◌, ◌≤◌, List, Bool, false, Option, Some, arith, length, length-set, set, sym, ◌∙◌}
 use Rattle.std.specs.List.{position}
 use Rattle.flight_table.specs.Marks.{marks_of, number_of}
-use Rattle.flight_table.proofs.Lowered.{fewer_marks, next_marked}
+use Rattle.flight_table.proofs.Walks.{fewer_marks, next_marked}
 use Rattle.flight_table.proofs.MarkLaws.{as_marks, as_number, first_taken, is_set}
 use Rattle.flight_table.proofs.marks.Marks.take_first.Goals as goal
 

@@ -21,7 +21,7 @@ pub invariant_of-self : goal.invariant_of-self
 invariant_of-self c =
     let rows = c.self.inside.rows.items in
     let k = c.in-Some-first_vacant.k in
-    let new : Row = record { page = c.args.page; places = 0 } in (
+    let new : Row = record { page = c.args.page; slots = 0 } in (
       rw (map-set (λ (row : Row). row.page) rows k new)
           (distinct_set (pages_of rows) k c.args.page c.self.invariant.0 (others c.args.page c.deref.result.now rows c.place_of.result c.deref.ensures.value c.place_of.ensures c.in_default.is)),
       c.self.invariant.1,
@@ -44,7 +44,7 @@ push_reserved-requires c =
 pub invariant_of-self-2 : goal.invariant_of-self-2
 invariant_of-self-2 c =
     let rows = c.self.inside.rows.items in
-    let new : Row = record { page = c.args.page; places = 0 } in
+    let new : Row = record { page = c.args.page; slots = 0 } in
     let room : 64 ≤ vec_capacity c.push_reserved.new.self = omega (arith, c.self.invariant.1, c.push_reserved.ensures.capacity) in (
       rw (c.push_reserved.ensures.items, map_push (λ (row : Row). row.page) rows new)
           (distinct-append c.args.page (pages_of rows) c.self.invariant.0 (others c.args.page c.deref.result.now rows c.place_of.result c.deref.ensures.value c.place_of.ensures c.in_default.is)),
