@@ -154,8 +154,8 @@ pub settled_free : (limits : TableLimits) (accepted : ℕ) (live : List LiveRequ
 settled_free limits accepted live r sound order settled undone some = by_held (is_held live r) refl
   where
     many : (writing : Bool) → r.writing ≡ writing → length (planned r) ≡ length (pieces_planned r.plan)
-    many true is = rw (is, sound.writes is undone) (length_map _ (pieces_planned r.plan))
-    many false is = rw (is, sound.reads is) (length_map _ (pieces_planned r.plan))
+    many true is = rw (is, sound.writes is undone) refl
+    many false is = rw (is, sound.reads is) refl
 
     by_held : (held : Bool) → is_held live r ≡ held → is_held live r ≡ false
     by_held true is =
