@@ -37,7 +37,7 @@ use Rattle.world.specs.World.{Outcome, WorldState, next, opening_world}
 use Rattle.world.specs.declared.Step.{Step}
 use Rattle.world.proofs.Events.{each_way}
 use Rattle.world_run.specs.InOrder.{HoldsBack, is_finished, has_begun, is_over, started, IsForeseen, IsForeseenBy, IsInOrder, KeepsOrder, IsHistory}
-use Rattle.world_run.specs.Serial.{Order, asked, gives_byte, is_intent, touches, touches_byte, touches_from, writes, writes_byte, writes_from}
+use Rattle.world_run.specs.Serial.{Order, asked, gives_byte, is_intent, touches, touches_byte, touches_from, writes, writes_from}
 use Rattle.meaning.specs.Meaning.{Bytes}
 use Rattle.world_run.proofs.BytesLeft.{message_touches}
 use Rattle.world_run.proofs.History.{history_moves}
@@ -91,8 +91,7 @@ no_get_at : (faults : Faults) (q : WholeRequest) (place : Option ℕ) (x : ℕ) 
 no_get_at faults q place x there = grind (arith, there)
 
 no_get : (order : Order) (message : HeldMessage) (k x : ℕ) → asked order k ≡ Some (request_of message) → writes order k x ≡ true → is_get message.operation ≡ false
-no_get order message k x is there =
-    no_get_at order.faults (request_of message) (address_of order.regions (request_of message)) x (sym (ap (λ (o : Option WholeRequest). writes_byte order o x) is) ∙ there)
+no_get order message k x is there = grind (arith, is, there)
 
 first_only : (a b : Bool) → (a || b) ≡ true → b ≡ false → a ≡ true
 first_only a b one other = grind (arith, one, other)
