@@ -165,9 +165,6 @@ all_carried_out order = all_carried order.faults order.regions order.requests ze
 
 -- ---- a request of a number, at its AXI address
 
-meaning_is : (faults : Faults) (regions : List Region) (q : WholeRequest) (m : Bytes) → (meaning faults regions q m).after ≡ (effect_at faults q m (address_of regions q)).after
-meaning_is faults regions q m = grind arith
-
 pub byte_left_is : (order : Order) (number : ℕ) (q : WholeRequest) (address x : ℕ) → asked order number ≡ Some q → address_of order.regions q ≡ Some address
     → byte_left order number x ≡ (effect order.faults q (bytes_before order number) address q.operation (standing_at order.faults address) (is_bad order.faults address)).after x
 byte_left_is order number q address x is at = grind (arith, is, at)
@@ -175,10 +172,6 @@ byte_left_is order number q address x is at = grind (arith, is, at)
 pub writes_is : (order : Order) (number : ℕ) (q : WholeRequest) (address x : ℕ) → asked order number ≡ Some q → address_of order.regions q ≡ Some address
     → writes order number x ≡ (is_good (standing_at order.faults address) && gives_byte order.faults q address q.operation x)
 writes_is order number q address x is at = grind (arith, is, at)
-
--- one without an AXI address writes nothing
-pub writes_nowhere : (order : Order) (number : ℕ) (q : WholeRequest) (x : ℕ) → asked order number ≡ Some q → address_of order.regions q ≡ None → writes order number x ≡ false
-writes_nowhere order number q x is nowhere = grind (arith, is, nowhere)
 
 -- ---- the bytes that it gives
 

@@ -114,9 +114,6 @@ range_touched order config request range x served at is_asked plan inside =
 pub atomic_is : (config : Config) (regions : List Region) (request : BridgedRequest) (op : AtomicOp) → IsServed config regions request → request.message.operation ≡ Atomic op → reads_then_writes request.flight ≡ true
 atomic_is config regions request op served is = ap (λ (o : Operation). reply_has_data o && has_data o) (served.flight.operation ∙ is) ∙ atomic_both (Atomic op) refl
 
-is_some_value : (o : Option ℕ) (v : ℕ) → o ≡ Some v → unwrap_or o 0 ≡ v
-is_some_value o v is = ap (λ (found : Option ℕ). unwrap_or found 0) is
-
 -- the W beats of a burst are those of its transfers, from 1
 w_beat_is : (bus_bytes : ℕ) (given : ℕ → Option ℕ) (piece : Piece) (n : ℕ) (w : WBeat) → slice_get (map (w_beat bus_bytes given piece) (range_with_len 1 (piece.len + 1))) n ≡ Some w
     → (n + 1 ≤ piece.len + 1) × (w ≡ w_beat bus_bytes given piece (n + 1))

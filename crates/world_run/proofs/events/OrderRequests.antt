@@ -15,7 +15,6 @@ use Rattle.tl_messages.specs.declared.ABeat.{ABeat}
 use Rattle.axi_beats.specs.Bursts.{Burst}
 use Rattle.axi_beats.specs.Transfers.{transfer_has}
 use Rattle.axi_checker.specs.Rules.{id_of}
-use Rattle.burst_plan.specs.Pieces.{PlannedRange}
 use Rattle.burst_plan.specs.declared.Piece.{Piece}
 use Rattle.burst_plan.specs.declared.Region.{Region}
 use Rattle.flight_table.specs.Laws.{IsSoundRequest}
@@ -166,10 +165,6 @@ take_keeps order state client request sound keeps held =
         (λ r each done. no_holder id r (each.freed (done_is client r done))) (sound_requests state.bridge.requests sound.bridge_laws.requests)
 
 -- ---- the list of open bursts
-
--- a burst just sent is of its ID alone
-sent_of_id : (id j serial : ℕ) (request : BridgedRequest) (range : PlannedRange) (piece : Piece) → is_of_id j (newly_pending serial (burst_of_piece id request range piece)) ≡ (id == j)
-sent_of_id id j serial request range piece = grind (arith, nat_tests)
 
 filter_more : (test : Pending → Bool) (pending : List Pending) (one : Pending) → test one ≡ true → filter test (pending ++ one ∷ []) ≡ filter test pending ++ one ∷ []
 filter_more test pending one is = filter-append test pending (one ∷ []) ∙ rw is refl
