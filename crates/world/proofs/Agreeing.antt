@@ -15,7 +15,6 @@ use Rattle.axi_checker.specs.OpenBursts.{OpenBursts, open_after}
 use Rattle.axi_checker.specs.declared.AxiBeat.TheVariants.{B as OnB, R as OnR}
 use Rattle.axi_checker.specs.Rules.{open_with_burst}
 use Rattle.flight_table.specs.LiveRequests.{all_sent, planned, with_answered}
-use Rattle.flight_table.proofs.PhaseLaws.{length_reading}
 use Rattle.tl_messages.specs.Requests.{HeldMessage}
 use Rattle.tl_messages.specs.declared.ABeat.{ABeat}
 use Rattle.tl_checker.specs.declared.Progress.{Progress}
@@ -43,7 +42,6 @@ use Rattle.world.proofs.Serials.{most_sent}
 use Rattle.subordinate.proofs.Monitors.{HasBeatsToCome, outstanding_after_b, outstanding_after_r, outstanding_performed, outstanding_sent}
 use Rattle.world.proofs.OpenWork.{sum_few}
 use Rattle.world.proofs.Sums.{sum_between, sum_more, sum_without}
-use Rattle.world.proofs.Settled.{settled_has}
 
 -- as many requests live, and have sent what went to the memory
 serials_kept : (state new : BridgeState) (memory after : FreeMemory) → HasSerials state memory → new.requests.accepted ≡ state.requests.accepted → length new.requests.live ≡ length state.requests.live
@@ -89,9 +87,7 @@ agree_performed state memory pending beat agree memory_laws =
 
 -- a request that is settled has sent as much, or has all its reads behind it
 settled_sent : (request : BridgedRequest) → request.flight.sent ≤ length (planned request.flight) → all_sent request.flight ≤ all_sent (settled request).flight
-settled_sent request most =
-    settled_has (λ (r : BridgedRequest). all_sent request.flight ≤ all_sent r.flight) request (omega arith)
-    (λ reads. rw reads (omega (arith, most, length_reading request.flight reads))) (omega arith)
+settled_sent request most = grind (arith, most)
 
 response_sent : (resp : Resp) (request : BridgedRequest) → request.flight.sent ≤ length (planned request.flight) → all_sent request.flight ≤ all_sent (after_response resp request).flight
 response_sent resp request most = settled_sent (record request { flight = with_answered request.flight; gathering = after_b resp request.gathering }) most

@@ -1,14 +1,13 @@
 -- The work in the open bursts of a memory: how much of it there can be, and what each event makes of it. It counts beats and answers; the
 -- bridge and all bytes are hidden.
-use Rattle.std.proofs.Common.{◌≡◌, ℕ, zero, suc, ◌+◌, ◌-◌, ◌*◌, ◌<◌, ◌≤◌, ◌==◌, Bool, true, false, ◌&&◌, not, List, [], ◌∷◌, length, refl, sym, ◌∙◌, ap, arith, inl, inr}
+use Rattle.std.proofs.Common.{◌≡◌, ℕ, zero, suc, ◌+◌, ◌-◌, ◌*◌, ◌<◌, ◌≤◌, Bool, true, false, not, List, [], ◌∷◌, length, refl, sym, ◌∙◌, ap, arith, inl, inr}
 use Rattle.std.specs.Prelude.{Option, Some, None, find, flat_map, if◌then◌else◌, option_map, slice_get, sum_by, take}
-use Rattle.std.specs.List.{AllByRecursion, enumerate_from, list_all, list_any}
-use Rattle.std.proofs.lemmas.Bool.{and_parts, cases_lt, eq-eqb, eqb-true, ne_eqb}
-use Rattle.std.proofs.lemmas.Bool.Decides.{nat_tests}
+use Rattle.std.specs.List.{AllByRecursion, list_any}
+use Rattle.std.proofs.lemmas.Bool.{cases_lt, eq-eqb, eqb-true, ne_eqb}
 use Rattle.std.proofs.lemmas.List.{length-append}
 use Rattle.std.proofs.lemmas.List.Sums.{sum_by-append, sum_by-cons}
 use Rattle.std.proofs.lemmas.Option.{same_Some, slice_get-map, slice_get_within}
-use Rattle.axi_beats.specs.Bursts.{Burst, IsLegal, ReadBurst, WriteBurst, is_legal_address, is_legal_data}
+use Rattle.axi_beats.specs.Bursts.{Burst, IsLegal}
 use Rattle.axi_beats.specs.declared.BBeat.{BBeat}
 use Rattle.axi_beats.specs.declared.RBeat.{RBeat}
 use Rattle.axi_beats.specs.declared.Resp.{Resp}
@@ -29,16 +28,8 @@ use Rattle.world.proofs.Sums.{sum_between, sum_without}
 -- ---- how much there is
 
 -- a legal burst has at most 256 transfers
-few_by : (bus_bytes address len size kind : ℕ) → is_legal_address bus_bytes address len size kind ≡ true → len + 1 ≤ 256
-few_by bus_bytes address len size kind legal = grind (arith, nat_tests, legal)
-
 pub few_transfers : (bus_bytes : ℕ) (burst : Burst) → IsLegal bus_bytes burst → transfers_in burst ≤ 256
-few_transfers bus_bytes (ReadBurst ar) legal = few_by bus_bytes ar.address ar.len ar.size ar.burst legal
-few_transfers bus_bytes (WriteBurst aw ws) legal =
-    let right = and_parts (is_legal_address bus_bytes aw.address aw.len aw.size aw.burst && length ws == aw.len + 1)
-    (list_all (λ transfer. is_legal_data bus_bytes aw transfer.0 transfer.1) (enumerate_from 1 ws)) legal
-    in
-    few_by bus_bytes aw.address aw.len aw.size aw.burst (and_parts (is_legal_address bus_bytes aw.address aw.len aw.size aw.burst) (length ws == aw.len + 1) right.0).0
+few_transfers bus_bytes burst legal = grind (arith, legal)
 
 answers_few : (answered : ℕ) (burst : Burst) → answers_left answered burst ≤ transfers_in burst
 answers_few answered burst = grind arith
@@ -201,9 +192,7 @@ work_open-r memory id r sound is = by_last (gives_last finds.read) refl
 
 waits_later : (from : ℕ) (beat : BeatState) (beats : List BeatState) (place : ℕ) → (from + 1 ≤ place) × (slice_get beats (place - (from + 1)) ≡ Some Waiting)
     → (from ≤ place) × (slice_get (beat ∷ beats) (place - from) ≡ Some Waiting)
-waits_later from beat beats place (later, waits) =
-    let next : place - from ≡ suc (place - (from + 1)) = omega (arith, later) in
-    (omega (arith, later), rw next waits)
+waits_later from beat beats place later = grind (arith, later)
 
 -- a place among those that wait
 place_waits : (from : ℕ) (beats : List BeatState) (k place : ℕ) → slice_get (waiting_places from beats) k ≡ Some place → (from ≤ place) × (slice_get beats (place - from) ≡ Some Waiting)

@@ -1,9 +1,8 @@
 -- Serials of bursts don't run out. It counts bursts by request; everything else is hidden.
-use Rattle.std.proofs.Common.{◌≡◌, ℕ, ◌*◌, ◌^◌, ◌<◌, ◌≤◌, ◌⊎◌, inl, inr, Bool, true, List, [], length, Option, Some, None, refl, sym, subst, arith}
-use Rattle.std.specs.Prelude.{if◌then◌else◌, min}
+use Rattle.std.proofs.Common.{◌≡◌, ℕ, ◌*◌, ◌^◌, ◌<◌, ◌≤◌, ◌⊎◌, inl, inr, true, List, [], length, Option, Some, None, refl, sym, subst, arith}
+use Rattle.std.specs.Prelude.{min}
 use Rattle.std.proofs.Math.Nat.{mul-le-mul_left, mul-le-mul_right}
 use Rattle.std.proofs.Math.Pow.{pow_mono}
-use Rattle.tl_messages.specs.Operations.{reply_has_data}
 use Rattle.std.proofs.lemmas.Bool.{cases_lt}
 use Rattle.burst_plan.specs.Pieces.{IsPlannable, PlannedRange, pieces}
 use Rattle.burst_plan.specs.PlannedTransfers.{beat_bytes, burst_beats, burst_bytes}
@@ -15,7 +14,7 @@ use Rattle.bridge_core.specs.Laws.{IsServed}
 use Rattle.bridge_core.specs.HeldRequests.{BridgedRequest}
 use Rattle.config.specs.declared.Config.{Config}
 use Rattle.bridge_core.proofs.SentBursts.{plannable}
-use Rattle.flight_table.specs.LiveRequests.{LiveRequest, all_sent, pieces_planned, planned, read_pieces}
+use Rattle.flight_table.specs.LiveRequests.{LiveRequest, all_sent, pieces_planned, planned}
 
 -- ---- a plan has at most 1,024 pieces
 
@@ -47,16 +46,7 @@ few_pieces range plans =
 
 -- a request sends each of its pieces at most twice, to read it and to write it
 few_planned : (flight : LiveRequest) → length (pieces_planned flight.plan) ≤ 1024 → flight.sent ≤ length (planned flight) → all_sent flight ≤ 2048
-few_planned flight few most = by_side flight.writing refl
-  where
-    few_if : (test : Bool) → length (if test then pieces_planned flight.plan else []) ≤ 1024
-    few_if test = grind arith
-
-    reads : length (read_pieces flight) ≤ 1024
-    reads = few_if (reply_has_data flight.operation)
-
-    by_side : (b : Bool) → flight.writing ≡ b → all_sent flight ≤ 2048
-    by_side b is = grind (arith, is)
+few_planned flight few most = grind (arith, few, most)
 
 -- what holds of the pieces of each range that can be planned holds of those of a live request
 pub plan_has : (P : List Piece → Type 0) → P [] → ((range : PlannedRange) → IsPlannable range → P (pieces range)) → (config : Config) (regions : List Region) (request : BridgedRequest)

@@ -144,10 +144,7 @@ module _ {config : Config} {bridge : BridgeState} {heard : Heard} (is : IsHeard 
   -- the verdict of the port, on what was heard
   verdict_heard : (progress : Progress) → verdict_on bridge client beat ≡ Ok progress
       → judged (port_of config client) (held_of client (heard client)) beat (is_busy (flight_table_of bridge.requests) client beat.source) ≡ Ok progress
-  verdict_heard progress verdict =
-      ap (λ front. judged (port_of config client) front beat (is_busy (flight_table_of bridge.requests) client beat.source)) (is.front client).held
-      ∙ ap (λ kept. judged (port_of kept client) (front_of bridge client) beat (is_busy (flight_table_of bridge.requests) client beat.source)) (sym is.config_kept)
-      ∙ verdict
+  verdict_heard progress verdict = grind (arith, verdict)
 
   reads_heard : ReadsAs (port_of config client) (heard client ++ beat ∷ []) (is_free (held_of client (heard client)) (is_busy (flight_table_of bridge.requests) client beat.source))
       (judged (port_of config client) (held_of client (heard client)) beat (is_busy (flight_table_of bridge.requests) client beat.source))

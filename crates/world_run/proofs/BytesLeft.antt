@@ -3,7 +3,7 @@
 use Rattle.std.specs.Option.{option_flatten}
 use Rattle.std.proofs.Common.{◌≡◌, ℕ, ◌+◌, ◌-◌, ◌^◌, ◌<◌, ◌≤◌, zero, suc, Bool, true, false, ◌&&◌, not, List, [], ◌∷◌, length, map, inl, inr, Option, Some, None, refl, sym, subst, ◌∙◌, ap, arith, ◌/◌, nat_lt, is_some, nat_le, option_map, slice_get, unwrap_or, if◌then◌else◌, IsSome, find}
 use Rattle.std.proofs.lemmas.Bool.Decides.{nat_tests}
-use Rattle.std.proofs.lemmas.Bool.{and_parts, cases_lt, cases_Bool, leb-true, ltb-true}
+use Rattle.std.proofs.lemmas.Bool.{and_parts, cases_lt, cases_Bool, leb-true}
 use Rattle.std.proofs.lemmas.List.{length-map}
 use Rattle.std.proofs.lemmas.List.FromFn.{length-map-range_with_len}
 use Rattle.bus_words.specs.Lanes.{given_at}
@@ -165,25 +165,13 @@ all_carried_out order = all_carried order.faults order.regions order.requests ze
 
 -- ---- a request of a number, at its AXI address
 
-meaning_is : (faults : Faults) (regions : List Region) (q : WholeRequest) (m : Bytes) → (meaning faults regions q m).after ≡ (effect_at faults q m (address_of regions q)).after
-meaning_is faults regions q m = grind arith
-
 pub byte_left_is : (order : Order) (number : ℕ) (q : WholeRequest) (address x : ℕ) → asked order number ≡ Some q → address_of order.regions q ≡ Some address
     → byte_left order number x ≡ (effect order.faults q (bytes_before order number) address q.operation (standing_at order.faults address) (is_bad order.faults address)).after x
-byte_left_is order number q address x is at =
-    ap (λ (o : Option WholeRequest). after_one order o (bytes_before order number) x) is
-    ∙ ap (λ (m : Bytes). m x) (meaning_is order.faults order.regions q (bytes_before order number))
-    ∙ ap (λ (place : Option ℕ). (effect_at order.faults q (bytes_before order number) place).after x) at
+byte_left_is order number q address x is at = grind (arith, is, at)
 
 pub writes_is : (order : Order) (number : ℕ) (q : WholeRequest) (address x : ℕ) → asked order number ≡ Some q → address_of order.regions q ≡ Some address
     → writes order number x ≡ (is_good (standing_at order.faults address) && gives_byte order.faults q address q.operation x)
-writes_is order number q address x is at =
-    ap (λ (o : Option WholeRequest). writes_byte order o x) is ∙ ap (λ (place : Option ℕ). writes_from order.faults q place x) at
-
--- one without an AXI address writes nothing
-pub writes_nowhere : (order : Order) (number : ℕ) (q : WholeRequest) (x : ℕ) → asked order number ≡ Some q → address_of order.regions q ≡ None → writes order number x ≡ false
-writes_nowhere order number q x is nowhere =
-    ap (λ (o : Option WholeRequest). writes_byte order o x) is ∙ ap (λ (place : Option ℕ). writes_from order.faults q place x) nowhere
+writes_is order number q address x is at = grind (arith, is, at)
 
 -- ---- the bytes that it gives
 
@@ -227,16 +215,7 @@ some_given o d there = grind (arith, there)
 pub gives_what_is_left : (faults : Faults) (q : WholeRequest) (m : Bytes) (operation : Operation) (standing : Standing) (bad : Bool) (address x old : ℕ) → is_good standing ≡ true
     → ((op : AtomicOp) → operation ≡ Atomic op → (bad ≡ false) × (old ≡ value (bytes_at m address (2 ^ q.size)))) → is_some (given_at (bytes_written q operation old) address x) ≡ true
     → given_at (bytes_written q operation old) address x ≡ Some ((effect faults q m address operation standing bad).after x)
-gives_what_is_left faults q m PutFull IsGood bad address x old good found there = some_given (given_at q.bytes address x) (m x) there
-gives_what_is_left faults q m PutPartial IsGood bad address x old good found there = some_given (given_at q.bytes address x) (m x) there
-gives_what_is_left faults q m (Atomic op) IsGood true address x old good found there = absurd (cc ((found op refl).0))
-gives_what_is_left faults q m (Atomic op) IsGood false address x old good found there =
-    let wanted = λ (v : ℕ). given_at (bytes_written q (Atomic op) v) address x in
-    let same : wanted old ≡ wanted (value (bytes_at m address (2 ^ q.size))) = ap wanted (found op refl).1 in
-    same ∙ some_given (wanted (value (bytes_at m address (2 ^ q.size)))) (m x) (ap (λ (o : Option ℕ). is_some o) (sym same) ∙ there)
-gives_what_is_left faults q m Get standing bad address x old good found there = absurd (cc (there, none_given address x))
-gives_what_is_left faults q m (Intent write) standing bad address x old good found there = absurd (cc (there, none_given address x))
-gives_what_is_left faults q m _ _ bad address x old good found there = absurd (cc (good))
+gives_what_is_left faults q m operation standing bad address x old good found there = grind (arith, good, found, there)
 
 -- ---- where it writes
 
@@ -256,9 +235,7 @@ given_inside bytes address x there = from (nat_le address x) refl there
     from false low there = absurd (cc (there))
 
 covered_within : (address size x : ℕ) → in_range address size x ≡ true → (address ≤ x) × (x < address + 2 ^ size)
-covered_within address size x is =
-    let both = and_parts (nat_le address x) (nat_lt x (address + 2 ^ size)) is in
-    (leb-true address x both.0, ltb-true x (address + 2 ^ size) both.1)
+covered_within address size x is = grind (arith, is)
 
 -- a message gives bytes of its range alone
 pub gives_within : (faults : Faults) (message : HeldMessage) (operation : Operation) (address x : ℕ) → gives_byte faults (request_of message) address operation x ≡ true → (address ≤ x) × (x < address + 2 ^ message.size)

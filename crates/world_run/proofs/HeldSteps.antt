@@ -30,14 +30,13 @@ use Rattle.burst_plan.specs.PageMap.{address_of}
 use Rattle.config.specs.declared.Config.{Config}
 use Rattle.bridge_core.specs.Bridge.{message_with}
 use Rattle.bridge_core.proofs.SentLinks.{found_by_number, numbers}
-use Rattle.subordinate.specs.Faults.{Faults}
 use Rattle.world.specs.Laws.{IsSoundWorld}
 use Rattle.setups.specs.Setups.{SetupLists}
 use Rattle.world.specs.World.{Outcome, WorldState, next, opening_world}
 use Rattle.world.specs.declared.Step.{Step}
 use Rattle.world.proofs.Events.{each_way}
 use Rattle.world_run.specs.InOrder.{HoldsBack, is_finished, has_begun, is_over, started, IsForeseen, IsForeseenBy, IsInOrder, KeepsOrder, IsHistory}
-use Rattle.world_run.specs.Serial.{Order, asked, gives_byte, is_intent, touches, touches_byte, touches_from, writes, writes_byte, writes_from}
+use Rattle.world_run.specs.Serial.{Order, asked, is_intent, touches, touches_byte, touches_from, writes}
 use Rattle.meaning.specs.Meaning.{Bytes}
 use Rattle.world_run.proofs.BytesLeft.{message_touches}
 use Rattle.world_run.proofs.History.{history_moves}
@@ -84,15 +83,8 @@ share : (a b : Option PlannedRange) (x : ℕ) → HasByte a x → HasByte b x �
 share a b x in_a in_b = grind (arith, in_a, in_b)
 
 -- who writes is no Get
-no_get_there : (faults : Faults) (q : WholeRequest) (address : ℕ) (operation : Operation) (x : ℕ) → gives_byte faults q address operation x ≡ true → is_get operation ≡ false
-no_get_there faults q address operation x gives = grind (arith, gives)
-
-no_get_at : (faults : Faults) (q : WholeRequest) (place : Option ℕ) (x : ℕ) → writes_from faults q place x ≡ true → is_get q.operation ≡ false
-no_get_at faults q place x there = grind (arith, there)
-
 no_get : (order : Order) (message : HeldMessage) (k x : ℕ) → asked order k ≡ Some (request_of message) → writes order k x ≡ true → is_get message.operation ≡ false
-no_get order message k x is there =
-    no_get_at order.faults (request_of message) (address_of order.regions (request_of message)) x (sym (ap (λ (o : Option WholeRequest). writes_byte order o x) is) ∙ there)
+no_get order message k x is there = grind (arith, is, there)
 
 first_only : (a b : Bool) → (a || b) ≡ true → b ≡ false → a ≡ true
 first_only a b one other = grind (arith, one, other)

@@ -2,7 +2,7 @@
 -- since one that was handed out is accepted and live no more; the beats sent are those of whole legal bursts, one for each answer Sent, and no
 -- beat breaks a rule at its place. What requests ask for and beats carry is hidden; Told and OrderedRuns show the rest.
 use Rattle.std.specs.List.{AllByRecursion, IsDistinct, cons_option, list_all}
-use Rattle.std.proofs.Common.{◌≡◌, ℕ, ◌<◌, ◌==◌, Bool, true, false, List, [], ◌∷◌, map, length, Option, Some, None, refl, sym, subst, ap, ◌∙◌, arith, ◌++◌, filter, find, nat_eq, if◌then◌else◌, IsTrue, IfSome, option_map}
+use Rattle.std.proofs.Common.{◌≡◌, ℕ, ◌<◌, Bool, true, false, List, [], ◌∷◌, map, length, Option, Some, None, refl, sym, subst, ap, ◌∙◌, arith, ◌++◌, filter, find, nat_eq, IsTrue, IfSome, option_map}
 use Rattle.std.proofs.lemmas.Bool.Decides.{nat_tests}
 use Rattle.std.proofs.lemmas.Bool.{ne_eqb, and_from}
 use Rattle.std.proofs.lemmas.List.{length-append}
@@ -22,11 +22,10 @@ use Rattle.axi_checker.specs.declared.AxiBeat.TheVariants.{B as OnB, R as OnR}
 use Rattle.axi_checker.specs.Rules.{axi_fault, beats_sent, burst_fault, first_axi_fault, open_with_burst}
 use Rattle.axi_checker.proofs.Histories.{first_axi_fault-burst}
 use Rattle.axi_checker.proofs.InOrder.{unbroken_is_in_order}
-use Rattle.axi_checker.proofs.Judging.{first_axi_fault-none}
-use Rattle.responses.specs.Gathered.{after_b, after_r}
+use Rattle.responses.specs.Gathered.{after_b}
 use Rattle.flight_table.specs.Laws.{AreRising, IsSoundRequest}
-use Rattle.flight_table.specs.LiveRequests.{LiveRequest, with_answered}
-use Rattle.bridge_core.specs.HeldRequests.{table_limits_of, BridgedRequest, RequestTable, after_read, after_response, after_sending, oldest_done, flights_of, holds, is_done_for, is_numbered, newly_live, outline_in, settled}
+use Rattle.flight_table.specs.LiveRequests.{with_answered}
+use Rattle.bridge_core.specs.HeldRequests.{table_limits_of, BridgedRequest, RequestTable, after_read, after_response, after_sending, oldest_done, flights_of, holds, is_done_for, is_numbered, newly_live, settled}
 use Rattle.config.specs.Configs.{axi_port_of}
 use Rattle.bridge_core.specs.Bridge.{message_with, b_fault, r_fault}
 use Rattle.bridge_core.specs.Sending.{Sending, next_sending}
@@ -64,17 +63,8 @@ settled-number number request = grind arith
 response-number : (number : ℕ) (resp : Resp) (request : BridgedRequest) → is_numbered number (after_response resp request) ≡ is_numbered number request
 response-number number resp request = settled-number number (record request { flight = with_answered request.flight; gathering = after_b resp request.gathering })
 
-answered-number : (number : ℕ) (last : Bool) (flight : LiveRequest) → ((if last then with_answered flight else flight).number == number) ≡ (flight.number == number)
-answered-number number last flight = grind arith
-
 read-number : (number bus_bytes : ℕ) (r : RBeat) (request : BridgedRequest) → is_numbered number (after_read bus_bytes r request) ≡ is_numbered number request
-read-number number bus_bytes r request =
-    settled-number number
-    (record request {
-      flight = if r.last then with_answered request.flight else request.flight;
-      gathering = after_r bus_bytes (outline_in request) r request.gathering.came request.gathering;
-    })
-    ∙ answered-number number r.last request.flight
+read-number number bus_bytes r request = grind arith
 
 -- ---- what is over stays over
 
@@ -356,8 +346,7 @@ fine_along config state (step ∷ steps) same along =
 
     answer_fine : (beat : AxiBeat) (later : List AxiBeat) → axi_fault (axi_port_of state.bridge.requests.config) state.bridge.open_bursts beat ≡ None
         → first_axi_fault (axi_port_of config) (open_after state.bridge.open_bursts beat) later ≡ None → first_axi_fault (axi_port_of config) state.bridge.open_bursts (beat ∷ later) ≡ None
-    answer_fine beat later fine rest =
-        first_axi_fault-none (axi_port_of config) state.bridge.open_bursts beat later (subst (λ kept. axi_fault (axi_port_of kept) state.bridge.open_bursts beat ≡ None) same fine) ∙ rest
+    answer_fine beat later fine rest = grind (arith, fine, rest)
 
 -- ---- the field of the main statement
 

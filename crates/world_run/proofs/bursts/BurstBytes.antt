@@ -3,7 +3,7 @@
 -- while they are open; what becomes of them, and all other requests, are hidden.
 use Rattle.std.specs.List.{range_with_len, slice_get, filter, find}
 use Rattle.std.proofs.Common.{◌≡◌, ℕ, zero, suc, ◌+◌, ◌^◌, ◌<◌, ◌≤◌, nat_le, nat_lt, Bool, true, false, ◌&&◌, not, List, map, replicate, Option, Some, is_some, refl, ap, sym, ◌∙◌, subst, arith, length, None, ◌||◌, [], ◌∷◌, drop, take, unwrap_or, option_map, if◌then◌else◌}
-use Rattle.std.proofs.lemmas.Bool.{and_from, and_parts, le-leb, lt-ltb, and_right, leb-true}
+use Rattle.std.proofs.lemmas.Bool.{and_from, and_parts, le-leb, lt-ltb, leb-true}
 use Rattle.std.proofs.lemmas.List.FromFn.{length-map-range_with_len, get_or-map-range_with_len}
 use Rattle.std.proofs.lemmas.Option.{get_or_from_slice_get, slice_get_within}
 use Rattle.bus_words.specs.Lanes.{given_at}
@@ -13,7 +13,7 @@ use Rattle.tl_messages.specs.Operations.{has_data, reply_has_data}
 use Rattle.tl_messages.specs.Requests.{WholeRequest, request_of}
 use Rattle.tl_messages.specs.declared.AtomicOp.{AtomicOp}
 use Rattle.tl_messages.specs.declared.Operation.{Operation}
-use Rattle.tl_messages.specs.declared.Operation.TheVariants.{Atomic, Intent}
+use Rattle.tl_messages.specs.declared.Operation.TheVariants.{Atomic}
 use Rattle.axi_beats.specs.Transfers.{transfer_has}
 use Rattle.axi_beats.specs.declared.Resp.{Resp}
 use Rattle.axi_beats.specs.declared.WBeat.{WBeat}
@@ -21,7 +21,7 @@ use Rattle.data_unit.specs.Words.{value}
 use Rattle.burst_plan.specs.PageMap.{IsPageMap, address_of}
 use Rattle.burst_plan.specs.Pieces.{IsPlannable, PlannedRange, pieces}
 use Rattle.burst_plan.specs.PlannedBursts.{PutsBytes, read_of, w_beat, write_of}
-use Rattle.burst_plan.specs.PlannedTransfers.{HasAddress, HoldsEachByteOnce, piece_of, transfer_of}
+use Rattle.burst_plan.specs.PlannedTransfers.{HasAddress, HoldsEachByteOnce}
 use Rattle.burst_plan.specs.declared.Piece.{Piece}
 use Rattle.burst_plan.specs.declared.Region.{Region}
 use Rattle.burst_plan.proofs.TransferPlaces.{holds_each_byte_once}
@@ -45,8 +45,8 @@ use Rattle.world.specs.Laws.{IsSoundWorld}
 use Rattle.world.specs.World.{WorldState}
 use Rattle.world_run.specs.InOrder.{IsBurstOf, IsReadOf, IsWriteOf, PutsSerially, IsInOrder, AreBurstsOf, AreOfHolder, is_finished, has_begun, is_of_id, is_over, started}
 use Rattle.meaning.specs.Meaning.{bytes_at}
-use Rattle.world_run.specs.Serial.{Order, asked, byte_left, bytes_before, gives_byte, is_intent, touches, touches_byte, touches_from, writes, writes_byte, writes_from}
-use Rattle.world_run.proofs.BytesLeft.{FindsSerially, byte_left_is, gives_what_is_left, gives_where_written, gives_within, same_standing, writes_is, writes_nowhere}
+use Rattle.world_run.specs.Serial.{Order, asked, byte_left, bytes_before, gives_byte, is_intent, touches, touches_byte, touches_from, writes}
+use Rattle.world_run.proofs.BytesLeft.{FindsSerially, byte_left_is, gives_what_is_left, gives_where_written, gives_within, same_standing, writes_is}
 
 -- ---- the range of a live request
 
@@ -114,9 +114,6 @@ range_touched order config request range x served at is_asked plan inside =
 pub atomic_is : (config : Config) (regions : List Region) (request : BridgedRequest) (op : AtomicOp) → IsServed config regions request → request.message.operation ≡ Atomic op → reads_then_writes request.flight ≡ true
 atomic_is config regions request op served is = ap (λ (o : Operation). reply_has_data o && has_data o) (served.flight.operation ∙ is) ∙ atomic_both (Atomic op) refl
 
-is_some_value : (o : Option ℕ) (v : ℕ) → o ≡ Some v → unwrap_or o 0 ≡ v
-is_some_value o v is = ap (λ (found : Option ℕ). unwrap_or found 0) is
-
 -- the W beats of a burst are those of its transfers, from 1
 w_beat_is : (bus_bytes : ℕ) (given : ℕ → Option ℕ) (piece : Piece) (n : ℕ) (w : WBeat) → slice_get (map (w_beat bus_bytes given piece) (range_with_len 1 (piece.len + 1))) n ≡ Some w
     → (n + 1 ≤ piece.len + 1) × (w ≡ w_beat bus_bytes given piece (n + 1))
@@ -145,13 +142,7 @@ transfer_is config regions request range piece n w at listed there =
 atomic_found : (order : Order) (config : Config) (request : BridgedRequest) (range : PlannedRange) → IsServed config order.regions request → request.flight.done ≡ false
     → request.flight.writing ≡ true → (reads_then_writes request.flight ≡ true → FindsSerially order request range.address) → (op : AtomicOp) → request.message.operation ≡ Atomic op
     → (is_bad order.faults range.address ≡ false) × (unwrap_or (value_found request) 0 ≡ value (bytes_at (bytes_before order request.flight.number) range.address (2 ^ request.message.size)))
-atomic_found order config request range served live writes finds op is =
-    let atomic = atomic_is config order.regions request op served is in
-    let found = served.found atomic writes live in
-    let serially = finds atomic in
-    let fine = serially.word found in
-    let number = value (bytes_at (bytes_before order request.flight.number) range.address (2 ^ request.message.size)) in
-    (fine, is_some_value (value_found request) number (serially.found (serially.page found) fine))
+atomic_found order config request range served live writes finds op is = grind (arith, served, live, writes, finds, is)
 
 -- the writes of a request put what it leaves; of an atomic, where its read found what it finds one at a time
 pub puts_serially : (order : Order) (config : Config) (request : BridgedRequest) (range : PlannedRange) (piece : Piece) (n : ℕ) (w : WBeat) → is_valid config ≡ true → IsPageMap order.regions
@@ -259,11 +250,7 @@ without_data faults q address x operation none = grind (arith, none)
 
 -- a Get or an Intent writes nothing
 pub no_data_written : (order : Order) (number : ℕ) (q : WholeRequest) (x : ℕ) → asked order number ≡ Some q → has_data q.operation ≡ false → writes order number x ≡ false
-no_data_written order number q x is_asked none = ap (λ (o : Option WholeRequest). writes_byte order o x) is_asked ∙ by_address (address_of order.regions q)
-  where
-    by_address : (place : Option ℕ) → writes_from order.faults q place x ≡ false
-    by_address None = refl
-    by_address (Some address) = and_right (is_good (standing_at order.faults address)) (gives_byte order.faults q address q.operation x) (without_data order.faults q address x q.operation none)
+no_data_written order number q x is_asked none = grind (arith, is_asked, none)
 
 none_mapped : {A B : Type 0} (f : A → B) (o : Option A) → option_map f o ≡ None → o ≡ None
 none_mapped f o none = grind (arith, none)
@@ -271,26 +258,14 @@ none_mapped f o none = grind (arith, none)
 -- a request without a plan writes nothing: it has no AXI address, or is an Intent
 pub nothing_written : (order : Order) (config : Config) (request : BridgedRequest) (x : ℕ) → IsServed config order.regions request → asked order request.flight.number ≡ Some (request_of request.message)
     → request.flight.plan ≡ None → writes order request.flight.number x ≡ false
-nothing_written order config request x served is_asked none = by_operation request.message.operation refl (sym served.flight.plan ∙ none)
-  where
-    q : WholeRequest
-    q = request_of request.message
-
-    nowhere : range_of config order.regions q ≡ None → writes order request.flight.number x ≡ false
-    nowhere no_range = writes_nowhere order request.flight.number q x is_asked (none_mapped (range_at config q) (address_of order.regions q) no_range)
-
-    by_operation : (operation : Operation) → request.message.operation ≡ operation → plan_for operation (range_of config order.regions q) ≡ None → writes order request.flight.number x ≡ false
-    by_operation (Intent write) is no_plan = no_data_written order request.flight.number q x is_asked (ap has_data is)
-    by_operation _ is no_plan = nowhere no_plan
+nothing_written order config request x served is_asked none = grind (arith, served, is_asked, none)
 
 -- ---- where all pieces are written
 
 pub all_pieces_written : (order : Order) (number : ℕ) (range : PlannedRange) (wrote : ℕ → ℕ → Bool) → HoldsEachByteOnce range
     → ((k n x : ℕ) (piece : Piece) → slice_get (pieces range) k ≡ Some piece → 1 ≤ n → n ≤ piece.len + 1 → transfer_has piece.address piece.size n x ≡ true → writes order number x ≡ true → wrote number x ≡ true)
     → ((x : ℕ) → writes order number x ≡ true → HasAddress range x) → (x : ℕ) → writes order number x ≡ true → wrote number x ≡ true
-all_pieces_written order number range wrote once each inside x written =
-    let held = once.held x (inside x written) in
-    each (piece_of range x) (transfer_of range x) x held.piece held.listed held.first held.last held.holds written
+all_pieces_written order number range wrote once each inside x written = grind (arith, once, each, inside, written)
 
 -- an atomic writes only where its word isn't bad
 atomic_fine : (faults : Faults) (q : WholeRequest) (address x : ℕ) (operation : Operation) → (reply_has_data operation && has_data operation) ≡ true → gives_byte faults q address operation x ≡ true → is_bad faults address ≡ false

@@ -4,7 +4,7 @@
 use Rattle.std.specs.Prelude.{unwrap_or, IfSome, slice_set, if◌then◌else◌}
 use Rattle.std.specs.List.{enumerate_from, list_all, list_any, slice_get, AllByRecursion, find, filter}
 use Rattle.std.proofs.Common.{◌≡◌, ◌≢◌, ℕ, zero, suc, ◌+◌, ◌-◌, ◌%◌, ◌<◌, ◌≤◌, ◌==◌, Bool, true, false, ◌&&◌, List, [], ◌∷◌, length, Option, Some, None, is_some, inl, inr, ◌⊎◌, refl, ap, sym, ◌∙◌, subst, arith, not, ◌||◌, ◌++◌}
-use Rattle.std.proofs.lemmas.Bool.{and_parts, and_from, eqb-true, or_parts, ne_eqb}
+use Rattle.std.proofs.lemmas.Bool.{and_parts, and_from, eqb-true, or_parts}
 use Rattle.std.proofs.lemmas.Option.{same_Some, slice_get_within}
 use Rattle.bus_words.specs.Lanes.{has_lane, lane_byte}
 use Rattle.bus_words.specs.Places.{change_first}
@@ -406,9 +406,6 @@ module _ (order : Order) (bus_bytes : ℕ) (wrote : ℕ → ℕ → Bool) (numbe
 -- ---- IDs
 
 -- a write, and a read, are of one ID alone
-of_one_id : (n id other : ℕ) → id ≢ other → (n == id) ≡ true → (n == other) ≡ false
-of_one_id n id other apart is = let same : n ≡ id = eqb-true n id is in rw same (ne_eqb id other apart)
-
 pub burst_of_one : (id other : ℕ) (burst : Burst) → id ≢ other → (writes_as id burst || reads_as id burst) ≡ true → (writes_as other burst || reads_as other burst) ≡ false
 burst_of_one id other burst apart is = grind (arith, apart, is)
 

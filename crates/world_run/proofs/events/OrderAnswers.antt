@@ -287,13 +287,7 @@ find_known id (q ∷ qs) p ar found is = by_burst q.burst found (λ later. find_
     by_test : (b : Bool) (other : ArBeat) → (if b then Some (record q { burst = ReadBurst other }) else find (is_read_of id) qs) ≡ Some p
         → (find (is_read_of id) qs ≡ Some p → find (read_of_id id) (reads_open qs) ≡ Some (record { ar = ar; came = p.answered }))
         → ◌≡◌ {A = Option OpenRead} (if b then Some (record { ar = other; came = q.answered }) else find (read_of_id id) (reads_open qs)) (Some (record { ar = ar; came = p.answered }))
-    by_test true other here rest =
-        let same : record q { burst = ReadBurst other } ≡ p = same_Some (record q { burst = ReadBurst other }) p here in
-        let bursts : ReadBurst other ≡ ReadBurst ar = ap (λ (x : Pending). x.burst) same ∙ is in
-        let beats : other ≡ ar = cc (bursts) in
-        let came : q.answered ≡ p.answered = ap (λ (x : Pending). x.answered) same in
-        rw (beats, came) refl
-    by_test false other later rest = rest later
+    by_test b other here rest = grind (arith, here, rest)
 
     by_burst : (burst : Burst) → find (is_read_of id) (record q { burst = burst } ∷ qs) ≡ Some p
         → (find (is_read_of id) qs ≡ Some p → find (read_of_id id) (reads_open qs) ≡ Some (record { ar = ar; came = p.answered }))

@@ -3,7 +3,7 @@
 -- what its request leaves, or captures what it finds. It knows the request that each is of; what bursts do to single bytes is hidden.
 use Rattle.std.specs.List.{filter, find, AllByRecursion, slice_get}
 use Rattle.std.proofs.Common.{◌≡◌, ◌≢◌, ℕ, ◌+◌, nat_lt, Bool, true, false, ◌&&◌, [], ◌∷◌, ◌++◌, Option, Some, refl, ap, sym, ◌∙◌, arith, inl, inr, ◌⊎◌, ◌==◌, ◌||◌, None, is_some, List, subst, ◌≤◌, unwrap_or, IfSome}
-use Rattle.std.proofs.lemmas.Bool.{cases_Bool, cases_eq, ne_eqb, and_parts, eq-eqb, eqb-true, and_right}
+use Rattle.std.proofs.lemmas.Bool.{cases_eq, ne_eqb, and_parts, eq-eqb, eqb-true, and_right}
 use Rattle.std.proofs.lemmas.Bool.Decides.{nat_tests}
 use Rattle.std.proofs.lemmas.List.{append-nil}
 use Rattle.std.proofs.lemmas.List.Elements.{filter-append}
@@ -15,7 +15,6 @@ use Rattle.tl_messages.specs.declared.ABeat.{ABeat}
 use Rattle.axi_beats.specs.Bursts.{Burst}
 use Rattle.axi_beats.specs.Transfers.{transfer_has}
 use Rattle.axi_checker.specs.Rules.{id_of}
-use Rattle.burst_plan.specs.Pieces.{PlannedRange}
 use Rattle.burst_plan.specs.declared.Piece.{Piece}
 use Rattle.burst_plan.specs.declared.Region.{Region}
 use Rattle.flight_table.specs.Laws.{IsSoundRequest}
@@ -64,14 +63,7 @@ begins_keeps order state client beat keeps =
 -- it has written nothing
 unwritten_yet : (order : Order) (table : RequestTable) (wrote : ℕ → ℕ → Bool) (bytes : Bytes) (x : ℕ) → IsHistory (writes order) (bytes_before order) (started table) (is_finished table) wrote bytes
     → wrote table.accepted x ≡ false
-unwritten_yet order table wrote bytes x history =
-    elim (cases_Bool (wrote table.accepted x)) [
-      | inl there ↦
-          let begun = history.began table.accepted x there in
-          let never = unaccepted table table.accepted (omega arith) in
-          absurd (cc (begun, never))
-      | inr none ↦ none
-    ]
+unwritten_yet order table wrote bytes x history = grind (arith, history)
 
 -- the others are finished where they were
 ended_before : (table : RequestTable) (message : HeldMessage) (n : ℕ) → table.accepted ≢ n → is_finished (with_request message table) n ≡ true → is_finished table n ≡ true
@@ -174,10 +166,6 @@ take_keeps order state client request sound keeps held =
 
 -- ---- the list of open bursts
 
--- a burst just sent is of its ID alone
-sent_of_id : (id j serial : ℕ) (request : BridgedRequest) (range : PlannedRange) (piece : Piece) → is_of_id j (newly_pending serial (burst_of_piece id request range piece)) ≡ (id == j)
-sent_of_id id j serial request range piece = grind (arith, nat_tests)
-
 filter_more : (test : Pending → Bool) (pending : List Pending) (one : Pending) → test one ≡ true → filter test (pending ++ one ∷ []) ≡ filter test pending ++ one ∷ []
 filter_more test pending one is = filter-append test pending (one ∷ []) ∙ rw is refl
 
@@ -246,8 +234,7 @@ module _ (order : Order) (state : WorldState) (sending : Sending) (sent : IsNext
 
   -- the open bursts of its ID
   one_of_id : (id : ℕ) → is_of_id id sent_one ≡ (sending.id == id)
-  one_of_id id =
-      ap (λ (burst : Burst). is_of_id id (newly_pending state.memory.sent burst)) sent.burst ∙ sent_of_id sending.id id state.memory.sent request sent.range sent.piece
+  one_of_id id = grind arith
 
   mine_before : IsTakenBy sending.id sent_table.live request
       → AreBurstsOf order state.memory.bus_bytes keeps.wrote sent_number request.flight.writing (filter (is_of_id sending.id) state.memory.pending) (outstanding request.flight)

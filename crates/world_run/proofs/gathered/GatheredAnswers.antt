@@ -2,10 +2,9 @@
 -- atomic. It knows the bridge's request, its gathered answers, and the places of reads among pieces and transfers; it hides them from
 -- SerialReplies and SerialOldValues, which know lists of answers alone.
 use Rattle.std.specs.List.{enumerate_from, slice_get}
-use Rattle.std.proofs.Common.{◌≡◌, ℕ, ◌+◌, ◌%◌, ◌^◌, ◌≤◌, min, Bool, true, false, ◌&&◌, ◌||◌, List, [], ◌∷◌, length, Option, Some, None, if◌then◌else◌, refl, sym, ◌∙◌, ap, arith, not, subst, zero, suc, ◌-◌, ◌*◌, ◌/◌, ◌<◌, take, ◌==◌, is_some, option_map, IsSome}
+use Rattle.std.proofs.Common.{◌≡◌, ℕ, ◌+◌, ◌%◌, ◌^◌, ◌≤◌, min, Bool, true, false, ◌&&◌, ◌||◌, List, [], ◌∷◌, length, Option, Some, None, if◌then◌else◌, refl, sym, ◌∙◌, ap, arith, not, subst, zero, suc, ◌-◌, ◌*◌, ◌/◌, ◌<◌, take, ◌==◌, is_some, IsSome}
 use Rattle.std.proofs.lemmas.Bool.{leb-true, leb-false, and_parts, and_from, le-leb, eqb-true}
 use Rattle.std.proofs.lemmas.List.{nil_from_length}
-use Rattle.std.proofs.lemmas.Nat.{div-add-mod', mod_below}
 use Rattle.std.proofs.lemmas.Option.{slice_get_within}
 use Rattle.tl_messages.specs.Operations.{has_data, reply_has_data}
 use Rattle.tl_messages.specs.Requests.{HeldMessage, WholeRequest, request_of}
@@ -36,14 +35,13 @@ use Rattle.flight_table.specs.declared.TableLimits.{TableLimits}
 use Rattle.flight_table.proofs.PhaseLaws.{length_reading, length_writing}
 use Rattle.config.specs.Configs.{is_valid, port_of}
 use Rattle.bridge_core.specs.Laws.{IsServed, answered_pieces, beats_in}
-use Rattle.bridge_core.specs.HeldRequests.{BridgedRequest, outline_in, range_at, range_of, reply_beats, value_found, after_read, after_response}
+use Rattle.bridge_core.specs.HeldRequests.{BridgedRequest, outline_in, range_at, reply_beats, value_found, after_read, after_response}
 use Rattle.config.specs.declared.Config.{Config}
 use Rattle.bridge_core.proofs.PlannedPieces.{plan_known, some_pieces, atomic_plan, live_plan}
 use Rattle.bridge_core.proofs.ServedRequests.{reads_came, IsReading}
 use Rattle.bridge_core.proofs.ReadCounts.{config_parts, leads_there, reads_counted, uncorrupt_address}
 use Rattle.bridge_core.proofs.AnswerLinks.{beats_in-next, answered_next}
 use Rattle.bridge_core.proofs.SentBursts.{plannable, piece_of_plan}
-use Rattle.bridge_core.proofs.ResponseLinks.{not_so}
 use Rattle.subordinate.specs.Faults.{Faults, is_bad, is_good, standing_at, Standing, read_response, read_response_on, write_response}
 use Rattle.subordinate.proofs.EffectLaws.{okay_is_good}
 use Rattle.world_run.specs.InOrder.{HasGathered, IsGathered, TellsAt, TellsSerially}
@@ -110,10 +108,7 @@ plan_there operation plan is = grind (arith, is)
 
 pub has_range : (order : Order) (config : Config) (request : BridgedRequest) (address : ℕ) → IsServed config order.regions request → address_of order.regions (request_of request.message) ≡ Some address
     → (reply_has_data request.message.operation || is_put request.message.operation) ≡ true → request.flight.plan ≡ Some (range_at config (request_of request.message) address)
-has_range order config request address served at sends =
-    served.flight.plan
-    ∙ plan_there request.message.operation (range_of config order.regions (request_of request.message)) sends
-    ∙ ap (λ (place : Option ℕ). option_map (range_at config (request_of request.message)) place) at
+has_range order config request address served at sends = grind (arith, served, at, sends)
 
 -- all reads came, once their bursts were answered
 pub all_reads : (order : Order) (config : Config) (request : BridgedRequest) (address : ℕ) → is_valid config ≡ true → IsServed config order.regions request
@@ -127,9 +122,7 @@ all_reads order config request address valid served at has whole =
 -- a request that is done has an answer to each burst of its phase
 all_answered : (config : Config) (order : Order) (limits : TableLimits) (accepted : ℕ) (request : BridgedRequest) → IsServed config order.regions request → IsSoundRequest limits accepted request.flight
     → request.flight.done ≡ true → request.flight.answered ≡ length (planned request.flight)
-all_answered config order limits accepted request served sound done =
-    let settles = leb-true (length (planned request.flight)) request.flight.answered (sym served.done ∙ done) in
-    omega (arith, settles, sound.sent, sound.answered)
+all_answered config order limits accepted request served sound done = grind (arith, served, sound, done)
 
 -- and all its reads came
 done_reads : (flight : LiveRequest) → flight.answered ≡ length (planned flight) → answered_pieces flight ≡ read_pieces flight
@@ -316,9 +309,7 @@ finds_number order request address is =
     number = value (bytes_at (bytes_before order request.flight.number) address (2 ^ request.message.size))
 
     both : IsSome (value_found request) → (is_good (standing_at order.faults address) ≡ true) × (not (is_bad order.faults address) ≡ true)
-    both some =
-        let there : okay ≡ true = okay_there okay number (subst (λ (o : Option ℕ). IsSome o) is some) in
-        and_parts (is_good (standing_at order.faults address)) (not (is_bad order.faults address)) (sym (readable_is order.faults address) ∙ there)
+    both some = grind (arith, some)
 
 -- ---- it is, once the reads were answered and nothing else
 
@@ -373,11 +364,7 @@ pub record IsTransferOf (range : PlannedRange) (piece : Piece) (n place : ℕ) :
       (x : ℕ) → range.address ≤ x → (x - range.address) / min (2 ^ range.size) range.bus_bytes ≡ place → transfer_has piece.address piece.size n x ≡ true
 
 within : (width start place x : ℕ) → 0 < width → start ≤ x → (x - start) / width ≡ place → (start + place * width ≤ x) × (x < start + place * width + width)
-within width start place x some low is =
-    let whole : (x - start) / width * width + (x - start) % width ≡ x - start = div-add-mod' (x - start) width in
-    let rest : (x - start) % width < width = mod_below (x - start) width some in
-    let parts : place * width + (x - start) % width ≡ x - start = rw is at whole in
-    (omega (arith, parts, low), omega (arith, parts, rest, low))
+within width start place x some low is = grind (arith, some, low, is)
 
 transfer_at : (range : PlannedRange) → DividesEvenly range → (k n : ℕ) → IsTransferOf range (piece_at range k) (n + 1) (k * burst_beats range + n)
 transfer_at range even k n =
@@ -536,9 +523,7 @@ gathered-response order config request address resp writes is told =
   where
     none_found : is_settled (with_response_told resp request).flight ≡ true → (not request.flight.writing && is_some (value_found (with_response_told resp request))) ≡ true
         → is_okay (read_response order.faults address) ≡ true
-    none_found settles test =
-        let reads = not_so request.flight.writing (and_parts (not request.flight.writing) (is_some (value_found (with_response_told resp request))) test).0 in
-        absurd (cc (writes, reads))
+    none_found settles test = grind (arith, settles, test)
 
 -- ---- the answers as the memory gives them
 
@@ -548,11 +533,7 @@ no_range operation = grind arith
 -- a request without an AXI address is done
 nowhere_done : (order : Order) (config : Config) (limits : TableLimits) (accepted : ℕ) (request : BridgedRequest) → IsServed config order.regions request → IsSoundRequest limits accepted request.flight
     → address_of order.regions (request_of request.message) ≡ None → request.flight.done ≡ true
-nowhere_done order config limits accepted request served sound at =
-    sound.no_plan
-    (served.flight.plan
-    ∙ ap (λ (place : Option ℕ). plan_for request.message.operation (option_map (range_at config (request_of request.message)) place)) at
-    ∙ no_range request.message.operation)
+nowhere_done order config limits accepted request served sound at = grind (arith, served, sound, at)
 
 -- a read beat that the memory captured
 pub read_in_order : (order : Order) (config : Config) (limits : TableLimits) (accepted : ℕ) (request : BridgedRequest) (piece : Piece) (count : ℕ) (r : RBeat) → is_valid config ≡ true
@@ -597,14 +578,7 @@ response_in_order order config limits accepted request piece resp valid served s
   where
     by_plan : (address : ℕ) → address_of order.regions (request_of request.message) ≡ Some address → (plan : Option PlannedRange) → request.flight.plan ≡ plan
         → request.flight.plan ≡ Some (range_at config (request_of request.message) address)
-    by_plan address at None none = absurd (cc (sound.no_plan none, live))
-    by_plan address at (Some range) there = there ∙ sym (of_message request.message.operation (sym at_address ∙ sym served.flight.plan ∙ there))
-      where
-        at_address : plan_for request.message.operation (range_of config order.regions (request_of request.message)) ≡ plan_for request.message.operation (Some (range_at config (request_of request.message) address))
-        at_address = ap (λ (place : Option ℕ). plan_for request.message.operation (option_map (range_at config (request_of request.message)) place)) at
-
-        of_message : (operation : Operation) → plan_for operation (Some (range_at config (request_of request.message) address)) ≡ Some range → Some (range_at config (request_of request.message) address) ≡ Some range
-        of_message operation same = grind (arith, same)
+    by_plan address at plan none = grind (arith, at, none)
 
     by_place : (place : Option ℕ) → address_of order.regions (request_of request.message) ≡ place → IsGathered order config.axi_bytes request place
         → IsGathered order config.axi_bytes (after_response resp request) place
