@@ -50,9 +50,11 @@ pub(crate) fn join(
 {
     let mut count = 0u8;
     while let Some(earlier) = row.take_first() {
-        let holds = spans[earlier].conflicts(request);
-        count += u8::from(holds);
-        held[earlier] |= u64::from(holds) << slot;
+        if !spans[earlier].conflicts(request) {
+            continue;
+        }
+        count += 1;
+        held[earlier] |= 1u64 << slot;
     }
     count
 }
