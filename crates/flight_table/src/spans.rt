@@ -60,7 +60,12 @@ pub(crate) fn join(
 }
 
 /// Lowers the count of each request at a marked slot, and marks by place those that nobody holds back any more.
-pub(crate) fn release(slots: &Slots, mut held: Marks, holders: &mut [u8; 64], unheld: &mut Marks)
+pub(crate) fn lower_counts(
+    slots: &Slots,
+    mut held: Marks,
+    holders: &mut [u8; 64],
+    unheld: &mut Marks,
+)
     requires slots { length held ≡ 64 }
     requires live { (slot : ℕ) → slice_index_or held slot false ≡ true → IsSome (request_in slot slots.now) }
     requires unheld { unheld.old ≡ map (λ entry. slice_index_or holders.old entry.key 0 == 0) slots.now }
