@@ -2,6 +2,7 @@
 use Rattle.std.proofs.Common.{◌≡◌, ◌≢◌, ℕ, zero, suc, ◌+◌, ◌-◌, ◌*◌, ◌^◌, ◌==◌, ◌<◌, ◌≤◌, Bool, true, false, ◌&&◌, List, [], ◌∷◌, ◌++◌, map, length, get_or, set, replicate, Option, None, Some, refl, ap, ap₂, sym, ◌∙◌, arith, inl, inr, get_or-set_other, get_or-set_same, length-set}
 use Rattle.std.specs.Prelude.{IfSome, if◌then◌else◌}
 use Rattle.std.specs.List.{AllByRecursion, filter}
+use Rattle.std.proofs.lemmas.Bool.Decides.{nat_tests}
 use Rattle.std.proofs.lemmas.Bool.{cases_eq, eq-eqb, ne_eqb}
 use Rattle.std.proofs.lemmas.List.{map_push, set-get_or}
 use Rattle.std.proofs.lemmas.List.Elements.{filter_agree}
@@ -190,11 +191,7 @@ unheld_by_slot entries counts sets spans rows kept =
 -- a change of a request leaves its key
 pub keys_changed : (f : ℕ → Bool) (change : LiveRequest → LiveRequest) (key : ℕ) (entries : List KeyedRequest) → map (λ entry. f entry.key) (change_first (has_key key) (change_entry change) entries) ≡ map (λ entry. f entry.key) entries
 keys_changed f change key [] = refl
-keys_changed f change key (entry ∷ entries) =
-    elim (cases_eq entry.key key) [
-      | inl same ↦ rw (eq-eqb entry.key key same) refl
-      | inr other ↦ rw (ne_eqb entry.key key other) (ap (λ ms. f entry.key ∷ ms) (keys_changed f change key entries))
-    ]
+keys_changed f change key (entry ∷ entries) = grind (arith, nat_tests, keys_changed f change key entries)
 
 -- ---- one done
 

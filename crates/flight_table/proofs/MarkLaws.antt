@@ -31,7 +31,7 @@ next_half : (mark : Bool) (n place : ℕ) → (bit mark + 2 * n) / 2 ^ suc place
 next_half mark n place =
     ap (λ d. (bit mark + 2 * n) / d) (pow-suc 2 place ∙ mul_comm (2 ^ place) 2) ∙ sym (div-div-eq-div-mul (bit mark + 2 * n) 2 (2 ^ place)) ∙ ap (λ h. h / 2 ^ place) (lowest mark n).1
 
-pub byte_is : (mark : Bool) → bool_byte mark ≡ bit mark
+byte_is : (mark : Bool) → bool_byte mark ≡ bit mark
 byte_is mark = grind arith
 
 small : (mark : Bool) → bool_byte mark < 2 ^ 1

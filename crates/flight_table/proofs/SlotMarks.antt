@@ -1,21 +1,18 @@
 -- Marks at the slots of the live requests that pass a test, through each change of them.
-use Rattle.std.proofs.Common.{◌≡◌, ◌≢◌, ℕ, zero, suc, ◌+◌, ◌==◌, ◌<◌, Bool, true, false, List, [], ◌∷◌, ◌++◌, map, length, get_or, set, replicate, Option, None, Some, IsSome, refl, ap, ap₂, sym, ◌∙◌, arith, inl, inr, get_or-set_other, get_or-set_same, length-set, set-set}
+use Rattle.std.proofs.Common.{◌≡◌, ◌≢◌, ℕ, zero, suc, ◌+◌, ◌==◌, ◌<◌, Bool, true, false, List, [], ◌∷◌, ◌++◌, map, length, get_or, set, replicate, Option, None, Some, IsSome, refl, ap, sym, ◌∙◌, arith, get_or-set_other, get_or-set_same, length-set, set-set}
 use Rattle.std.specs.Prelude.{if◌then◌else◌}
 use Rattle.std.specs.List.{AllByRecursion, filter, position, position_or_len}
-use Rattle.std.proofs.lemmas.Bool.{cases_eq, eq-eqb, ne_eqb}
+use Rattle.std.proofs.lemmas.Bool.{eq-eqb, ne_eqb}
 use Rattle.std.proofs.lemmas.Bool.Decides.{nat_tests}
 use Rattle.std.proofs.lemmas.List.{set_comm, set-get_or}
-use Rattle.std.proofs.lemmas.Option.{same_Some}
 use Rattle.bus_words.specs.Places.{change_first, without_first}
 use Rattle.bus_words.proofs.FirstPlaces.{position_is_first}
 use Rattle.bus_words.proofs.MappedPlaces.{all-mapped}
-use Rattle.bus_words.proofs.PlaceChanges.{all-map}
 use Rattle.flight_table.specs.Conflicts.{slot_marks}
 use Rattle.flight_table.specs.Laws.{HaveOwnKeys}
 use Rattle.flight_table.specs.LiveRequests.{LiveRequest}
 use Rattle.flight_table.specs.Marks.{number_of}
 use Rattle.flight_table.specs.Tables.{KeyedRequest, change_entry, has_key, request_in, requests_of}
-use Rattle.flight_table.proofs.Kept.{count_cons, map_each}
 
 abbrev pub AreOthers : ℕ → List KeyedRequest → Type 0
 AreOthers key entries = AllByRecursion (λ entry. entry.key ≢ key) entries
@@ -78,15 +75,15 @@ unmarked q key (entry ∷ entries) apart = get_or-set_other (slot_marks q entrie
 pub marked : (q : LiveRequest → Bool) (key : ℕ) (entries : List KeyedRequest) (r : LiveRequest) → HaveSlots entries → request_in key entries ≡ Some r → get_or (slot_marks q entries) key false ≡ q r
 marked q key [] r slots found = absurd (cc (found))
 marked q key (entry ∷ entries) r slots found =
-    elim (cases_eq entry.key key) [
-      | inl same ↦ here same (rw (eq-eqb entry.key key same) at found)
-      | inr other ↦ get_or-set_other (slot_marks q entries) entry.key key (q entry.request) false (λ same. other (sym same)) ∙ marked q key entries r slots.1 (rw (ne_eqb entry.key key other) at found)
-    ]
-  where
-    here : entry.key ≡ key → Some entry.request ≡ Some r → get_or (set (slot_marks q entries) entry.key (q entry.request)) key false ≡ q r
-    here same is =
-        ap (λ k. get_or (set (slot_marks q entries) entry.key (q entry.request)) k false) (sym same)
-        ∙ get_or-set_same (slot_marks q entries) entry.key (q entry.request) false (rw (length_slots q entries) slots.0) ∙ ap q (same_Some entry.request r is)
+    grind (
+      arith,
+      nat_tests,
+      slots.0,
+      length_slots q entries,
+      get_or-set_same (slot_marks q entries) entry.key (q entry.request) false,
+      get_or-set_other (slot_marks q entries) entry.key key (q entry.request) false,
+      λ (later : request_in key entries ≡ Some r). marked q key entries r slots.1 later,
+    )
 
 -- a slot that is marked has a request
 pub marked_live : (q : LiveRequest → Bool) (key : ℕ) (entries : List KeyedRequest) → get_or (slot_marks q entries) key false ≡ true → IsSome (request_in key entries)
@@ -111,44 +108,33 @@ marks_pushed q (entry ∷ entries) last apart =
 pub marks_kept : (q : LiveRequest → Bool) (change : LiveRequest → LiveRequest) (key : ℕ) (entries : List KeyedRequest) → ((r : LiveRequest) → q (change r) ≡ q r)
     → slot_marks q (change_first (has_key key) (change_entry change) entries) ≡ slot_marks q entries
 marks_kept q change key [] same = refl
-marks_kept q change key (entry ∷ entries) same =
-    elim (cases_eq entry.key key) [
-      | inl here ↦ rw (eq-eqb entry.key key here, same entry.request) refl
-      | inr other ↦ rw (ne_eqb entry.key key other, marks_kept q change key entries same) refl
-    ]
+marks_kept q change key (entry ∷ entries) same = grind (arith, nat_tests, same entry.request, marks_kept q change key entries same)
 
 pub marks_changed : (q : LiveRequest → Bool) (change : LiveRequest → LiveRequest) (key : ℕ) (entries : List KeyedRequest) (r : LiveRequest) → HaveOwnKeys entries → request_in key entries ≡ Some r
     → slot_marks q (change_first (has_key key) (change_entry change) entries) ≡ set (slot_marks q entries) key (q (change r))
 marks_changed q change key [] r own found = absurd (cc (found))
 marks_changed q change key (entry ∷ entries) r own found =
-    elim (cases_eq entry.key key) [
-      | inl same ↦ here same (rw (eq-eqb entry.key key same) at found)
-      | inr other ↦ there other (marks_changed q change key entries r own.1 (rw (ne_eqb entry.key key other) at found))
-    ]
-  where
-    here : entry.key ≡ key → Some entry.request ≡ Some r → slot_marks q (change_first (has_key key) (change_entry change) (entry ∷ entries)) ≡ set (slot_marks q (entry ∷ entries)) key (q (change r))
-    here same is =
-        rw (eq-eqb entry.key key same, ← same, ← same_Some entry.request r is) (sym (set-set (slot_marks q entries) entry.key (q entry.request) (q (change entry.request))))
-
-    there : entry.key ≢ key → slot_marks q (change_first (has_key key) (change_entry change) entries) ≡ set (slot_marks q entries) key (q (change r))
-        → slot_marks q (change_first (has_key key) (change_entry change) (entry ∷ entries)) ≡ set (slot_marks q (entry ∷ entries)) key (q (change r))
-    there other rest =
-        rw (ne_eqb entry.key key other, rest) (set_comm (slot_marks q entries) key entry.key (q (change r)) (q entry.request) (λ same. other (sym same)))
+    grind (
+      arith,
+      nat_tests,
+      set-set (slot_marks q entries) entry.key (q entry.request) (q (change entry.request)),
+      set_comm (slot_marks q entries) key entry.key (q (change r)) (q entry.request),
+      λ (later : request_in key entries ≡ Some r). marks_changed q change key entries r own.1 later,
+    )
 
 -- a request less, which fails the test
 pub marks_without : (q : LiveRequest → Bool) (key : ℕ) (entries : List KeyedRequest) (r : LiveRequest) → HaveOwnKeys entries → request_in key entries ≡ Some r → q r ≡ false
     → slot_marks q (without_first (has_key key) entries) ≡ slot_marks q entries
 marks_without q key [] r own found fails = refl
 marks_without q key (entry ∷ entries) r own found fails =
-    elim (cases_eq entry.key key) [
-      | inl same ↦ here same (rw (eq-eqb entry.key key same) at found)
-      | inr other ↦ rw (ne_eqb entry.key key other, marks_without q key entries r own.1 (rw (ne_eqb entry.key key other) at found) fails) refl
-    ]
-  where
-    here : entry.key ≡ key → Some entry.request ≡ Some r → slot_marks q (without_first (has_key key) (entry ∷ entries)) ≡ slot_marks q (entry ∷ entries)
-    here same is =
-        rw (eq-eqb entry.key key same, same_Some entry.request r is, fails)
-        (sym (set-get_or (slot_marks q entries) entry.key false) ∙ ap (set (slot_marks q entries) entry.key) (unmarked q entry.key entries (others entry entries own)))
+    grind (
+      arith,
+      nat_tests,
+      fails,
+      set-get_or (slot_marks q entries) entry.key false,
+      unmarked q entry.key entries (others entry entries own),
+      λ (later : request_in key entries ≡ Some r). marks_without q key entries r own.1 later fails,
+    )
 
 -- ---- how many pass a test, after a change of one
 
@@ -156,21 +142,7 @@ pub count_changed : (q : LiveRequest → Bool) (change : LiveRequest → LiveReq
     → length (filter q (requests_of (change_first (has_key key) (change_entry change) entries))) + (if q r then 1 else 0) ≡ length (filter q (requests_of entries)) + (if q (change r) then 1 else 0)
 count_changed q change key [] r found = absurd (cc (found))
 count_changed q change key (entry ∷ entries) r found =
-    elim (cases_eq entry.key key) [
-      | inl same ↦ here same (rw (eq-eqb entry.key key same) at found)
-      | inr other ↦ there other (count_changed q change key entries r (rw (ne_eqb entry.key key other) at found))
-    ]
-  where
-    live : List LiveRequest
-    live = requests_of entries
-
-    here : entry.key ≡ key → Some entry.request ≡ Some r → length (filter q (requests_of (change_first (has_key key) (change_entry change) (entry ∷ entries)))) + (if q r then 1 else 0) ≡ length (filter q (requests_of (entry ∷ entries))) + (if q (change r) then 1 else 0)
-    here same is = rw (eq-eqb entry.key key same, ← same_Some entry.request r is, count_cons q (change entry.request) live, count_cons q entry.request live) (omega arith)
-
-    there : entry.key ≢ key → length (filter q (requests_of (change_first (has_key key) (change_entry change) entries))) + (if q r then 1 else 0) ≡ length (filter q live) + (if q (change r) then 1 else 0)
-        → length (filter q (requests_of (change_first (has_key key) (change_entry change) (entry ∷ entries)))) + (if q r then 1 else 0) ≡ length (filter q (requests_of (entry ∷ entries))) + (if q (change r) then 1 else 0)
-    there other rest =
-        rw (ne_eqb entry.key key other, count_cons q entry.request (requests_of (change_first (has_key key) (change_entry change) entries)), count_cons q entry.request live) (omega (arith, rest))
+    grind (arith, nat_tests, λ (later : request_in key entries ≡ Some r). count_changed q change key entries r later)
 
 pub count_without : (q : LiveRequest → Bool) (key : ℕ) (entries : List KeyedRequest) (r : LiveRequest) → request_in key entries ≡ Some r → q r ≡ false
     → length (filter q (requests_of (without_first (has_key key) entries))) ≡ length (filter q (requests_of entries))
@@ -179,26 +151,23 @@ count_without q key (entry ∷ entries) r found fails = grind (arith, fails, λ 
 
 -- ---- the marks of those whose count is none, after another count
 
+same_unheld : (entries : List KeyedRequest) (slot count : ℕ) (counts : List ℕ) → AreOthers slot entries → map (λ entry. get_or counts entry.key 0 == 0) entries ≡ map (λ entry. get_or (set counts slot count) entry.key 0 == 0) entries
+same_unheld [] slot count counts apart = refl
+same_unheld (entry ∷ entries) slot count counts apart = rw (get_or-set_other counts slot entry.key count 0 apart.0, same_unheld entries slot count counts apart.1) refl
+
 next_unheld : (entries : List KeyedRequest) (slot count : ℕ) (counts : List ℕ) → HaveOwnKeys entries → position_or_len (has_key slot) entries < length entries → slot < length counts
     → set (map (λ entry. get_or counts entry.key 0 == 0) entries) (position_or_len (has_key slot) entries) (count == 0) ≡ map (λ entry. get_or (set counts slot count) entry.key 0 == 0) entries
 next_unheld [] slot count counts own within inside = absurd (omega (arith, within))
 next_unheld (entry ∷ entries) slot count counts own within inside =
-    elim (cases_eq entry.key slot) [
-      | inl same ↦ rw (eq-eqb entry.key slot same) (ap₂ (λ m ms. m ∷ ms) (here same) (map_each _ _ entries (all-map _ _ entries (λ e apart. sym (kept e.key (λ is. apart (is ∙ sym same)))) (others entry entries own))))
-      | inr other ↦ rw (ne_eqb entry.key slot other) (there other (next_unheld entries slot count counts own.1 (omega (arith, rw (ne_eqb entry.key slot other) at within)) inside))
-    ]
-  where
-    kept : (key : ℕ) → key ≢ slot → (get_or (set counts slot count) key 0 == 0) ≡ (get_or counts key 0 == 0)
-    kept key other = ap (λ n. n == 0) (get_or-set_other counts slot key count 0 other)
-
-    here : entry.key ≡ slot → (count == 0) ≡ (get_or (set counts slot count) entry.key 0 == 0)
-    here same = ap (λ n. n == 0) (sym (ap (λ k. get_or (set counts slot count) k 0) same ∙ get_or-set_same counts slot count 0 inside))
-
-    there : entry.key ≢ slot → set (map (λ entry. get_or counts entry.key 0 == 0) entries) (position_or_len (has_key slot) entries) (count == 0) ≡ map (λ entry. get_or (set counts slot count) entry.key 0 == 0) entries
-        → set (map (λ entry. get_or counts entry.key 0 == 0) (entry ∷ entries)) (1 + position_or_len (has_key slot) entries) (count == 0) ≡ map (λ entry. get_or (set counts slot count) entry.key 0 == 0) (entry ∷ entries)
-    there other rest =
-        let next : 1 + position_or_len (has_key slot) entries ≡ suc (position_or_len (has_key slot) entries) = omega arith in
-        rw next (ap₂ (λ m ms. m ∷ ms) (sym (kept entry.key other)) rest)
+    grind (
+      arith,
+      nat_tests,
+      within,
+      get_or-set_same counts entry.key count 0,
+      get_or-set_other counts slot entry.key count 0,
+      same_unheld entries entry.key count counts (others entry entries own),
+      λ (later : position_or_len (has_key slot) entries < length entries). next_unheld entries slot count counts own.1 later inside,
+    )
 
 pub unheld_next : (entries : List KeyedRequest) (slot place count : ℕ) (counts : List ℕ) → HaveOwnKeys entries → position (has_key slot) entries ≡ Some place → slot < length counts
     → set (map (λ entry. get_or counts entry.key 0 == 0) entries) place (count == 0) ≡ map (λ entry. get_or (set counts slot count) entry.key 0 == 0) entries

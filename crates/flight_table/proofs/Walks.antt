@@ -1,15 +1,14 @@
 -- Walks over marked slots: how many of the requests there conflict with one, the sets that it joins, and the counts that fall by one.
-use Rattle.std.proofs.Common.{◌≡◌, ℕ, zero, suc, ◌+◌, ◌-◌, ◌*◌, ◌%◌, ◌^◌, ◌<◌, ◌≤◌, Bool, true, false, ◌&&◌, List, [], ◌∷◌, length, get_or, set, None, Some, bit_or, refl, ap, ap₂, arith}
+use Rattle.std.proofs.Common.{sym, ◌∙◌, ◌≡◌, ℕ, zero, suc, ◌+◌, ◌-◌, ◌^◌, ◌<◌, ◌≤◌, Bool, true, false, ◌&&◌, List, [], ◌∷◌, length, get_or, set, None, Some, bit_or, refl, ap, ap₂, arith}
 use Rattle.std.specs.Prelude.{if◌then◌else◌}
 use Rattle.std.specs.List.{AllByRecursion, find, position}
+use Rattle.std.proofs.lemmas.List.{set-get_or}
 use Rattle.std.proofs.lemmas.Nat.{pow_pos}
 use Rattle.bus_words.proofs.FirstPlaces.{find-none, first-passes, position_is_first}
 use Rattle.flight_table.specs.Marks.{number_of}
 use Rattle.flight_table.specs.Spans.{counted_in, joined_in, lowered_in, spans_conflict}
 use Rattle.flight_table.specs.declared.spans.Span.{Span}
-use Rattle.flight_table.proofs.MarkLaws.{byte_is, is_set, put_is, unit_is}
-use lib.Bits.{or_zero_r}
-use mir.Val.{bool_byte}
+use Rattle.flight_table.proofs.MarkLaws.{is_set, put_is}
 
 abbrev pub one : Bool → ℕ
 one mark = if mark then 1 else 0
@@ -58,9 +57,9 @@ counted_set (m ∷ row) slot mark r [] d within same = absurd (omega (arith, sam
 counted_set (m ∷ row) zero mark r (x ∷ spans) d within same = omega arith
 counted_set (m ∷ row) (suc slot) mark r (x ∷ spans) d within same = omega (arith, counted_set row slot mark r spans d (omega (arith, within)) (omega (arith, same)))
 
-pub counted_next : (row : List Bool) (slot : ℕ) (r : Span) (spans : List Span) (d : Span) → IsMarked row slot → length row ≡ length spans
-    → counted_in row r spans ≡ bool_byte (spans_conflict (get_or spans slot d) r) + counted_in (set row slot false) r spans
-counted_next row slot r spans d at same = rw (byte_is (spans_conflict (get_or spans slot d) r)) (omega (arith, rw at.marked at (counted_set row slot false r spans d at.within same)))
+pub counted_next : (row : List Bool) (slot : ℕ) (r : Span) (spans : List Span) (d : Span) (holds : Bool) → IsMarked row slot → length row ≡ length spans → spans_conflict (get_or spans slot d) r ≡ holds
+    → counted_in row r spans ≡ one holds + counted_in (set row slot false) r spans
+counted_next row slot r spans d holds at same is = omega (arith, rw (at.marked, is) at (counted_set row slot false r spans d at.within same))
 
 pub counted_none : (row : List Bool) (r : Span) (spans : List Span) → AreUnmarked row → counted_in row r spans ≡ 0
 counted_none [] r spans none = refl
@@ -77,12 +76,6 @@ counted_most (mark ∷ row) r (x ∷ spans) = grind (arith, counted_most row r s
 abbrev pub joined : Bool → ℕ → ℕ → ℕ
 joined holds slot set = if holds then bit_or set (2 ^ slot) else set
 
-pub joined_bit : (holds : Bool) (slot set value : ℕ) → slot < 64 → value ≡ bool_byte holds → bit_or set (value * 2 ^ slot % 18446744073709551616) ≡ joined holds slot set
-joined_bit true slot set value small is = rw (is, unit_is slot small) refl
-joined_bit false slot set value small is =
-    let none : 0 * 2 ^ slot % 18446744073709551616 ≡ 0 = omega arith in
-    rw (is, none) (or_zero_r set)
-
 pub joined_next : (row : List Bool) (k : ℕ) (r : Span) (spans : List Span) (slot : ℕ) (sets : List ℕ) (d : Span) (e now : ℕ) → IsMarked row k → length row ≡ length spans → length sets ≡ length spans
     → now ≡ joined (spans_conflict (get_or spans k d) r) slot (get_or sets k e) → joined_in (set row k false) r spans slot (set sets k now) ≡ joined_in row r spans slot sets
 joined_next [] k r spans slot sets d e now at same many is = absurd (omega (arith, at.within))
@@ -91,6 +84,12 @@ joined_next (mark ∷ row) k r (x ∷ spans) slot [] d e now at same many is = a
 joined_next (mark ∷ row) zero r (x ∷ spans) slot (s ∷ sets) d e now at same many is = rw (at.marked, is) refl
 joined_next (mark ∷ row) (suc k) r (x ∷ spans) slot (s ∷ sets) d e now at same many is =
     ap (λ os. joined (mark && spans_conflict x r) slot s ∷ os) (joined_next row k r spans slot sets d e now (record { within = omega (arith, at.within); marked = at.marked }) (omega (arith, same)) (omega (arith, many)) is)
+
+-- one that doesn't conflict
+pub joined_same : (row : List Bool) (k : ℕ) (r : Span) (spans : List Span) (slot : ℕ) (sets : List ℕ) (d : Span) → IsMarked row k → length row ≡ length spans → length sets ≡ length spans
+    → spans_conflict (get_or spans k d) r ≡ false → joined_in (set row k false) r spans slot sets ≡ joined_in row r spans slot sets
+joined_same row k r spans slot sets d at same many apart =
+    ap (joined_in (set row k false) r spans slot) (sym (set-get_or sets k 0)) ∙ joined_next row k r spans slot sets d 0 (get_or sets k 0) at same many (rw apart refl)
 
 pub joined_none : (row : List Bool) (r : Span) (spans : List Span) (slot : ℕ) (sets : List ℕ) → AreUnmarked row → joined_in row r spans slot sets ≡ sets
 joined_none [] r spans slot sets none = refl

@@ -19,7 +19,7 @@ use crate::live_request::{LiveRequest, Step};
 use crate::marks::Marks;
 use crate::rows::Rows;
 use crate::slots::{Key, ROOM, Slots};
-use crate::spans::{Span, join, release};
+use crate::spans::{Span, join, lower_counts};
 use crate::sums::Sums;
 use std::alloc::{AllocError, Global};
 use std::marker::Model;
@@ -173,7 +173,7 @@ impl Live {
         let slot = key.slot();
         self.rows.remove(request.open_page(), slot);
         let held = Marks::of(self.held[slot], ROOM);
-        release(&self.slots, held, &mut self.holders, &mut self.unheld);
+        lower_counts(&self.slots, held, &mut self.holders, &mut self.unheld);
         self.held[key.slot()] = 0;
         self.slots.take(key, Step::Done);
         self.able.put(place, false);

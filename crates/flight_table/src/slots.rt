@@ -108,14 +108,6 @@ impl Slots {
         key
     }
 
-    /// How many requests are live.
-    pub(crate) fn count(&self) -> usize
-        ensures count { result ≡ length (requests_of self.now) }
-        ensures few { result ≤ 64 }
-    {
-        self.order.len()
-    }
-
     /// The request of a key, where it lies.
     pub(crate) fn get(&self, key: Key) -> &LiveRequest
         requires { IsSome (request_in key self.now) }

@@ -50,15 +50,22 @@ pub(crate) fn join(
 {
     let mut count = 0u8;
     while let Some(earlier) = row.take_first() {
-        let holds = spans[earlier].conflicts(request);
-        count += u8::from(holds);
-        held[earlier] |= u64::from(holds) << slot;
+        if !spans[earlier].conflicts(request) {
+            continue;
+        }
+        count += 1;
+        held[earlier] |= 1u64 << slot;
     }
     count
 }
 
 /// Lowers the count of each request at a marked slot, and marks by place those that nobody holds back any more.
-pub(crate) fn release(slots: &Slots, mut held: Marks, holders: &mut [u8; 64], unheld: &mut Marks)
+pub(crate) fn lower_counts(
+    slots: &Slots,
+    mut held: Marks,
+    holders: &mut [u8; 64],
+    unheld: &mut Marks,
+)
     requires slots { length held ≡ 64 }
     requires live { (slot : ℕ) → slice_index_or held slot false ≡ true → IsSome (request_in slot slots.now) }
     requires unheld { unheld.old ≡ map (λ entry. slice_index_or holders.old entry.key 0 == 0) slots.now }

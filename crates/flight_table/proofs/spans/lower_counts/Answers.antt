@@ -3,7 +3,7 @@ use Rattle.bus_words.proofs.MappedPlaces.{length_map}
 use Rattle.flight_table.specs.Tables.{KeyedRequest}
 use Rattle.flight_table.proofs.Walks.{fewer_marks, lowered_next, lowered_none, next_marked, none_marked, still_marked}
 use Rattle.flight_table.proofs.SlotMarks.{unheld_next}
-use Rattle.flight_table.proofs.spans.release.Goals as goal
+use Rattle.flight_table.proofs.spans.lower_counts.Goals as goal
 
 pub loop-slot-smaller : goal.loop-slot-smaller
 loop-slot-smaller c = rw c.in-Some.ensures.rest (fewer_marks c.loop-slot.held c.in-Some.slot (next_marked c.loop-slot.held c.in-Some.slot (sym c.take_first.ensures.first ∙ c.in-Some.is)))

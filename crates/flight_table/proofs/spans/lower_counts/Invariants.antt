@@ -3,7 +3,7 @@ use Rattle.std.specs.Prelude.{IsSome}
 use Rattle.flight_table.specs.Spans.{lowered_in}
 use Rattle.flight_table.specs.Marks.{number_of}
 use Rattle.flight_table.specs.Tables.{KeyedRequest, request_in}
-use Rattle.flight_table.proofs.spans.release.Given as goal
+use Rattle.flight_table.proofs.spans.lower_counts.Given as goal
 
 abbrev pub invariant-loop-slot : goal.invariant-loop-slot
 invariant-loop-slot l = record {
