@@ -1,6 +1,6 @@
 //! The lines of observed beats, and of the answers between them.
-ghost use Rattle.std.specs.Prelude.{◌≡◌, ◌<◌, ◌||◌, IfSome, Ok};
-ghost use Rattle.score_script.specs.declared.score.Command.TheVariants.{Observed};
+ghost use Rattle.std.specs.Prelude.{◌≡◌, ◌<◌, ◌||◌, IfOk, Ok, true};
+ghost use Rattle.score_script.specs.declared.score.Command.TheVariants.{Answer, Observed};
 ghost use Rattle.line_text.specs.Fields.{Reads, address_field, byte_field, flag_field};
 ghost use Rattle.line_text.specs.Words.{word_at};
 ghost use Rattle.score_script.specs.UnknownDigits.{StandsAt, payload_field, unknown_field};
@@ -419,6 +419,7 @@ pub(crate) fn is_withdrawal(word: &[u8]) -> bool
 }
 
 /// An answer, by the word after `=`.
+#[inline(always)]
 fn answer_command(word: &[u8]) -> Command
     ensures { result ≡ answer_command word.now }
 {
@@ -445,7 +446,8 @@ fn is_answer(words: &Words<'_>) -> bool
 
 /// Whether a line does nothing but settle the beat before it.
 pub(crate) fn only_settles(words: &Words<'_>) -> bool
-    ensures { result ≡ only_settles words.now }
+    ensures value { result ≡ only_settles words.now }
+    ensures answer { result ≡ true → command_of words.now ≡ Ok Answer }
 {
     is_answer(words) && matches!(answer_command(words.at(2)), Command::Answer)
 }
@@ -475,16 +477,13 @@ pub(crate) fn command_of(words: &Words<'_>) -> Result<Command, u32>
     asked_command(words, Channel::named(words.at(1)))
 }
 
-/// The beat that a line says, where nobody need know more of it than its fields; none of any other line.
+/// The beat that a line says, where nobody need know more of it than its fields; a wrong word of any other line.
 #[inline(always)]
-pub(crate) fn known_beat(words: &Words<'_>) -> Option<SeenBeat>
-    ensures { IfSome result (λ seen. command_of words.now ≡ Ok (Observed seen)) }
+pub(crate) fn known_beat(words: &Words<'_>) -> Result<SeenBeat, u32>
+    ensures { IfOk result (λ seen. command_of words.now ≡ Ok (Observed seen)) }
 {
     let Some(channel) = Channel::named(words.at(1)) else {
-        return None;
+        return Err(1);
     };
-    match seen_line(channel, words) {
-        Ok(seen) => Some(seen),
-        Err(_) => None,
-    }
+    seen_line(channel, words)
 }

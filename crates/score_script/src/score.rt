@@ -1,5 +1,5 @@
 //! What was found of the beats that were read so far, and what each line finds.
-ghost use Rattle.std.specs.Prelude.{◌≡◌, ◌⊎◌, Err, IfErr, IfOk, IfSome, None, OnErr, OnOk, Some, if◌then◌else◌, true};
+ghost use Rattle.std.specs.Prelude.{◌≡◌, ◌⊎◌, Err, IfErr, IfOk, IfSome, None, OnErr, OnOk, Some, if◌then◌else◌, is_some, true};
 ghost use Rattle.std.specs.Option.{option_or};
 ghost use Rattle.script_text.specs.Stages.{Writes, WritesEnd};
 ghost use Rattle.scoreboard.specs.Observed.{is_request};
@@ -7,9 +7,9 @@ ghost use Rattle.score_setup.specs.ScoreSetups.{lists_of, ranges_of, score_setup
 ghost use Rattle.setups.specs.declared.SetupFault.TheVariants.{NoMemory};
 ghost use Rattle.score_script.specs.Profiles.{byte_in, filled_in};
 ghost use Rattle.score_script.specs.declared.profiles.Asked.{Asked};
-ghost use Rattle.score_script.specs.Scores.{FailsBy, Leaves, LeavesBy, begins_after, called_score, counts_of, finds_at_once, judged_behind, commanded, commanded_score, unanswered_by, wrong_command, wrong_fill, beats_judged, client_of, closing, counted, ended_score, finds, judging, line_at, misplaced_in, observing, opening_score, reset_score, settling, unclear, unknown_on, with_more, without_data, wrong_behind};
+ghost use Rattle.score_script.specs.Scores.{found, FailsBy, Leaves, LeavesBy, begins_after, called_score, counts_of, finds_at_once, judged_behind, commanded, commanded_score, unanswered_by, wrong_command, wrong_fill, beats_judged, client_of, closing, counted, ended_score, finds, judging, line_at, misplaced_in, observing, opening_score, reset_score, settling, unclear, unknown_on, with_more, without_data, wrong_behind};
 ghost use Rattle.score_script.specs.ScoreStates.{score_of};
-ghost use Rattle.score_script.specs.declared.score.Command.TheVariants.{Observed};
+ghost use Rattle.score_script.specs.declared.score.Command.TheVariants.{Answer, Observed};
 ghost use Rattle.score_script.specs.FindingTexts.{WritesText};
 ghost use Rattle.score_script.specs.UnansweredTexts.{unanswered_text};
 
@@ -265,7 +265,30 @@ impl Score {
         }
     }
 
+    /// Counts what is wrong with a beat of which the board found this, if anything is, and puts it into its place. It is apart, since
+    /// nearly all beats are right.
+    #[inline(never)]
+    fn tell_wrong(
+        &mut self,
+        line: Line,
+        seen: &ObservedBeat,
+        verdict: &Option<Wrong>,
+        finding: &mut Option<Finding>,
+    )
+        ensures found { finding.new ≡ found line seen.now (option_or (without_data self.old.x_data verdict.now) (misplaced_in self.old.places seen.now)) }
+        ensures state { score_of self.new ≡ record (score_of self.old) {
+          wrong = if is_some (option_or (without_data self.old.x_data verdict.now) (misplaced_in self.old.places seen.now)) then counted self.old.wrong else self.old.wrong;
+        } }
+    {
+        *finding = None;
+        if let Some(wrong) = self.with_place(seen, self.without_data(*verdict)) {
+            self.wrong = counted(self.wrong);
+            *finding = Some(Finding::Beat(line, client_of(seen), wrong));
+        }
+    }
+
     /// Judges what was observed, by its line, and puts what it finds into its place. The one error is that memory was refused.
+    #[inline(always)]
     fn judge(
         &mut self,
         line: Line,
@@ -281,29 +304,43 @@ impl Score {
         let SeenBeat { beat, unknown } = seen;
         let telling = self.board.telling(beat);
         let found = self.board.judge_unknown(beat, *unknown)?;
-        let verdict = self.with_place(beat, self.without_data(found));
         self.judged = beats_judged(self.judged, beat);
         self.told = with_more(self.told, u64::from(telling.told));
         self.compared = with_more(self.compared, u64::from(telling.compared));
         *finding = None;
-        if let Some(wrong) = verdict {
-            self.wrong = counted(self.wrong);
-            *finding = Some(Finding::Beat(line, client_of(beat), wrong));
+        if found.is_some() || self.places.is_some() {
+            self.tell_wrong(line, beat, &found, finding);
         }
         Ok(())
     }
 
     /// Judges the beat that is held, if there is one, and puts what it finds into its place. The one error is that memory was
     /// refused; then nothing has changed.
+    #[inline(always)]
     fn settle(&mut self, finding: &mut Option<Finding>) -> Result<(), AllocError>
         ensures found { OnOk result (finding.new ≡ (settling (score_of self.old)).0) }
         ensures state { OnOk result (score_of self.new ≡ (settling (score_of self.old)).1) }
         ensures kept { OnErr result (score_of self.new ≡ score_of self.old) }
         ensures quiet { OnErr result (finding.new ≡ finding.old) }
     {
-        let Some(held) = self.held else {
+        if self.held.is_none() {
             *finding = None;
             return Ok(());
+        }
+        self.settle_held(finding)
+    }
+
+    /// The same where one is held. It is apart, so that where none is nothing of it stands in the way.
+    #[inline(never)]
+    fn settle_held(&mut self, finding: &mut Option<Finding>) -> Result<(), AllocError>
+        requires held { is_some self.old.held ≡ true }
+        ensures found { OnOk result (finding.new ≡ (settling (score_of self.old)).0) }
+        ensures state { OnOk result (score_of self.new ≡ (settling (score_of self.old)).1) }
+        ensures kept { OnErr result (score_of self.new ≡ score_of self.old) }
+        ensures quiet { OnErr result (finding.new ≡ finding.old) }
+    {
+        let Some(held) = self.held else {
+            unreachable!();
         };
         self.held = None;
         let seen = SeenBeat {
@@ -319,6 +356,7 @@ impl Score {
 
     /// Holds a beat on channel A, and judges any other, and puts what it finds into its place. The one error is that memory was
     /// refused; then nothing has changed.
+    #[inline(always)]
     fn observe(
         &mut self,
         line: Line,
@@ -659,6 +697,20 @@ impl Score {
     {
         let mut findings = Findings::none();
         self.take_seen(number, seen, &mut findings)?;
+        Ok(findings_lines(&findings, writer)?)
+    }
+
+    /// The same of an answer that settles the beat before it, and does nothing more.
+    #[inline(always)]
+    pub(crate) fn answer<W: Write>(
+        &mut self,
+        _number: u32,
+        writer: &mut W,
+    ) -> Result<bool, ScriptFault>
+        ensures { Writes true _number (commanded (score_of self.old) _number Answer) (score_of self.new) (W.contents writer.old) (W.contents writer.new) result }
+    {
+        let mut findings = Findings::none();
+        self.settle(&mut findings.held)?;
         Ok(findings_lines(&findings, writer)?)
     }
 

@@ -119,8 +119,12 @@ impl Kind for ScoreScript {
         words: &Words<'_>,
         writer: &mut W,
     ) -> Result<bool, ScriptFault> {
-        if let Some(seen) = known_beat(words) {
-            return score.see(number, &seen, writer);
+        let known = known_beat(words);
+        if let Ok(seen) = &known {
+            return score.see(number, seen, writer);
+        }
+        if only_settles(words) {
+            return score.answer(number, writer);
         }
         let read = command_of(words);
         match &read {

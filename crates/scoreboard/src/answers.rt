@@ -64,6 +64,7 @@ impl Scoreboard {
     }
 
     /// How much a beat tells that may come next, and how much of that is compared. What was observed stays.
+    #[inline(always)]
     pub fn telling(&self, seen: &ObservedBeat) -> Telling
         ensures { result ≡ telling_of self.now.policy (board_of self.now) seen.now }
     {

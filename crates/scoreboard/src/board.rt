@@ -663,6 +663,7 @@ impl Scoreboard {
     }
 
     /// Judges a beat on a client's channel D.
+    #[inline(always)]
     pub(crate) fn judge_reply(&mut self, client: u8, beat: &DBeat) -> Option<Wrong>
         ensures answer { result ≡ d_wrong self.old.policy (slice_get (board_of self.old).clients client) beat.now }
         ensures state { board_of self.new ≡ after_d (board_of self.old) client (slice_get (board_of self.old).clients client) beat.now }

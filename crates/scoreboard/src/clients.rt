@@ -7,7 +7,7 @@ ghost use Rattle.tl_checker.specs.declared.Progress.TheVariants.{More, Whole};
 ghost use Rattle.score_setup.specs.ScoreSetups.{is_valid_to_score, limits_of};
 ghost use Rattle.scoreboard.specs.Boards.{answer_to, client_after, client_beside, client_cut, client_footprints, early_left, has_replied, hit_client, is_spoiled, kept_from, next_to, opening_client, told_to, with_whole, wrong_reply};
 ghost use Rattle.scoreboard.specs.FailedBursts.{after_reached};
-ghost use Rattle.scoreboard.specs.Flights.{in_flight, is_of_source, next_reply, replies_left};
+ghost use Rattle.scoreboard.specs.Flights.{in_flight, is_of_source, is_over, next_reply, replies_left};
 ghost use Rattle.serial_memory.specs.SerialMemory.{IsCheckedRequest, doubts_of, rooms_of};
 ghost use Rattle.scoreboard.specs.InsideBoards.{HaveRoomToWrite, IsAskedBy, IsFirstBeat, IsMarkedAlone, client_of, early_of, flight_of, flights_of, footprint_of, front_after};
 ghost use Rattle.scoreboard.specs.Races.{beside_all, beside_dependent, unless_failed};
@@ -234,6 +234,7 @@ impl Client {
     }
 
     /// Judges a beat that is no next one of a reply in flight: it may come early.
+    #[inline(never)]
     fn judge_early(&mut self, policy: Policy, told: Option<bool>, beat: &DBeat) -> Option<Wrong>
         requires { next_reply (flights_of self.old.flights) beat.now.source ≡ None }
         ensures wrong { result ≡ wrong_reply policy told (next_to policy (client_of self.old) beat.now.source) beat.now }
@@ -246,6 +247,7 @@ impl Client {
     }
 
     /// Judges a beat on channel D, which then has come of the reply whose next it may be.
+    #[inline(always)]
     fn take_reply(&mut self, policy: Policy, beat: &DBeat) -> Option<Wrong>
         ensures wrong { result ≡ wrong_reply policy (told_to (client_of self.old)) (next_to policy (client_of self.old) beat.now.source) beat.now }
         ensures state { client_of self.new ≡ client_after beat.now (client_of self.old) }
@@ -260,6 +262,7 @@ impl Client {
     }
 
     /// Judges a beat on channel D. Where the reply that has begun is over with it, as it is the first of another, that one begins.
+    #[inline(always)]
     pub(crate) fn judge_reply(&mut self, policy: Policy, beat: &DBeat) -> Option<Wrong>
         ensures wrong { result ≡ wrong_reply policy (told_to (client_of self.old)) (next_to policy (client_of self.old) beat.now.source) beat.now }
         ensures state { client_of self.new ≡ client_after beat.now (client_cut beat.now.source (client_of self.old)) }
@@ -268,6 +271,17 @@ impl Client {
         if !self.flights.is_over(beat.source) {
             return self.take_reply(policy, beat);
         }
+        self.judge_cut(policy, beat)
+    }
+
+    /// The same where that is so. It is apart, since it is always wrong.
+    #[inline(never)]
+    fn judge_cut(&mut self, policy: Policy, beat: &DBeat) -> Option<Wrong>
+        requires over { is_over (flights_of self.old.flights) beat.now.source ≡ true }
+        ensures wrong { result ≡ wrong_reply policy (told_to (client_of self.old)) (next_to policy (client_of self.old) beat.now.source) beat.now }
+        ensures state { client_of self.new ≡ client_after beat.now (client_cut beat.now.source (client_of self.old)) }
+        ensures room { self.new.flights.room ≡ self.old.flights.room }
+    {
         let wrong = self.flights.wrong_begun(policy, self.told(), beat);
         self.flights.cut_short();
         let _first = self.take_reply(policy, beat);
@@ -336,6 +350,7 @@ impl Client {
     }
 
     /// How much a beat of a source on channel D tells.
+    #[inline(always)]
     pub(crate) fn telling(&self, policy: Policy, source: u8) -> Telling
         ensures { result ≡ flight_telling policy (next_to policy (client_of self.now) source) }
     {

@@ -242,19 +242,17 @@ impl Flights {
         ensures flights { flights_of self.new ≡ record (flights_of self.old) { begun = begun_after (flights_of self.old).begun source } }
         ensures room { self.new.room ≡ self.old.room }
     {
-        let Some(mut flight) = self.begun.take() else {
+        let Some(flight) = &mut self.begun else {
             return;
         };
         if flight.source() != source {
-            self.begun = Some(flight);
             return;
         }
-        if flight.left() <= 1 {
-            self.spare.push_reserved(flight);
+        if flight.left() > 1 {
+            flight.count();
             return;
         }
-        flight.count();
-        self.begun = Some(flight);
+        self.cut_short();
     }
 
     /// Whether the reply that has begun is over where a beat of a source comes: it is of another, and a reply is due to this one of
@@ -296,6 +294,7 @@ impl Flights {
 
     /// Judges a beat on channel D, by whether the reply that has begun was denied. It then has come of the reply whose next it may
     /// be, if it is of its source.
+    #[inline(always)]
     pub(crate) fn judge(
         &mut self,
         policy: Policy,
@@ -388,6 +387,7 @@ impl Flights {
     }
 
     /// How much a beat of a source tells.
+    #[inline(always)]
     pub(crate) fn telling(&self, policy: Policy, source: u8) -> Telling
         ensures { result ≡ flight_telling policy (next_reply (flights_of self.now) source) }
     {

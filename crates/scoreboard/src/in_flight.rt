@@ -1,5 +1,6 @@
 //! A request in flight, with its reply.
 ghost use Rattle.std.specs.Prelude.{◌≡◌, ◌≤◌, ◌<◌, ◌-◌, Some, IfOk, IfSome, drop, false, length, slice_get, true};
+ghost use Rattle.std.specs.Option.{option_copied};
 ghost use Rattle.bus_words.specs.Tables.{first_broken};
 ghost use Rattle.tl_messages.specs.Operations.{beats_of};
 ghost use Rattle.tl_messages.specs.Requests.{request_of};
@@ -147,6 +148,7 @@ pub(crate) fn beat_number(footprint: &Footprint, left: u16) -> u16
 
 /// What is wrong with a beat where another is due of the reply to a request with this footprint, of which so many are left, and requests
 /// take effect in real time.
+#[inline(never)]
 pub(crate) fn wrong_told(
     footprint: &Footprint,
     told: Option<bool>,
@@ -261,13 +263,13 @@ impl InFlight {
     }
 
     /// The next beat of its reply.
-    fn next_beat(&self) -> Option<DBeat>
-        ensures { result ≡ slice_get self.now.beats 0 }
+    fn next_beat(&self) -> Option<&DBeat>
+        ensures { option_copied result ≡ slice_get self.now.beats 0 }
     {
         if self.came >= self.reply.beats() {
             return None;
         }
-        Some(self.reply.beat(self.came))
+        Some(&self.reply.as_slice()[usize::from(self.came)])
     }
 
     /// A beat of its reply has come.
@@ -325,6 +327,7 @@ impl InFlight {
     }
 
     /// What is wrong with a beat on channel D, whose next it may be, by whether the reply that has begun was denied.
+    #[inline(always)]
     pub(crate) fn wrong_reply(
         &self,
         policy: Policy,
@@ -337,8 +340,8 @@ impl InFlight {
             return Some(Wrong::Reply(ReplyRule::Unasked, None));
         };
         match policy {
-            Policy::AcceptanceOrder => wrong_in_turn(&self.footprint, self.left(), &due, beat),
-            Policy::RealTime => wrong_told(&self.footprint, told, self.left(), &due, beat),
+            Policy::AcceptanceOrder => wrong_in_turn(&self.footprint, self.left(), due, beat),
+            Policy::RealTime => wrong_told(&self.footprint, told, self.left(), due, beat),
         }
     }
 
@@ -358,13 +361,15 @@ impl InFlight {
     {
         self.footprint.hit(span);
     }
+
     /// How much the next beat of its reply tells; nothing, where none is left.
+    #[inline(always)]
     pub(crate) fn telling(&self, policy: Policy) -> Telling
         ensures { result ≡ left_telling policy (footprint_of self.now.footprint) self.now.beats }
     {
         match self.next_beat() {
             None => Telling::nothing(),
-            Some(due) => Telling::of_due(policy, &self.footprint, self.left(), &due),
+            Some(due) => Telling::of_due(policy, &self.footprint, self.left(), due),
         }
     }
 }

@@ -1,5 +1,5 @@
 //! The beats of replies where requests take effect in order of acceptance: what nobody knows isn't compared.
-ghost use Rattle.std.specs.Prelude.{◌≡◌, ◌<◌, ◌-◌, ℕ, not, true};
+ghost use Rattle.std.specs.Prelude.{◌≡◌, ◌<◌, ◌-◌, ℕ, Some, not, true};
 ghost use Rattle.bus_words.specs.Lanes.{has_lane};
 ghost use Rattle.bus_words.specs.Tables.{first_broken};
 ghost use Rattle.tl_messages.specs.Operations.{beats_of};
@@ -61,6 +61,7 @@ fn differs_where_known(footprint: &Footprint, k: u16, due: &DBeat, beat: &DBeat)
 
 /// What is wrong with a beat where another is due of the reply to a request with this footprint, of which so many are left, and requests
 /// take effect in order of acceptance.
+#[inline(always)]
 pub(crate) fn wrong_in_turn(
     footprint: &Footprint,
     left: u16,
@@ -72,6 +73,23 @@ pub(crate) fn wrong_in_turn(
         (first_broken (reply_rules due.now beat.now))) }
 {
     let rule = difference(due, beat)?;
+    wrong_by_rule(rule, footprint, left, due, beat)
+}
+
+/// The same where the beat differs from the one that is due, by this rule. It is apart, since nearly all beats are right.
+#[inline(never)]
+fn wrong_by_rule(
+    rule: ReplyRule,
+    footprint: &Footprint,
+    left: u16,
+    due: &DBeat,
+    beat: &DBeat,
+) -> Option<Wrong>
+    requires { first_broken (reply_rules due.now beat.now) ≡ Some rule }
+    ensures { result ≡ wrong_by due.now
+        (unless_indeterminate (not (agrees_where_known (record { beat = due.now; unknown = is_unknown_in (footprint_of footprint.now) (beats_of footprint.now.size true - left) due.now }) beat.now))
+        (first_broken (reply_rules due.now beat.now))) }
+{
     let number = beat_number(footprint, left);
     if is_payload(rule) && !differs_where_known(footprint, number, due, beat) {
         return None;

@@ -37,6 +37,12 @@ fn lanes_in(mask: u8) -> u8
     ensures value { result ≡ lanes_with (has_lane mask) }
     ensures most { result ≤ 8 }
 {
+    if mask == 0 {
+        return 0;
+    }
+    if mask == 255 {
+        return 8;
+    }
     one_if(has_lane(mask, 0))
         + one_if(has_lane(mask, 1))
         + one_if(has_lane(mask, 2))
@@ -135,6 +141,7 @@ impl Telling {
     }
 
     /// That of a beat where this one is due, and so many are left of the reply to a request with this footprint.
+    #[inline(always)]
     pub(crate) fn of_due(policy: Policy, footprint: &Footprint, left: u16, due: &DBeat) -> Telling
         ensures { result ≡ due_telling policy (footprint_of footprint.now) (beats_of footprint.now.size true - left) due.now }
     {

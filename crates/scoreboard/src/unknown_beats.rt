@@ -26,6 +26,7 @@ impl Scoreboard {
     /// transfer. The beat counts as it does where all of it is known, but a byte that a request gives so isn't known once it is whole. With
     /// no such lane this is what `judge` says and does, but for what a message that had begun with one makes uncertain: of a message take
     /// each beat by this call, or each by `judge`. The one error is that of `judge`.
+    #[inline(always)]
     pub fn judge_unknown(
         &mut self,
         seen: &ObservedBeat,
@@ -105,16 +106,29 @@ impl Scoreboard {
     }
 
     /// Judges a beat on a client's channel D, as far as it is known.
+    #[inline(always)]
     fn judge_unknown_reply(&mut self, client: u8, beat: &DBeat, lanes: u8) -> Option<Wrong>
         ensures answer { result ≡ unknown_wrong self.old.policy (board_of self.old) (seen.D client beat.now) lanes }
         ensures state { unknown_board self.new ≡ after_seen_unknown self.old.policy (unknown_board self.old) (seen.D client beat.now) lanes }
         ensures policy { self.new.policy ≡ self.old.policy }
         ensures known { lanes ≡ 0 → result ≡ wrong_at self.old.policy (board_of self.old) (seen.D client beat.now) }
     {
-        let payload = beat.payload;
+        // It has at most 64 bits.
+        let _payload = beat.payload;
         if lanes == 0 {
             return self.judge_reply(client, beat);
         }
+        self.judge_known_part(client, beat, lanes)
+    }
+
+    /// The same, whether or not some lane isn't known. It is apart, since a function clears the room for its values at its entry.
+    #[inline(never)]
+    fn judge_known_part(&mut self, client: u8, beat: &DBeat, lanes: u8) -> Option<Wrong>
+        ensures answer { result ≡ unknown_wrong self.old.policy (board_of self.old) (seen.D client beat.now) lanes }
+        ensures state { unknown_board self.new ≡ after_seen_unknown self.old.policy (unknown_board self.old) (seen.D client beat.now) lanes }
+        ensures policy { self.new.policy ≡ self.old.policy }
+    {
+        let payload = beat.payload;
         let telling = self.telling(&ObservedBeat::D(client, *beat));
         let shown = DBeat {
             payload: merge(payload, telling.due, lanes),
@@ -140,6 +154,7 @@ impl Scoreboard {
     }
 
     /// Judges a beat on a channel of the AXI4 port.
+    #[inline(always)]
     fn judge_unknown_axi(&mut self, beat: &AxiBeat, lanes: u8) -> Option<Wrong>
         ensures answer { result ≡ unknown_wrong self.old.policy (board_of self.old) (seen.Axi beat.now) lanes }
         ensures state { unknown_board self.new ≡ after_seen_unknown self.old.policy (unknown_board self.old) (seen.Axi beat.now) lanes }
@@ -148,6 +163,16 @@ impl Scoreboard {
         if lanes == 0 {
             return self.judge_axi(beat);
         }
+        self.judge_known_axi_part(beat, lanes)
+    }
+
+    /// The same, whether or not some lane isn't known.
+    #[inline(never)]
+    fn judge_known_axi_part(&mut self, beat: &AxiBeat, lanes: u8) -> Option<Wrong>
+        ensures answer { result ≡ unknown_wrong self.old.policy (board_of self.old) (seen.Axi beat.now) lanes }
+        ensures state { unknown_board self.new ≡ after_seen_unknown self.old.policy (unknown_board self.old) (seen.Axi beat.now) lanes }
+        ensures policy { self.new.policy ≡ self.old.policy }
+    {
         let looked = self.looked_at(beat);
         match self.judge_axi(beat) {
             None if some_unknown(lanes, looked) => Some(Wrong::UnknownAxi),

@@ -1,5 +1,5 @@
 -- A line is skipped, at fault, or does what its command does.
-use Rattle.std.proofs.Common.{◌≡◌, ℕ, Err, Ok, false, true, inl, refl, ap, subst, sym, ◌∙◌, rules}
+use Rattle.std.proofs.Common.{◌≡◌, ℕ, Err, Ok, false, true, refl, ap, subst, sym, ◌∙◌, rules}
 use Rattle.line_text.specs.Words.{is_plain_line, is_skipped, words_of}
 use Rattle.std.specs.Str.Lines.{strip_carriage_return}
 use Rattle.score_script.proofs.Observed.{command_line, line_told, next_within, skipped_told, wrong_line}
