@@ -6,7 +6,6 @@ use Rattle.std.specs.List.{AllByRecursion, find, list_any, range_with_len, slice
 use Rattle.std.specs.Option.{option_or}
 use Rattle.std.proofs.lemmas.Bool.{eqb-true, leb-true}
 use Rattle.bus_words.proofs.PlaceChanges.{find-passes}
-use Rattle.bus_words.proofs.MappedPlaces.{length_map}
 use Rattle.bus_words.specs.Places.{change_first}
 use Rattle.tl_messages.specs.Operations.{has_data, reply_has_data}
 use Rattle.flight_table.specs.Inside.{HasOneHolder, MayName}
