@@ -10,7 +10,8 @@ use line_text::{
 use std::io::Write;
 use world::Answer;
 
-/// Writes the line of an answer.
+/// Writes the line of an answer. It is inline, so that of the answers only those that a step gives are there.
+#[inline(always)]
 pub fn answer_line<W: Write>(answer: &Answer, writer: &mut W) -> Result<(), WriteFault>
     ensures all { OnOk result (Appends (W.contents writer.old) (W.contents writer.new) (answer_text answer.now)) }
     ensures front { OnErr result (StopsShort (answer_text answer.now) (W.contents writer.old) (W.contents writer.new)) }

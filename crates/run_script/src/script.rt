@@ -34,9 +34,9 @@ fn offered_beat<W: Write>(step: &Step, writer: &mut W) -> Result<(), WriteFault>
     }
 }
 
-/// Makes a step. It is apart for the prover, since what is written rests on this alone of what a world promises of a step, and
-/// for speed: where it is a part of `event`, answers with data are copied more slowly.
-#[inline(never)]
+/// Makes a step. It is apart for the prover, since what is written rests on this alone of what a world promises of a step. It is
+/// inline, as the line of its answer is, so that no answer goes through memory.
+#[inline(always)]
 fn made(world: &mut World, step: &Step, reply: &mut ReplyBox) -> Answer
     ensures answer { result ≡ (next world.old step.now).answer }
     ensures state { world.new ≡ (next world.old step.now).state }
