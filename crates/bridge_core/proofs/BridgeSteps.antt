@@ -122,8 +122,7 @@ pumped ports requests new_requests monitor new_monitor stock room new_stock new_
 pub pumped_state : (ports : List PortState) (requests new_requests : RequestTable) (monitor new_monitor : MonitorState) (stock new_stock : ℕ) (sending : Sending) (old : StockedBridge)
     → bridge_kept ports requests monitor.open_bursts stock ≡ old → next_sending requests ≡ Some sending → new_requests ≡ with_sent_burst sending.request.flight.number sending.id requests
     → new_monitor ≡ monitor_with monitor sending.burst → new_stock ≡ stock - 1 → bridge_kept ports new_requests new_monitor.open_bursts new_stock ≡ record { state = after_pump old.state; stock = old.stock - 1 }
-pumped_state ports requests new_requests monitor new_monitor stock new_stock sending old view is table sent less =
-    subst (λ (b : StockedBridge). bridge_kept ports new_requests new_monitor.open_bursts new_stock ≡ record { state = after_pump b.state; stock = b.stock - 1 }) view (rw (table, sent, is, less) refl)
+pumped_state ports requests new_requests monitor new_monitor stock new_stock sending old view is table sent less = grind (arith, view, is, table, sent, less)
 
 pub sound_response : (state : BridgeState) (b : BBeat) → IsSoundBridge state → b_fault state b ≡ None → IsSoundRequestTable (with_response b.id b.resp state.requests) → IsSoundBridge (after_b_beat state b)
 sound_response state b sound none requests = sound_after sound requests refl (free_response b.id b.resp state.requests) (linked_response state b sound none) (filled_response state b sound)

@@ -1,6 +1,6 @@
 -- What is known of the burst that goes next, and when one goes.
-use Rattle.std.proofs.Common.{◌≡◌, ℕ, true, is_some, get_or, Option, Some, None, refl, ap, sym, ◌∙◌, subst, arith}
-use Rattle.std.specs.Prelude.{option_map, option_and_then}
+use Rattle.std.proofs.Common.{◌≡◌, ℕ, true, is_some, get_or, Option, Some, None, refl, sym, subst, arith}
+use Rattle.std.specs.Prelude.{option_map}
 use Rattle.std.specs.List.{find}
 use Rattle.std.proofs.lemmas.Option.{option_and_then_some, slice_get-get_or}
 use Rattle.bus_words.proofs.PlaceChanges.{all-find, find-passes}
@@ -78,11 +78,7 @@ present o some = grind arith
 pub sends : (table : RequestTable) (request : BridgedRequest) (id : ℕ) (range : PlannedRange) (piece : Piece) → find (may_send table) table.live ≡ Some request
     → id_for (table_limits_of table.config) (flights_of table.live) request.flight ≡ Some id → request.flight.plan ≡ Some range → next_piece request.flight ≡ Some piece
     → next_sending table ≡ Some (sending_with request id (burst_of_piece id request range piece))
-sends table request id range piece found id_is plan next =
-    ap (option_and_then (sending_of table)) found
-    ∙ ap (λ o. option_and_then (λ i. option_map (sending_with request i) (burst_for i request)) o) id_is
-    ∙ ap (option_map (sending_with request id))
-    (ap (λ o. option_and_then (λ r. option_map (burst_of_piece id request r) (next_piece request.flight)) o) plan ∙ ap (option_map (burst_of_piece id request range)) next)
+sends table request id range piece found id_is plan next = grind (arith, found, id_is, plan, next)
 
 pub next_sending-some : (table : RequestTable) (request : BridgedRequest) → IsSoundRequestTable table → find (may_send table) table.live ≡ Some request
     → (sending : Sending) × (next_sending table ≡ Some sending)

@@ -1,10 +1,10 @@
 -- How many read transfers a live request has: those that its reply needs.
-use Rattle.std.proofs.Common.{◌≡◌, ℕ, ◌+◌, ◌*◌, ◌/◌, ◌%◌, ◌^◌, ◌<◌, ◌≤◌, min, max, Bool, true, false, List, [], refl, ap, sym, ◌∙◌, subst, arith}
+use Rattle.std.proofs.Common.{◌≡◌, ℕ, ◌*◌, ◌/◌, ◌%◌, ◌^◌, ◌<◌, ◌≤◌, min, max, Bool, true, List, [], refl, ap, sym, ◌∙◌, subst, arith}
 use Rattle.std.specs.Prelude.{IfSome, None, Option, Some, if◌then◌else◌}
 use Rattle.std.proofs.lemmas.Bool.{and_parts}
 use Rattle.std.proofs.lemmas.Bool.Decides.{nat_tests}
 use Rattle.std.proofs.Math.Nat.{mul-le-mul}
-use Rattle.std.proofs.lemmas.Nat.{div-mul-add, one_shl, pow_pos}
+use Rattle.std.proofs.lemmas.Nat.{one_shl, pow_pos}
 use Rattle.bus_words.proofs.MappedPlaces.{map_some}
 use Rattle.tl_messages.specs.Operations.{reply_has_data}
 use Rattle.tl_messages.specs.Requests.{HeldMessage, WholeRequest, request_of}
@@ -91,9 +91,7 @@ plannable config regions message range valid sound has =
 
 -- the quotient by the smaller of a number and the bus's bytes
 pub itself : (n : ℕ) → 0 < n → n / n ≡ 1
-itself n some =
-    let whole : 1 * n + 0 ≡ n = omega arith in
-    rw whole at (div-mul-add 1 n 0 some)
+itself n some = grind (arith, some)
 
 quotient_most : (n bus : ℕ) → IsBusWidth bus → 0 < n → n / min n bus ≡ max 1 (n / bus)
 quotient_most n bus width some = grind (arith, itself n)

@@ -22,7 +22,7 @@ use Rattle.burst_plan.specs.PlannedBursts.{AreBytes}
 use Rattle.burst_plan.specs.declared.Piece.{Piece}
 use Rattle.burst_plan.specs.declared.Region.{Region}
 use Rattle.burst_plan.proofs.WriteLaws.{puts_given_bytes, reads_are_legal}
-use Rattle.flight_table.specs.LiveRequests.{LiveRequest, next_piece, pieces_planned, planned}
+use Rattle.flight_table.specs.LiveRequests.{LiveRequest, pieces_planned, planned}
 use Rattle.flight_table.proofs.PhaseLaws.{piece_planned}
 use Rattle.flight_table.proofs.Steps.{takes_id}
 use Rattle.bridge_core.specs.Bridge.{BridgeState}

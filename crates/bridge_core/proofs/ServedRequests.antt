@@ -1,6 +1,6 @@
 -- A live request stays served: a new one, one that sent a burst, and one whose burst was answered.
-use Rattle.std.proofs.Common.{◌≡◌, ℕ, zero, suc, ◌+◌, ◌==◌, ◌<◌, ◌≤◌, min, Bool, true, false, ◌&&◌, ◌||◌, not, List, [], ◌∷◌, length, drop, take, Option, Some, None, is_none, is_some, IsSome, refl, ap, sym, ◌∙◌, arith}
-use Rattle.std.specs.Prelude.{if◌then◌else◌, option_map, slice_get}
+use Rattle.std.proofs.Common.{◌≡◌, ℕ, zero, suc, ◌+◌, ◌==◌, ◌<◌, ◌≤◌, min, Bool, true, false, ◌&&◌, ◌||◌, not, List, [], ◌∷◌, length, drop, take, Option, Some, None, is_none, is_some, IsSome, refl, sym, ◌∙◌, arith}
+use Rattle.std.specs.Prelude.{if◌then◌else◌, slice_get}
 use Rattle.std.specs.List.{AllByRecursion, find}
 use Rattle.std.proofs.lemmas.Bool.{and_parts, eqb-true, leb-true, lt-leb}
 use Rattle.std.proofs.lemmas.List.{take_all}
@@ -13,7 +13,7 @@ use Rattle.tl_messages.specs.declared.Operation.{Operation}
 use Rattle.tl_checker.specs.Sound.{IsSound}
 use Rattle.axi_beats.specs.declared.RBeat.{RBeat}
 use Rattle.axi_beats.specs.declared.Resp.{Resp}
-use Rattle.burst_plan.specs.PageMap.{IsPageMap, address_of}
+use Rattle.burst_plan.specs.PageMap.{IsPageMap}
 use Rattle.burst_plan.specs.Pieces.{PlannedRange, pieces}
 use Rattle.burst_plan.specs.declared.Piece.{Piece}
 use Rattle.burst_plan.specs.declared.Region.{Region}
@@ -49,9 +49,7 @@ atomic_both operation is = grind arith
 
 pub found_is_atomic : (config : Config) (regions : List Region) (request : BridgedRequest) (gathering : Gathering) → IsOfMessage config regions request
     → is_some (old_value (outline_in request) gathering) ≡ true → reads_then_writes request.flight ≡ true
-found_is_atomic config regions request gathering of_message some =
-    let atomic : gathered.is_atomic request.message.operation ≡ true = grind (arith, some) in
-    rw of_message.operation (atomic_both request.message.operation atomic)
+found_is_atomic config regions request gathering of_message some = grind (arith, of_message, some)
 
 -- ---- how far its next read is
 
@@ -128,17 +126,6 @@ none_planned replies carries = grind arith
 pub atomic_first : (replies carries : Bool) → (replies && carries) ≡ true → not replies ≡ true → ⊥
 atomic_first replies carries atomic writes = grind arith
 
--- an atomic has the plan of its range
-atomic_planned : (operation : Operation) (plan : Option PlannedRange) → (reply_has_data operation && has_data operation) ≡ true → plan_for operation plan ≡ plan
-atomic_planned operation plan atomic = grind arith
-
-no_address : (f : ℕ → PlannedRange) (place : Option ℕ) → option_map f place ≡ None → is_none place ≡ true
-no_address f place none = grind arith
-
--- a denied request has no old value
-denied_value : (atomic denied holds : Bool) (value : Option ℕ) → denied ≡ true → (if atomic && not denied && holds then value else None) ≡ None
-denied_value atomic denied holds value is = grind arith
-
 pub served_new : (table : RequestTable) (message : HeldMessage) → is_valid table.config ≡ true → IsPageMap table.regions → IsSound (port_of table.config message.client) message
     → IsServed table.config table.regions (newly_live table message)
 served_new table message valid pages sound =
@@ -168,10 +155,7 @@ served_new table message valid pages sound =
         sym (lt-leb _ 0 (some_planned (reply_has_data message.operation) (has_data message.operation) (pieces range) (has_course message.operation (range_of table.config table.regions (request_of message)) range is) (some range is)))
 
     failed_by : reads_then_writes fresh ≡ true → is_none plan ≡ true → (p : Option PlannedRange) → plan ≡ p → value_found (newly_live table message) ≡ None
-    failed_by atomic over None is =
-        let none : is_none (address_of table.regions (request_of message)) ≡ true = no_address _ _ (sym (atomic_planned message.operation (range_of table.config table.regions (request_of message)) atomic) ∙ is) in
-        denied_value _ _ _ _ none
-    failed_by atomic over (Some range) is = absurd (cc (over, ap (λ (p : Option PlannedRange). is_none p) is))
+    failed_by atomic over p is = grind (arith, atomic, over, is)
 
 -- ---- a burst was sent
 

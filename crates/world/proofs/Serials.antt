@@ -25,7 +25,7 @@ few_of_one : (count bytes n : ℕ) → n ≡ count * bytes → 0 < bytes → cou
 few_of_one count bytes n whole some = let rows : count * 1 ≤ count * bytes = mul-le-mul_left count some in omega (arith, rows)
 
 wide_beats : (n bus : ℕ) → (bus ≡ 4) ⊎ (bus ≡ 8) → 4 ≤ n → 4 ≤ min n bus
-wide_beats n bus h2 wide = grind (arith, h2, wide)
+wide_beats n bus width wide = grind (arith, width, wide)
 
 at_least : (beats beat : ℕ) → 1 ≤ beats → beat ≤ beats * beat
 at_least beats beat some = let rows : 1 * beat ≤ beats * beat = mul-le-mul_right beat some in omega (arith, rows)

@@ -1,7 +1,7 @@
 -- The requests one at a time: which bytes each writes and leaves alone, what it leaves there, and their replies by number. It knows what
 -- requests mean, a message, its plan and an atomic's old value; bridge, memory and bursts are hidden.
 use Rattle.std.specs.Option.{option_flatten}
-use Rattle.std.proofs.Common.{◌≡◌, ℕ, ◌+◌, ◌-◌, ◌^◌, ◌<◌, ◌≤◌, zero, suc, Bool, true, false, ◌&&◌, not, List, [], ◌∷◌, length, map, inl, inr, Option, Some, None, refl, sym, subst, ◌∙◌, ap, arith, ◌/◌, nat_lt, is_some, nat_le, option_map, slice_get, unwrap_or, if◌then◌else◌, IsSome, find}
+use Rattle.std.proofs.Common.{◌≡◌, ℕ, ◌+◌, ◌-◌, ◌^◌, ◌<◌, ◌≤◌, zero, suc, Bool, true, false, ◌&&◌, not, List, [], ◌∷◌, length, map, Option, Some, None, refl, sym, ◌∙◌, ap, arith, nat_lt, is_some, nat_le, option_map, slice_get, unwrap_or, if◌then◌else◌, IsSome}
 use Rattle.std.proofs.lemmas.Bool.Decides.{nat_tests}
 use Rattle.std.proofs.lemmas.Bool.{and_parts, cases_lt, cases_Bool, leb-true}
 use Rattle.std.proofs.lemmas.List.{length-map}
@@ -12,9 +12,8 @@ use Rattle.tl_messages.specs.Requests.{HeldMessage, WholeRequest, byte_given, re
 use Rattle.tl_messages.specs.Operations.{has_data}
 use Rattle.tl_messages.specs.declared.AtomicOp.{AtomicOp}
 use Rattle.tl_messages.specs.declared.Operation.{Operation}
-use Rattle.tl_messages.specs.declared.Operation.TheVariants.{PutFull, PutPartial, Atomic, Get, Intent}
-use Rattle.data_unit.specs.Words.{bytes_of, value}
-use Rattle.data_unit.specs.Atomics.{atomic_result, operand_of}
+use Rattle.tl_messages.specs.declared.Operation.TheVariants.{Atomic}
+use Rattle.data_unit.specs.Words.{value}
 use Rattle.data_unit.proofs.NumberLaws.{length-bytes_of}
 use Rattle.burst_plan.specs.PageMap.{translated_address, address_of}
 use Rattle.burst_plan.specs.declared.Region.{Region}
@@ -23,8 +22,8 @@ use Rattle.burst_plan.specs.PlannedTransfers.{HasAddress}
 use Rattle.burst_plan.proofs.PieceLaws.{range_in_page}
 use Rattle.bridge_core.specs.HeldRequests.{BridgedRequest, value_found}
 use Rattle.bridge_core.specs.Sending.{bytes_written}
-use Rattle.subordinate.specs.Faults.{Faults, Standing, IsGood, standing_at, is_bad, is_good, lists_page, standing_of_listed}
-use Rattle.meaning.specs.Meaning.{Bytes, atomic_bytes, bytes_after_all, bytes_at, denied, effect, effect_at, meaning, replies_in_order, zeros}
+use Rattle.subordinate.specs.Faults.{Faults, Standing, standing_at, is_bad, is_good}
+use Rattle.meaning.specs.Meaning.{Bytes, bytes_after_all, bytes_at, denied, effect, effect_at, meaning, replies_in_order, zeros}
 use Rattle.meaning.proofs.GivenBytes.{given_before, given_past}
 use Rattle.world_run.specs.Serial.{Order, after_one, asked, bytes_before, gives_byte, is_intent, touches, touches_byte, touches_from, writes, writes_byte, writes_from, byte_left}
 
@@ -35,41 +34,21 @@ not_given o d none = grind (arith, none)
 
 -- a byte outside the range
 outside : (bytes : List (Option ℕ)) (address size x : ℕ) → length bytes ≤ 2 ^ size → in_range address size x ≡ false → given_at bytes address x ≡ None
-outside bytes address size x within out = elim (cases_lt x address) [
-  | inl below ↦ given_before bytes address x below
-  | inr above ↦ given_past bytes address x (let past : address + 2 ^ size ≤ x = grind (arith, nat_tests) in omega (arith, past, within))
-]
+outside bytes address size x within out = grind (arith, nat_tests, cases_lt, given_before, given_past, within, out)
 
 -- ---- what a request doesn't write
 
 effect_alone : (faults : Faults) (q : WholeRequest) (m : Bytes) (address : ℕ) (operation : Operation) (standing : Standing) (bad : Bool) (x : ℕ) → bad ≡ is_bad faults address
     → (is_good standing && gives_byte faults q address operation x) ≡ false → (effect faults q m address operation standing bad).after x ≡ m x
-effect_alone faults q m address PutFull IsGood bad x is none = not_given (given_at q.bytes address x) (m x) none
-effect_alone faults q m address PutPartial IsGood bad x is none = not_given (given_at q.bytes address x) (m x) none
-effect_alone faults q m address Get IsGood bad x is none = refl
-effect_alone faults q m address (Atomic op) IsGood false x is none =
-    ap (λ (o : Option ℕ). unwrap_or o (m x)) (outside (atomic_bytes op m address (2 ^ q.size) q.bytes) address q.size x (atomic_size op m address q) (not_covered (is_bad faults address) (in_range address q.size x) is none))
-  where
-    atomic_size : (op : AtomicOp) (m : Bytes) (address : ℕ) (q : WholeRequest) → length (atomic_bytes op m address (2 ^ q.size) q.bytes) ≤ 2 ^ q.size
-    atomic_size op m address q =
-        let number = atomic_result op (2 ^ q.size) (value (bytes_at m address (2 ^ q.size))) (value (map (λ byte. unwrap_or byte 0) q.bytes)) in
-        let mapped = length-map (bytes_of (2 ^ q.size) number) Some in
-        let made = length-bytes_of (2 ^ q.size) number in
-        omega (arith, mapped, made)
-
-    not_covered : (bad covered : Bool) → false ≡ bad → (not bad && covered) ≡ false → covered ≡ false
-    not_covered bad covered is none = grind (arith, is, none)
-effect_alone faults q m address _ _ bad x is none = refl
+effect_alone faults q m address operation standing bad x is none = grind (arith, nat_tests, not_given, outside, length-map, length-bytes_of, is, none)
 
 effect_at_alone : (faults : Faults) (q : WholeRequest) (m : Bytes) (place : Option ℕ) (x : ℕ) → writes_from faults q place x ≡ false → (effect_at faults q m place).after x ≡ m x
-effect_at_alone faults q m None x none = refl
-effect_at_alone faults q m (Some address) x none = effect_alone faults q m address q.operation (standing_at faults address) (is_bad faults address) x refl none
+effect_at_alone faults q m place x none = grind (arith, nat_tests, effect_alone, none)
 
 request_alone : (faults : Faults) (regions : List Region) (q : WholeRequest) (m : Bytes) (corrupt : Bool) (x : ℕ)
     → writes_from faults q (if corrupt then None else translated_address regions q) x ≡ false
     → (if corrupt then record { reply = denied; after = m } else effect_at faults q m (translated_address regions q)).after x ≡ m x
-request_alone faults regions q m true x none = refl
-request_alone faults regions q m false x none = effect_at_alone faults q m (translated_address regions q) x none
+request_alone faults regions q m corrupt x none = grind (arith, nat_tests, effect_at_alone, none)
 
 one_alone : (order : Order) (o : Option WholeRequest) (m : Bytes) (x : ℕ) → writes_byte order o x ≡ false → after_one order o m x ≡ m x
 one_alone order None m x none = refl
@@ -82,26 +61,17 @@ left_alone order n x none = one_alone order (asked order n) (bytes_before order 
 -- ---- who writes a byte touches it
 
 given_within : (bytes : List (Option ℕ)) (address size x : ℕ) → length bytes ≤ 2 ^ size → is_some (given_at bytes address x) ≡ true → in_range address size x ≡ true
-given_within bytes address size x within given = elim (cases_Bool (in_range address size x)) [
-  | inl covered ↦ covered
-  | inr out ↦ (let none = outside bytes address size x within out in let nothing : is_some {T = ℕ} None ≡ true = rw none at given in absurd (cc (nothing)))
-]
+given_within bytes address size x within given = grind (arith, nat_tests, cases_Bool, outside, within, given)
 
 touches_there : (faults : Faults) (q : WholeRequest) (address : ℕ) (operation : Operation) (x : ℕ) → length q.bytes ≤ 2 ^ q.size
     → gives_byte faults q address operation x ≡ true → (not (is_intent operation) && in_range address q.size x) ≡ true
-touches_there faults q address PutFull x within gives = given_within q.bytes address q.size x within gives
-touches_there faults q address PutPartial x within gives = given_within q.bytes address q.size x within gives
-touches_there faults q address (Atomic op) x within gives = (and_parts (not (is_bad faults address)) (in_range address q.size x) gives).1
-touches_there faults q address _ x within gives = absurd (cc)
+touches_there faults q address operation x within gives = grind (arith, nat_tests, given_within, and_parts, within, gives)
 
 touches_where : (faults : Faults) (q : WholeRequest) (place : Option ℕ) (x : ℕ) → length q.bytes ≤ 2 ^ q.size → writes_from faults q place x ≡ true → touches_from q place x ≡ true
-touches_where faults q None x within writes_it = absurd (cc)
-touches_where faults q (Some address) x within writes_it =
-    touches_there faults q address q.operation x within ((and_parts (is_good (standing_at faults address)) (gives_byte faults q address q.operation x) writes_it).1)
+touches_where faults q place x within writes_it = grind (arith, nat_tests, touches_there, and_parts, within, writes_it)
 
 touches_asked : (order : Order) (o : Option WholeRequest) (x : ℕ) → ((q : WholeRequest) → o ≡ Some q → length q.bytes ≤ 2 ^ q.size) → writes_byte order o x ≡ true → touches_byte order o x ≡ true
-touches_asked order None x within writes_it = absurd (cc)
-touches_asked order (Some q) x within writes_it = touches_where order.faults q (address_of order.regions q) x (within q refl) writes_it
+touches_asked order o x within writes_it = grind (arith, nat_tests, touches_where, within, writes_it)
 
 -- a request that gives no more bytes than it has touches what it writes
 pub writer_touches : (order : Order) (n x : ℕ) → ((q : WholeRequest) → asked order n ≡ Some q → length q.bytes ≤ 2 ^ q.size) → writes order n x ≡ true → touches order n x ≡ true
@@ -112,10 +82,7 @@ pub message_within : (message : HeldMessage) → length (request_of message).byt
 message_within message = omega (arith, length-map-range_with_len (λ i. if has_data message.operation then byte_given message.address message.beats i else None) 0 (2 ^ message.size))
 
 pub message_touches : (order : Order) (n x : ℕ) (message : HeldMessage) → asked order n ≡ Some (request_of message) → writes order n x ≡ true → touches order n x ≡ true
-message_touches order n x message is writes_it = writer_touches order n x (λ q other. same q (sym is ∙ other)) writes_it
-  where
-    same : (q : WholeRequest) → Some (request_of message) ≡ Some q → length q.bytes ≤ 2 ^ q.size
-    same q other = (let one : request_of message ≡ q = cc in subst (λ (p : WholeRequest). length p.bytes ≤ 2 ^ p.size) one (message_within message))
+message_touches order n x message is writes_it = grind (arith, nat_tests, writer_touches, message_within, is, writes_it)
 
 -- ---- replies by number
 
@@ -156,9 +123,7 @@ carried_before order (suc n) = ap (λ (bytes : Bytes). after_one order (asked or
 -- the reply of a number is what its request means on the bytes that it finds
 pub replies_at : (order : Order) (n : ℕ) → slice_get (replies_in_order order.faults order.regions order.requests zeros) n
     ≡ option_map (λ q. (meaning order.faults order.regions q (bytes_before order n)).reply) (asked order n)
-replies_at order n =
-    replies_carried order.faults order.regions order.requests zeros n
-    ∙ ap (λ (bytes : Bytes). option_map (λ q. (meaning order.faults order.regions q bytes).reply) (asked order n)) (carried_before order n)
+replies_at order n = grind (arith, nat_tests, replies_carried, carried_before)
 
 pub all_carried_out : (order : Order) → bytes_after_all order.faults order.regions order.requests zeros ≡ bytes_before order (length order.requests)
 all_carried_out order = all_carried order.faults order.regions order.requests zeros ∙ carried_before order (length order.requests)
@@ -182,15 +147,7 @@ given_there (b ∷ bytes) (suc i) = let rest = given_there bytes i in grind (ari
 
 -- a list of bytes gives one just at each address that it covers
 given_of_bytes : (bytes : List ℕ) (address x : ℕ) → is_some (given_at (map (λ (b : ℕ). Some b) bytes) address x) ≡ (nat_le address x && nat_lt x (address + length bytes))
-given_of_bytes bytes address x = from (nat_le address x) refl
-  where
-    less : nat_le address x ≡ true → nat_lt (x - address) (length bytes) ≡ nat_lt x (address + length bytes)
-    less low = let under = leb-true address x low in grind (arith, under)
-
-    from : (b : Bool) → nat_le address x ≡ b
-        → is_some (if b then option_flatten (slice_get (map (λ (b : ℕ). Some b) bytes) (x - address)) else None) ≡ (b && nat_lt x (address + length bytes))
-    from true low = given_there bytes (x - address) ∙ less low
-    from false below = refl
+given_of_bytes bytes address x = grind (arith, nat_tests, leb-true, given_there)
 
 none_given : (address x : ℕ) → is_some (given_at [] address x) ≡ false
 none_given address x = grind arith
@@ -198,15 +155,7 @@ none_given address x = grind arith
 -- a request's bursts write just where it writes; an atomic does so where its word isn't bad
 pub gives_where_written : (faults : Faults) (q : WholeRequest) (operation : Operation) (address x old : ℕ) → ((op : AtomicOp) → operation ≡ Atomic op → is_bad faults address ≡ false)
     → is_some (given_at (bytes_written q operation old) address x) ≡ gives_byte faults q address operation x
-gives_where_written faults q PutFull address x old fine = refl
-gives_where_written faults q PutPartial address x old fine = refl
-gives_where_written faults q (Atomic op) address x old fine =
-    let number = atomic_result op (2 ^ q.size) old (operand_of q) in
-    given_of_bytes (bytes_of (2 ^ q.size) number) address x
-    ∙ ap (λ n. nat_le address x && nat_lt x (address + n)) (length-bytes_of (2 ^ q.size) number)
-    ∙ ap (λ b. not b && in_range address q.size x) (sym (fine op refl))
-gives_where_written faults q Get address x old fine = none_given address x
-gives_where_written faults q (Intent write) address x old fine = none_given address x
+gives_where_written faults q operation address x old fine = grind (arith, nat_tests, given_of_bytes, length-bytes_of, none_given, fine)
 
 some_given : (o : Option ℕ) (d : ℕ) → is_some o ≡ true → o ≡ Some (unwrap_or o d)
 some_given o d there = grind (arith, there)
@@ -239,32 +188,11 @@ covered_within address size x is = grind (arith, is)
 
 -- a message gives bytes of its range alone
 pub gives_within : (faults : Faults) (message : HeldMessage) (operation : Operation) (address x : ℕ) → gives_byte faults (request_of message) address operation x ≡ true → (address ≤ x) × (x < address + 2 ^ message.size)
-gives_within faults message operation address x is = by_operation operation is
-  where
-    count : length (request_of message).bytes ≡ 2 ^ message.size
-    count = length-map-range_with_len (λ i. if has_data message.operation then byte_given message.address message.beats i else None) 0 (2 ^ message.size)
-
-    put : is_some (given_at (request_of message).bytes address x) ≡ true → (address ≤ x) × (x < address + 2 ^ message.size)
-    put there = let within = given_inside (request_of message).bytes address x there in (within.0, omega (arith, within.1, count))
-
-    by_operation : (operation : Operation) → gives_byte faults (request_of message) address operation x ≡ true → (address ≤ x) × (x < address + 2 ^ message.size)
-    by_operation PutFull is = put is
-    by_operation PutPartial is = put is
-    by_operation (Atomic op) is = covered_within address message.size x (and_parts (not (is_bad faults address)) (in_range address message.size x) is).1
-    by_operation _ is = absurd (cc (is))
+gives_within faults message operation address x is = grind (arith, nat_tests, length-map-range_with_len, given_inside, covered_within, and_parts, is)
 
 -- all bytes of a range are in the page of its first
 pub same_standing : (faults : Faults) (range : PlannedRange) (x : ℕ) → IsPlannable range → HasAddress range x → standing_at faults x ≡ standing_at faults range.address
-same_standing faults range x plannable inside = ap (λ number. standing_of_listed (find (lists_page number) faults.pages)) page
-  where
-    page : x / 4096 ≡ range.address / 4096
-    page =
-        let within = range_in_page range plannable in
-        let low = inside.first in
-        let high = inside.last in
-        let start = within.0 in
-        let end = within.1 in
-        omega arith
+same_standing faults range x plannable inside = grind (arith, nat_tests, range_in_page, plannable, inside)
 
 -- ---- an atomic
 

@@ -261,13 +261,7 @@ found_without p n (y ∷ live) rising = by_test (p y) (is_numbered n y) refl ref
         → (find (is_numbered n) (if b then live else y ∷ without_first p live) ≡ (if c then Some y else find (is_numbered n) live))
         ⊎ ((r : BridgedRequest) × ((if c then Some y else find (is_numbered n) live) ≡ Some r) × (p r ≡ true)
         × (find (is_numbered n) (if b then live else y ∷ without_first p live) ≡ None))
-    by_test true true passes is rest =
-        let same : y.flight.number ≡ n = eqb-true y.flight.number n is in
-        inr (y, refl, passes, none_above n live (subst (λ (k : ℕ). AllByRecursion (λ m. k < m) (map (λ (flight : LiveRequest). flight.number) (flights_of live))) same rising.0))
-    by_test true false passes is rest = inl refl
-    by_test false true passes is rest = inl (rw is refl)
-    by_test false false passes is (inl kept) = inl (rw is kept)
-    by_test false false passes is (inr (r, at, first, now)) = inr (r, at, first, rw is now)
+    by_test b c passes is rest = grind (arith, nat_tests, eqb-true, none_above, passes, is, rest)
 
 -- ---- one live request
 
@@ -555,14 +549,11 @@ numbered_once test (first ∷ live) request rising found = by_test (test first) 
 -- the changed request is found by its number, and the others are as before
 pub found_changed : (live : List BridgedRequest) (test : BridgedRequest → Bool) (change : BridgedRequest → BridgedRequest) (request : BridgedRequest) → HaveNumbers live → find test live ≡ Some request
     → (change request).flight.number ≡ request.flight.number → find (is_numbered request.flight.number) (change_first test change live) ≡ Some (change request)
-found_changed live test change request rising found same =
-    find-changed-found (is_numbered request.flight.number) test change live request found (eq-eqb (change request).flight.number request.flight.number same)
-    (inr (found_by_number test live request rising found))
+found_changed live test change request rising found same = grind (arith, nat_tests, find-changed-found, eq-eqb, found_by_number, rising, found, same)
 
 pub found_others : (live : List BridgedRequest) (test : BridgedRequest → Bool) (change : BridgedRequest → BridgedRequest) (request : BridgedRequest) (n : ℕ) → find test live ≡ Some request
     → (change request).flight.number ≡ request.flight.number → request.flight.number ≢ n → find (is_numbered n) (change_first test change live) ≡ find (is_numbered n) live
-found_others live test change request n found same other =
-    find-changed-unseen (is_numbered n) test change live request found (ne_eqb request.flight.number n other) (rw same (ne_eqb request.flight.number n other))
+found_others live test change request n found same other = grind (arith, nat_tests, find-changed-unseen, ne_eqb, found, same, other)
 
 abbrev pub changed_table : (BridgedRequest → Bool) → (BridgedRequest → BridgedRequest) → RequestTable → RequestTable
 changed_table test change table = record table { live = change_first test change table.live }
@@ -581,9 +572,7 @@ ends_changed table test change request rising found same n now =
     ]
   where
     own : is_finished (changed_table test change table) request.flight.number ≡ true → (change request).flight.done ≡ true
-    own now =
-        (and_parts (nat_lt request.flight.number table.accepted) (change request).flight.done
-        (with_found table.accepted request.flight.number is_over _ _ (sym (found_changed table.live test change request rising found same)) ∙ now)).1
+    own now = grind (arith, nat_tests, and_parts, with_found, found_changed, now)
 
 -- the history goes on where one live request changes
 pub history_changed : (writing : ℕ → ℕ → Bool) (before : ℕ → Bytes) (wrote : ℕ → ℕ → Bool) (bytes : Bytes) (table : RequestTable) (test : BridgedRequest → Bool) (change : BridgedRequest → BridgedRequest) (request : BridgedRequest)

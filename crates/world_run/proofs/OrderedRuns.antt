@@ -1,6 +1,6 @@
 -- A whole run: its replies are those of the accepted requests one at a time, and once it is quiet its memory is theirs. It knows that each
 -- event keeps the order, as a premise, and fixes the list of all requests; which event came is hidden.
-use Rattle.std.proofs.Common.{◌≡◌, ℕ, zero, suc, ◌==◌, ◌<◌, ◌≤◌, ◌^◌, nat_lt, Bool, true, List, [], ◌∷◌, length, Option, Some, None, refl, sym, subst, ◌∙◌, ap, arith, filter, find, is_some, nat_le, option_map, slice_get, unwrap_or, if◌then◌else◌}
+use Rattle.std.proofs.Common.{◌≡◌, ℕ, ◌==◌, ◌<◌, ◌≤◌, ◌^◌, Bool, true, List, [], ◌∷◌, length, Option, Some, None, refl, sym, subst, ◌∙◌, ap, arith, filter, find, is_some, nat_le, option_map, slice_get, unwrap_or, if◌then◌else◌}
 use Rattle.std.specs.List.{AllByRecursion, cons_option}
 use Rattle.std.proofs.lemmas.Bool.Decides.{nat_tests}
 use Rattle.std.proofs.lemmas.Bool.{and_parts, eqb-true}
@@ -14,13 +14,13 @@ use Rattle.flight_table.specs.Laws.{IsSoundRequest}
 use Rattle.flight_table.specs.Tables.{is_undone}
 use Rattle.responses.specs.Shown.{Reply as ReplyGiven, shown}
 use Rattle.bridge_core.specs.Bridge.{message_with, reply_taken}
-use Rattle.bridge_core.specs.HeldRequests.{table_limits_of, BridgedRequest, oldest_done, flights_of, is_done_for, is_numbered, reply_beats}
+use Rattle.bridge_core.specs.HeldRequests.{table_limits_of, BridgedRequest, oldest_done, flights_of, is_done_for, reply_beats}
 use Rattle.bridge_core.specs.Laws.{IsServed}
 use Rattle.burst_plan.specs.PageMap.{address_of}
 use Rattle.subordinate.specs.Faults.{Faults, is_good, standing_at}
 use Rattle.world_run.specs.Headline.{IsReplyTo, byte_shown}
 use Rattle.meaning.specs.InTurn.{bytes_of_all, replies_of, AcceptedMessage, requests_of}
-use Rattle.world_run.specs.InOrder.{IsGathered, IsForeseen, IsForeseenBy, IsInOrder, IsOrdered, KeepsOrder, is_finished, is_over, memory_bytes, order_of, started}
+use Rattle.world_run.specs.InOrder.{IsGathered, IsForeseen, IsForeseenBy, IsInOrder, IsOrdered, KeepsOrder, is_finished, memory_bytes, order_of, started}
 use Rattle.world.specs.Laws.{AreSoundAlong, IsSoundWorld}
 use Rattle.meaning.specs.Meaning.{Bytes, bytes_after_all, meaning, replies_in_order, zeros}
 use Rattle.world_run.specs.Runs.{HandedReply, answers_of, handed_at, handed_in, messages_in}
@@ -125,13 +125,7 @@ all_done p [] request none found = absurd (cc)
 all_done p (r ∷ live) request none found = grind (arith, all_done p live request)
 
 all_finished : (state : WorldState) → IsQuiet state → (j : ℕ) → j < state.bridge.requests.accepted → is_finished state.bridge.requests j ≡ true
-all_finished state quiet j below =
-    let given : nat_lt j state.bridge.requests.accepted ≡ true = grind (arith, nat_tests) in
-    rw given (over (find (is_numbered j) state.bridge.requests.live) refl)
-  where
-    over : (o : Option BridgedRequest) → find (is_numbered j) state.bridge.requests.live ≡ o → is_over o ≡ true
-    over None is = refl
-    over (Some r) is = all_done (is_numbered j) state.bridge.requests.live r quiet is
+all_finished state quiet j below = grind (arith, nat_tests, all_done, quiet, below)
 
 -- the bytes of a quiet world are those that all requests leave
 quiet_bytes : (order : Order) (state : WorldState) → KeepsOrder order state → IsQuiet state → state.bridge.requests.accepted ≡ length order.requests → (x : ℕ)
@@ -223,9 +217,7 @@ requests_within (message ∷ messages) n q is = one_more (held_of message.client
   where
     one_more : (o : Option HeldMessage) (k : ℕ) → ((k : ℕ) (p : WholeRequest) → slice_get (requests_of messages) k ≡ Some p → length p.bytes ≤ 2 ^ p.size)
         → slice_get (cons_option (option_map request_of o) (requests_of messages)) k ≡ Some q → length q.bytes ≤ 2 ^ q.size
-    one_more None k later there = later k q there
-    one_more (Some held) zero later there = subst (λ (p : WholeRequest). length p.bytes ≤ 2 ^ p.size) (same_Some (request_of held) q there) (message_within held)
-    one_more (Some held) (suc k) later there = later k q there
+    one_more o k later there = grind (arith, nat_tests, same_Some, message_within, later, there)
 
 module _ (setup : SetupLists) (steps : List Step) (along : AreSoundAlong (opening_world setup) steps) (kept : EachKeeps (order_of_run setup steps)) where
   opens : KeepsOrder (order_of_run setup steps) (opening_world setup)

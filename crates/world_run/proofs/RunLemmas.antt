@@ -1,6 +1,6 @@
 -- A run with one event more: what it shows is what was shown before, and what the event shows. It knows lists of outcomes; what an event
 -- does is hidden.
-use Rattle.std.proofs.Common.{◌≡◌, ℕ, ◌+◌, ◌-◌, ◌≤◌, List, [], ◌∷◌, ◌++◌, length, Option, option_to_list, drop, refl, sym, ap, ◌∙◌, arith, flat_map, slice_range}
+use Rattle.std.proofs.Common.{◌≡◌, ℕ, ◌+◌, ◌-◌, ◌≤◌, List, [], ◌∷◌, ◌++◌, length, Option, option_to_list, refl, sym, ap, ◌∙◌, arith, flat_map, slice_range}
 use Rattle.std.specs.List.{cons_option}
 use Rattle.std.proofs.lemmas.List.{append_assoc, length-drop, take-append-le, drop-append-le}
 use Rattle.std.proofs.Math.Seq.{drop-append_seam, take-length}
@@ -51,10 +51,7 @@ flat_map-append (x ∷ xs) ys = ap (λ rest. recorded_beats x ++ rest) (flat_map
 -- the beats that one event more sent
 pub sent_in-append : (state : WorldState) (steps : List Step) (step : Step)
     → sent_in state (steps ++ step ∷ []) ≡ sent_in state steps ++ flat_map recorded_beats (option_to_list (next (after state steps) step).burst)
-sent_in-append state steps step =
-    ap (λ all. flat_map recorded_beats (bursts_in all)) (outcomes-append state steps step)
-    ∙ ap (flat_map recorded_beats) (bursts_in-append (outcomes state steps) (next (after state steps) step))
-    ∙ flat_map-append (bursts_in (outcomes state steps)) (option_to_list (next (after state steps) step).burst)
+sent_in-append state steps step = grind (arith, outcomes-append, bursts_in-append, flat_map-append)
 
 -- one piece more at the end
 pub AreCutFrom-append : (place : ℕ) (replies : List Handed) (end : ℕ) (handed : Handed) → AreCutFrom place replies end → handed.first ≡ end
@@ -69,11 +66,7 @@ cut-within place (first ∷ replies) end cut = let rest = cut-within (place + fi
 
 -- a piece that ends within its list stays as it is when the list grows
 slice_range-append : (beats more : List DBeat) (first count : ℕ) → first + count ≤ length beats → slice_range (beats ++ more) first (first + count) ≡ slice_range beats first (first + count)
-slice_range-append beats more first count within =
-    let size : first + count - first ≡ count = omega arith in
-    let enough : first ≤ length beats = omega arith in
-    let rest : count ≤ length (drop first beats) = omega (arith, length-drop first beats) in
-    rw (size, drop-append-le first beats more enough, take-append-le count (drop first beats) more rest) refl
+slice_range-append beats more first count within = grind (arith, length-drop, drop-append-le, take-append-le, within)
 
 -- beats that are appended change no piece before them
 pub handed_of-append : (place : ℕ) (replies : List Handed) (beats more : List DBeat) → AreCutFrom place replies (length beats) → handed_of replies (beats ++ more) ≡ handed_of replies beats

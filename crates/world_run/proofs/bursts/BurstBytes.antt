@@ -2,13 +2,12 @@
 -- told nothing yet, and once all its pieces are written it has written all. It knows the plan of one request, its bursts as they are sent and
 -- while they are open; what becomes of them, and all other requests, are hidden.
 use Rattle.std.specs.List.{range_with_len, slice_get, filter, find}
-use Rattle.std.proofs.Common.{◌≡◌, ℕ, zero, suc, ◌+◌, ◌^◌, ◌<◌, ◌≤◌, nat_le, nat_lt, Bool, true, false, ◌&&◌, not, List, map, replicate, Option, Some, is_some, refl, ap, sym, ◌∙◌, subst, arith, length, None, ◌||◌, [], ◌∷◌, drop, take, unwrap_or, option_map, if◌then◌else◌}
+use Rattle.std.proofs.Common.{◌≡◌, ℕ, zero, suc, ◌+◌, ◌^◌, ◌<◌, ◌≤◌, nat_lt, Bool, true, false, ◌&&◌, not, List, map, replicate, Option, Some, is_some, refl, ap, sym, ◌∙◌, subst, arith, length, None, ◌||◌, [], ◌∷◌, drop, take, unwrap_or, option_map, if◌then◌else◌}
 use Rattle.std.proofs.lemmas.Bool.{and_from, and_parts, le-leb, lt-ltb, leb-true}
 use Rattle.std.proofs.lemmas.List.FromFn.{length-map-range_with_len, get_or-map-range_with_len}
 use Rattle.std.proofs.lemmas.Option.{get_or_from_slice_get, slice_get_within}
 use Rattle.bus_words.specs.Lanes.{given_at}
 use Rattle.bus_words.proofs.MappedPlaces.{map_some}
-use Rattle.tl_messages.specs.Lanes.{in_range}
 use Rattle.tl_messages.specs.Operations.{has_data, reply_has_data}
 use Rattle.tl_messages.specs.Requests.{WholeRequest, request_of}
 use Rattle.tl_messages.specs.declared.AtomicOp.{AtomicOp}
@@ -45,7 +44,7 @@ use Rattle.world.specs.Laws.{IsSoundWorld}
 use Rattle.world.specs.World.{WorldState}
 use Rattle.world_run.specs.InOrder.{IsBurstOf, IsReadOf, IsWriteOf, PutsSerially, IsInOrder, AreBurstsOf, AreOfHolder, is_finished, has_begun, is_of_id, is_over, started}
 use Rattle.meaning.specs.Meaning.{bytes_at}
-use Rattle.world_run.specs.Serial.{Order, asked, byte_left, bytes_before, gives_byte, is_intent, touches, touches_byte, touches_from, writes}
+use Rattle.world_run.specs.Serial.{Order, asked, byte_left, bytes_before, gives_byte, is_intent, touches, writes}
 use Rattle.world_run.proofs.BytesLeft.{FindsSerially, byte_left_is, gives_what_is_left, gives_where_written, gives_within, same_standing, writes_is}
 
 -- ---- the range of a live request
@@ -101,13 +100,7 @@ not_intent operation plan range is = grind (arith, is)
 -- and these are the bytes that the request touches
 pub range_touched : (order : Order) (config : Config) (request : BridgedRequest) (range : PlannedRange) (x : ℕ) → IsServed config order.regions request → IsPlannedAt config order.regions request range
     → asked order request.flight.number ≡ Some (request_of request.message) → request.flight.plan ≡ Some range → HasAddress range x → touches order request.flight.number x ≡ true
-range_touched order config request range x served at is_asked plan inside =
-    let q = request_of request.message in
-    let bytes : 2 ^ range.size ≡ 2 ^ request.message.size = ap (λ n. 2 ^ n) at.size in
-    let high : x < range.address + 2 ^ request.message.size = omega (arith, inside.last) in
-    ap (λ (o : Option WholeRequest). touches_byte order o x) is_asked ∙ ap (λ (place : Option ℕ). touches_from q place x) at.address
-    ∙ and_from (not (is_intent q.operation)) (in_range range.address q.size x) (not_intent request.message.operation (range_of config order.regions q) range (sym served.flight.plan ∙ plan))
-    (and_from (nat_le range.address x) (nat_lt x (range.address + 2 ^ q.size)) (le-leb range.address x inside.first) (lt-ltb x (range.address + 2 ^ q.size) high))
+range_touched order config request range x served at is_asked plan inside = grind (arith, and_from, not_intent, le-leb, lt-ltb, served, at, is_asked, plan, inside)
 
 -- ---- its writes
 
@@ -166,9 +159,7 @@ puts_serially order config request range piece n w valid pages served is_asked l
     at = planned_at config order.regions request range valid pages served plan
 
     where_written : (x : ℕ) → is_some (given_at (bytes_to_write request) range.address x) ≡ gives_byte order.faults q range.address q.operation x
-    where_written x =
-        gives_where_written order.faults q request.message.operation range.address x (unwrap_or (value_found request) 0)
-        (λ op is. (atomic_found order config request range served live writing finds op is).0)
+    where_written x = grind (arith, gives_where_written, atomic_found)
 
     written_there : (x : ℕ) → HasAddress range x → is_good (standing_at order.faults x) ≡ true → writes order request.flight.number x ≡ gives_byte order.faults q range.address q.operation x
     written_there x inside good =

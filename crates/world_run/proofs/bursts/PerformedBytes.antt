@@ -267,8 +267,7 @@ beats_counted order bus_bytes wrote number write pending piece sound of = grind 
 -- a beat of an open burst is a transfer of its piece
 pub beat_within : (order : Order) (bus_bytes : ℕ) (wrote : ℕ → ℕ → Bool) (number : ℕ) (write : Bool) (pending : Pending) (piece : Piece) (n : ℕ) (beat : BeatState) → IsSoundPending bus_bytes pending
     → IsBurstOf order bus_bytes wrote number write pending piece → slice_get pending.beats n ≡ Some beat → n + 1 ≤ piece.len + 1
-beat_within order bus_bytes wrote number write pending piece n beat sound of there =
-    omega (arith, slice_get_within pending.beats n beat there, beats_counted order bus_bytes wrote number write pending piece sound of)
+beat_within order bus_bytes wrote number write pending piece n beat sound of there = grind (arith, slice_get_within, beats_counted, sound, of, there)
 
 -- ---- a write that is answered
 

@@ -130,11 +130,7 @@ done_is client request is = (and_parts (request.flight.client == client) request
 -- a test of the request of a number, which has left where it was done
 same_test : (table : RequestTable) (client n : ℕ) (test : Option BridgedRequest → Bool) → HaveNumbers table.live → ((request : BridgedRequest) → request.flight.done ≡ true → test (Some request) ≡ true) → test None ≡ true
     → test (find (is_numbered n) (without_done client table).live) ≡ test (find (is_numbered n) table.live)
-same_test table client n test sound done_passes none_passes =
-    elim (found_without (is_done_for client) n table.live sound) [
-      | inl same ↦ ap test same
-      | inr (request, was, done, now) ↦ ap test now ∙ none_passes ∙ sym (ap test was ∙ done_passes request (done_is client request done))
-    ]
+same_test table client n test sound done_passes none_passes = grind (arith, nat_tests, found_without, done_is, sound, done_passes, none_passes)
 
 pub take_keeps : (order : Order) (state : WorldState) (client : ℕ) (request : BridgedRequest) → IsSoundWorld state → KeepsOrder order state → HoldsBackIn order (without_done client state.bridge.requests)
     → KeepsOrder order (taken state client (Some request)).state

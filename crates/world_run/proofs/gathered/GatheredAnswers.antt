@@ -126,11 +126,7 @@ all_answered config order limits accepted request served sound done = grind (ari
 
 -- and all its reads came
 done_reads : (flight : LiveRequest) → flight.answered ≡ length (planned flight) → answered_pieces flight ≡ read_pieces flight
-done_reads flight all = by_side flight.writing refl
-  where
-    by_side : (b : Bool) → flight.writing ≡ b → answered_pieces flight ≡ read_pieces flight
-    by_side true writes = rw writes refl
-    by_side false reads = reads_came flight reads (omega (arith, all, length_reading flight reads))
+done_reads flight all = grind (arith, reads_came, length_reading, all)
 
 -- no response came before a write was answered
 pub no_responses : (order : Order) (bus_bytes : ℕ) (request : BridgedRequest) (address : ℕ) → (told : HasGathered order bus_bytes request address)
@@ -169,19 +165,7 @@ all_came order config limits accepted request address valid served sound done at
     answered = all_answered config order limits accepted request served sound done
 
     by_put : is_put request.flight.operation ≡ true → 1 ≤ length (pieces_planned request.flight.plan) → 1 ≤ length told.responses
-    by_put put some = by_side request.flight.writing refl
-      where
-        sides : (reply_has_data request.flight.operation ≡ false) × (has_data request.flight.operation ≡ true)
-        sides = put_sides request.flight.operation put
-
-        all : length (write_pieces request.flight) ≡ length (pieces_planned request.flight.plan)
-        all = rw sides.1 refl
-
-        by_side : (b : Bool) → request.flight.writing ≡ b → 1 ≤ length told.responses
-        by_side true writes =
-            let responded : length told.responses ≡ request.flight.answered = told.answered ∙ rw writes refl in
-            omega (arith, responded, answered, length_writing request.flight writes, all, some)
-        by_side false reads = absurd (cc (sound.reads reads, sides.0))
+    by_put put some = grind (arith, put_sides, length_writing, put, some)
 
     either : is_put request.message.operation ≡ true → (reply_has_data request.message.operation || is_put request.message.operation) ≡ true
     either put = grind (arith, put)
@@ -266,11 +250,7 @@ old_value_served order config request address valid served at atomic whole none 
 -- an atomic that isn't done and writes has had no response: its one write isn't answered
 pub writes_unanswered : (order : Order) (config : Config) (limits : TableLimits) (accepted : ℕ) (request : BridgedRequest) → is_valid config ≡ true → IsServed config order.regions request
     → IsSoundRequest limits accepted request.flight → request.flight.done ≡ false → live.reads_then_writes request.flight ≡ true → request.flight.writing ≡ true → request.flight.answered ≡ 0
-writes_unanswered order config limits accepted request valid served sound undone atomic writing =
-    let has = live_plan config order.regions request valid served.pages served.message served.flight sound.no_plan undone in
-    let plan = atomic_plan config order.regions request valid served.message served.flight has atomic in
-    let going = leb-false (length (planned request.flight)) request.flight.answered (sym served.done ∙ undone) in
-    omega (arith, going, plan.writes, length_writing request.flight writing)
+writes_unanswered order config limits accepted request valid served sound undone atomic writing = grind (arith, live_plan, atomic_plan, leb-false, length_writing, valid, served, sound, undone, atomic, writing)
 
 -- what reads and writes is an atomic
 pub atomic_is : (operation : Operation) → (reply_has_data operation && has_data operation) ≡ true → is_atomic operation ≡ true

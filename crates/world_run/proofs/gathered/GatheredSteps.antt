@@ -143,15 +143,7 @@ with_read_told bus_bytes r last request =
 -- it is gathered behind those that came before it
 read_behind : (bus_bytes : ℕ) (outline : Outline) (g : Gathering) (reads : List RBeat) (responses : List Resp) (r : RBeat) → g ≡ gathering_after bus_bytes outline (record { reads = enumerate_from 0 reads; writes = responses })
     → length reads ≡ g.came → responses ≡ [] → after_r bus_bytes outline r g.came g ≡ gathering_after bus_bytes outline (record { reads = enumerate_from 0 (reads ++ r ∷ []); writes = responses })
-read_behind bus_bytes outline g reads [] r is came none =
-    ap (λ place. after_r bus_bytes outline r place g) (sym came) ∙ ap (after_r bus_bytes outline r (length reads)) is ∙ sym (one_more_read bus_bytes outline reads r 0 (gathering_of outline false) ∙ from)
-  where
-    start : 0 + length reads ≡ length reads
-    start = omega arith
-
-    from : after_r bus_bytes outline r (0 + length reads) (after_reads bus_bytes outline (enumerate_from 0 reads) (gathering_of outline false)) ≡ after_r bus_bytes outline r (length reads) (after_reads bus_bytes outline (enumerate_from 0 reads) (gathering_of outline false))
-    from = ap (λ place. after_r bus_bytes outline r place (after_reads bus_bytes outline (enumerate_from 0 reads) (gathering_of outline false))) start
-read_behind bus_bytes outline g reads (resp ∷ responses) r is came none = absurd (cc (none))
+read_behind bus_bytes outline g reads responses r is came none = grind (arith, one_more_read, is, came, none)
 
 pub read_told : (order : Order) (bus_bytes : ℕ) (request : BridgedRequest) (address : ℕ) (r : RBeat) → (told : HasGathered order bus_bytes request address) → told.responses ≡ []
     → request.gathering.came < reads_of bus_bytes (outline_in request) → request.flight.writing ≡ false → TellsAt order bus_bytes request address request.gathering.came r
