@@ -709,8 +709,11 @@ impl Score {
     ) -> Result<bool, ScriptFault>
         ensures { Writes true _number (commanded (score_of self.old) _number Answer) (score_of self.new) (W.contents writer.old) (W.contents writer.new) result }
     {
+        if self.held.is_none() {
+            return Ok(false);
+        }
         let mut findings = Findings::none();
-        self.settle(&mut findings.held)?;
+        self.settle_held(&mut findings.held)?;
         Ok(findings_lines(&findings, writer)?)
     }
 

@@ -321,6 +321,7 @@ impl Scoreboard {
     }
 
     /// Judges a beat on a client's channel A, and says how far its message is with it, if nothing is wrong.
+    #[inline(always)]
     pub(crate) fn take_request(
         &mut self,
         client: u8,

@@ -50,6 +50,7 @@ impl Scoreboard {
     }
 
     /// Judges a beat on a client's channel A.
+    #[inline(always)]
     fn judge_unknown_request(
         &mut self,
         client: u8,
