@@ -1,8 +1,8 @@
 -- Marks at the slots of the live requests that pass a test, through each change of them.
-use Rattle.std.proofs.Common.{◌≡◌, ◌≢◌, ℕ, zero, suc, ◌+◌, ◌==◌, ◌<◌, Bool, true, false, List, [], ◌∷◌, ◌++◌, map, length, get_or, set, replicate, Option, None, Some, IsSome, refl, ap, sym, ◌∙◌, arith, get_or-set_other, get_or-set_same, length-set, set-set}
+use Rattle.std.proofs.Common.{◌-◌, ap₂, inl, inr, ◌≡◌, ◌≢◌, ℕ, zero, suc, ◌+◌, ◌==◌, ◌<◌, Bool, true, false, List, [], ◌∷◌, ◌++◌, map, length, get_or, set, replicate, Option, None, Some, IsSome, refl, ap, sym, ◌∙◌, arith, get_or-set_other, get_or-set_same, length-set, set-set}
 use Rattle.std.specs.Prelude.{if◌then◌else◌}
 use Rattle.std.specs.List.{AllByRecursion, filter, position, position_or_len}
-use Rattle.std.proofs.lemmas.Bool.{eq-eqb, ne_eqb}
+use Rattle.std.proofs.lemmas.Bool.{cases_eq, eq-eqb, ne_eqb}
 use Rattle.std.proofs.lemmas.Bool.Decides.{nat_tests}
 use Rattle.std.proofs.lemmas.List.{set_comm, set-get_or}
 use Rattle.bus_words.specs.Places.{change_first, without_first}
@@ -154,6 +154,23 @@ count_without q key (entry ∷ entries) r found fails = grind (arith, fails, λ 
 same_unheld : (entries : List KeyedRequest) (slot count : ℕ) (counts : List ℕ) → AreOthers slot entries → map (λ entry. get_or counts entry.key 0 == 0) entries ≡ map (λ entry. get_or (set counts slot count) entry.key 0 == 0) entries
 same_unheld [] slot count counts apart = refl
 same_unheld (entry ∷ entries) slot count counts apart = rw (get_or-set_other counts slot entry.key count 0 apart.0, same_unheld entries slot count counts apart.1) refl
+
+-- where some are left, nobody is marked
+pub still_held : (entries : List KeyedRequest) (slot count : ℕ) (counts : List ℕ) → count ≢ 0 → count ≡ get_or counts slot 0 - 1 → slot < length counts
+    → map (λ entry. get_or counts entry.key 0 == 0) entries ≡ map (λ entry. get_or (set counts slot count) entry.key 0 == 0) entries
+still_held [] slot count counts some is within = refl
+still_held (entry ∷ entries) slot count counts some is within = ap₂ (λ m ms. m ∷ ms) here (still_held entries slot count counts some is within)
+  where
+    zero_test : (m n : ℕ) → m ≢ 0 → n ≢ 0 → (m == 0) ≡ (n == 0)
+    zero_test m n some more = ne_eqb m 0 some ∙ sym (ne_eqb n 0 more)
+
+    here : (get_or counts entry.key 0 == 0) ≡ (get_or (set counts slot count) entry.key 0 == 0)
+    here =
+        elim (cases_eq entry.key slot) [
+          | inl same ↦
+              rw (same, get_or-set_same counts slot count 0 within) (zero_test (get_or counts slot 0) count (λ none. some (omega (arith, is, none))) some)
+          | inr other ↦ rw (get_or-set_other counts slot entry.key count 0 other) refl
+        ]
 
 next_unheld : (entries : List KeyedRequest) (slot count : ℕ) (counts : List ℕ) → HaveOwnKeys entries → position_or_len (has_key slot) entries < length entries → slot < length counts
     → set (map (λ entry. get_or counts entry.key 0 == 0) entries) (position_or_len (has_key slot) entries) (count == 0) ≡ map (λ entry. get_or (set counts slot count) entry.key 0 == 0) entries

@@ -1,5 +1,5 @@
 //! One live request.
-ghost use Rattle.std.specs.Prelude.{◌≡◌, ℕ, ◌↔◌, ◌&&◌, ◌+◌, ◌-◌, ◌*◌, ◌<◌, ◌≤◌, IfSome, IsTrue, Some, drop, if◌then◌else◌, is_some, length, slice_get, sum_by};
+ghost use Rattle.std.specs.Prelude.{◌≡◌, ◌&&◌, ◌+◌, ◌-◌, ◌*◌, ◌<◌, ◌≤◌, IfSome, Some, is_some, length, slice_get};
 ghost use Rattle.flight_table.specs.LiveRequests.{awaits_write, flight_for, reads_then_writes, is_settled, next_piece, pieces_planned, plan_for, planned, read_pieces, unanswered, write_pieces};
 ghost use Rattle.flight_table.specs.Inside.{is_open};
 ghost use Rattle.std.specs.List.{AllByRecursion};

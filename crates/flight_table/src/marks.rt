@@ -1,5 +1,5 @@
 //! Marks at places, as the bits of a word.
-ghost use Rattle.std.specs.Prelude.{◌≡◌, ◌<◌, ◌≤◌, ◌^◌, Bool, ◌&&◌, true, false, List, [], ◌∷◌, ◌++◌, length, None, IfSome, position, replicate, slice_set};
+ghost use Rattle.std.specs.Prelude.{◌≡◌, ◌<◌, ◌≤◌, ◌^◌, Bool, false, List, [], ◌∷◌, ◌++◌, length, None, IfSome, position, slice_set};
 ghost use Rattle.std.specs.List.{remove};
 ghost use Rattle.flight_table.specs.Marks.{both, marks_of, number_of, without_bit};
 

@@ -75,6 +75,9 @@ pub(crate) fn lower_counts(
     while let Some(slot) = held.take_first() {
         let count = holders[slot].saturating_sub(1);
         holders[slot] = count;
-        unheld.put(slots.place_in(slot), count == 0);
+        if count != 0 {
+            continue;
+        }
+        unheld.put(slots.place_in(slot), true);
     }
 }
