@@ -32,7 +32,7 @@ CALL = re.compile(r"`(\w+)::(?:\w+::)*(\w+)`")
 CLAUSE = re.compile(r"(?ms)^ *ensures (?:(\w+) )?{(.*?)}$")
 # A clause that a caller has to meet, and what in one nobody can: no value is of an empty type, and nothing lies at null.
 ASKED = re.compile(r"(?ms)^ *requires\*? (?:\w+ )?{(.*?)}$")
-UNMET = re.compile(r"\bffalse\b|⊥|\bEmpty\b|\bFalse\b|\bfalse ≡ true\b|\btrue ≡ false\b|≡ *\(?null\b|\bnull(?:_mut)?\b *≡")
+UNMET = re.compile(r"\bffalse\b|⊥|\bEmpty\b|\bFalse\b|(?<![\w)] )\b(?:false ≡ true|true ≡ false)\b|≡ *\(?null\b|\bnull(?:_mut)?\b *≡")
 NAME = re.compile(r"(?:\b(\w+)\.)?([A-Za-z_]\w*)")
 # A guarantee of the list, from its dash to its end.
 GUARANTEE = re.compile(r"(?m)^- .*(?:\n  .*)*")
