@@ -1,4 +1,4 @@
-//! The live requests, with what is kept of them by their places in the order of acceptance, so that no question walks over them.
+//! The live requests, with what is kept of them by their places in the order of acceptance and by their slots, so that no question walks over them.
 ghost use Rattle.std.specs.Prelude.{◌≡◌, ◌==◌, ◌<◌, ◌≤◌, ◌^◌, [], ◌∷◌, ◌++◌, Some, None, false, true, IfOk, IfSome, IsFalse, IsSome, IsSomeAnd, IsTrue, length, filter, position, sum_by};
 ghost use Rattle.std.specs.List.{AllByRecursion, list_any};
 ghost use Rattle.std.specs.Option.{option_or};

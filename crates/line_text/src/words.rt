@@ -144,17 +144,17 @@ impl<'a> Words<'a> {
         requires { length line.now ≤ 128 }
         ensures { self.new ≡ words_of line.now }
     {
-        if line.len() < 8 || line.len() > 63 {
+        if line.len() < 4 || line.len() > 63 {
             self.read_apart(line);
         } else {
             self.read_together(line);
         }
     }
 
-    /// The same for a line of 8 to 63 bytes, which are looked at together.
+    /// The same for a line of 4 to 63 bytes, which are looked at together.
     #[inline(always)]
     fn read_together(&mut self, line: &'a [u8])
-        requires { (8 ≤ length line.now) × (length line.now ≤ 63) }
+        requires { (4 ≤ length line.now) × (length line.now ≤ 63) }
         ensures { self.new ≡ words_of line.now }
     {
         self.line = line;
