@@ -104,10 +104,3 @@ part-empty {X = X} [] from to past = cc (take-nil {A = X} to, drop-nil {A = X} f
 part-empty (y ∷ ys) from zero past = drop-nil from
 part-empty (y ∷ ys) zero (suc to) past = absurd (omega (arith, past))
 part-empty (y ∷ ys) (suc from) (suc to) past = part-empty ys from to (omega (arith, past))
-
--- what holds of each entry of a list holds of each of a part
-pub all-part : {X : Type 0} (P : X → Type 0) (xs : List X) (from to : ℕ) → AllByRecursion P xs → AllByRecursion P (drop from (take to xs))
-all-part P [] from to all = rw (take-nil, drop-nil) tt
-all-part P (y ∷ ys) from zero all = rw drop-nil tt
-all-part P (y ∷ ys) zero (suc to) all = (all.0, all-part P ys zero to all.1)
-all-part P (y ∷ ys) (suc from) (suc to) all = all-part P ys from to all.1

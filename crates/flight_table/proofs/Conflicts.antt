@@ -5,7 +5,6 @@ use Rattle.std.specs.List.{AllByRecursion, filter}
 use Rattle.std.proofs.lemmas.Bool.Decides.{nat_tests}
 use Rattle.std.proofs.lemmas.Bool.{cases_eq, eq-eqb, ne_eqb}
 use Rattle.std.proofs.lemmas.List.{map_push, set-get_or}
-use Rattle.std.proofs.lemmas.List.Elements.{filter_agree}
 use Rattle.std.proofs.lemmas.Option.{same_Some}
 use Rattle.burst_plan.specs.Pieces.{IsPlannable, PlannedRange}
 use Rattle.burst_plan.proofs.PlanLaws.{some_bursts}
@@ -17,7 +16,7 @@ use Rattle.flight_table.specs.Inside.{IsProgress, count_holders}
 use Rattle.flight_table.specs.Laws.{HaveOwnKeys}
 use Rattle.flight_table.specs.LiveRequests.{LiveRequest, finished, pieces_planned}
 use Rattle.flight_table.specs.Marks.{marks_of, number_of}
-use Rattle.flight_table.specs.Order.{holds_back, is_held, share_bytes}
+use Rattle.flight_table.specs.Order.{holds_back, is_held}
 use Rattle.flight_table.specs.Rows.{bits_in, bits_of, is_on, lies_in, open_page, page_of}
 use Rattle.flight_table.specs.Spans.{counted_in, joined_in, lowered_in, span_of, spans_conflict}
 use Rattle.flight_table.specs.Tables.{KeyedRequest, change_entry, has_key, request_in, requests_of}
@@ -25,9 +24,8 @@ use Rattle.flight_table.specs.declared.rows.Row.{Row}
 use Rattle.flight_table.specs.declared.spans.Span.{Span}
 use Rattle.flight_table.proofs.Kept.{count_cons, done_holds, is_unheld, later_holds, more_holders, progress_held, progress_holds}
 use Rattle.flight_table.proofs.MarkLaws.{as_marks, below, or_put, put_is}
-use Rattle.flight_table.proofs.Ranges.{same_span}
 use Rattle.flight_table.proofs.RowLaws.{HasPlan, holds_on, row_bits}
-use Rattle.flight_table.proofs.SlotMarks.{AreOthers, HaveSlots, count_changed, count_without, length_slots, marked, marks_changed, marks_kept, marks_never, marks_none, marks_pushed, marks_same, marks_without, no_slots, none_has, others, own_requests, unmarked}
+use Rattle.flight_table.proofs.SlotMarks.{AreOthers, HaveSlots, count_changed, count_without, length_slots, marked, marks_changed, marks_kept, marks_never, marks_none, marks_pushed, marks_without, no_slots, none_has, others, own_requests, unmarked}
 use Rattle.flight_table.proofs.TableChanges.{count-none}
 use Rattle.flight_table.proofs.Walks.{counted_none, counted_set, joined, joined_at, length_joined, length_lowered, lowered_at, one}
 
@@ -126,18 +124,7 @@ slots_kept entries counts sets spans rows key change r kept found progress =
         }
 
     stepped : (entry : KeyedRequest) → In entry → In (change_entry change entry)
-    stepped entry is =
-        let q = entry.request in
-        let p = progress q in
-        let held : count_holders (requests_of after) (change q) ≡ count_holders (requests_of after) q = ap length (filter_agree (holds_back (change q)) (holds_back q) (λ x. progress_held x q (change q) p) (requests_of after)) in
-        record {
-          slot = is.slot;
-          range = rw p.plan is.range;
-          span = λ none. is.span none ∙ sym (same_span q (change q) p);
-          count = is.count ∙ sym held;
-          free = λ done. held ∙ is.free (sym p.done ∙ done);
-          set = is.set ∙ sym (ap number_of (marks_same (is_held_by (change q)) (is_held_by q) after (λ x. progress_holds x q (change q) p)));
-        }
+    stepped entry is = grind (arith, is, entry.request)
 
 -- ---- one less
 
@@ -301,11 +288,7 @@ slots_counted page r spans d (entry ∷ entries) many own all =
     rw (count_cons (holds_back r) entry.request (requests_of entries)) (omega (arith, put, slots_counted page r spans d entries many own.1 all.1))
 
 no_plan_held : (r x : LiveRequest) → r.plan ≡ None → holds_back r x ≡ false
-no_plan_held r x none = grind (arith, none, shares_none x.plan)
-  where
-    shares_none : (plan : Option PlannedRange) → share_bytes plan None ≡ false
-    shares_none None = refl
-    shares_none (Some range) = refl
+no_plan_held r x none = grind (arith, none)
 
 pub count_never : (q : LiveRequest → Bool) (live : List LiveRequest) → ((x : LiveRequest) → q x ≡ false) → length (filter q live) ≡ 0
 count_never q [] never = refl

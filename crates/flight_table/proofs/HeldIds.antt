@@ -1,8 +1,7 @@
 -- The holders of the IDs, through each change of the live requests.
-use Rattle.std.proofs.Common.{◌≡◌, ◌≢◌, ℕ, zero, suc, ◌+◌, ◌<◌, ◌≤◌, Bool, true, false, is_none, List, [], ◌∷◌, ◌++◌, map, length, get_or, set, Option, Some, None, refl, ap, sym, ◌∙◌, arith}
+use Rattle.std.proofs.Common.{◌≡◌, ◌≢◌, ℕ, zero, suc, ◌+◌, ◌<◌, ◌≤◌, Bool, true, false, is_none, List, [], ◌∷◌, ◌++◌, map, length, get_or, set, Option, Some, None, refl, ap, sym, ◌∙◌, arith, replicate}
 use Rattle.std.specs.Prelude.{IfSome, if◌then◌else◌}
 use Rattle.std.specs.List.{filter, find, list_any, position, range_with_len}
-use Rattle.std.proofs.Common.{replicate}
 use Rattle.std.proofs.lemmas.List.{get_or-map, get_or_past}
 use Rattle.bus_words.proofs.FirstPlaces.{find-first, find-none, position_is_first}
 use Rattle.bus_words.specs.Places.{change_first, without_first}
@@ -51,11 +50,7 @@ range_same f g a (suc n) same = rw (same a (omega arith), range_same f g (a + 1)
 -- one of a range changes
 pub range_set : {X : Type 0} (f g : ℕ → X) (a n k : ℕ) (v : X) → k < n → g (a + k) ≡ v → ((id : ℕ) → id ≢ a + k → g id ≡ f id) → map g (range_with_len a n) ≡ set (map f (range_with_len a n)) k v
 range_set f g a zero k v within is others = absurd (omega (arith, within))
-range_set f g a (suc n) zero v within is others =
-    rw (rw (plus_zero a) at is, range_same f g (a + 1) n (λ id above. others id (λ same. omega (arith, above, same)))) refl
-  where
-    plus_zero : (a : ℕ) → a + 0 ≡ a
-    plus_zero a = omega arith
+range_set f g a (suc n) zero v within is others = grind (arith, within, is, others, range_same f g (a + 1) n)
 range_set f g a (suc n) (suc k) v within is others =
     rw (others a (λ same. omega (arith, same)))
     (ap (λ xs. f a ∷ xs) (range_set f g (a + 1) n k v (omega (arith, within)) (rw (moved a k) is) (λ id other. others id (λ same. other (omega (arith, same))))))

@@ -1,5 +1,5 @@
 -- What is kept by place stays what it says, through each change of the live requests.
-use Rattle.std.proofs.Common.{◌≡◌, ℕ, zero, suc, ◌+◌, ◌==◌, ◌<◌, ◌≤◌, Bool, true, false, List, [], ◌∷◌, ◌++◌, map, length, get_or, set, Option, Some, None, refl, ap, ap₂, sym, ◌∙◌, arith}
+use Rattle.std.proofs.Common.{◌≡◌, ℕ, zero, suc, ◌+◌, ◌==◌, ◌<◌, ◌≤◌, Bool, true, false, List, [], ◌∷◌, ◌++◌, map, length, get_or, set, Some, refl, ap, ap₂, sym, ◌∙◌, arith}
 use Rattle.std.specs.Prelude.{IsSome, IsSomeAnd, if◌then◌else◌, option_map}
 use Rattle.std.specs.List.{AllByRecursion, filter, find, position, remove}
 use Rattle.std.proofs.lemmas.List.{get_or-map, map-set, map_push, set-get_or}
@@ -170,11 +170,7 @@ pub record IsNamed (key : ℕ) (entries : List KeyedRequest) (P : LiveRequest �
   pub holds : P request
 
 pub named_request : (key : ℕ) (entries : List KeyedRequest) (P : LiveRequest → Type 0) → IsSomeAnd (request_in key entries) P → IsNamed key entries P
-named_request key entries P holds = by_request (request_in key entries) refl holds
-  where
-    by_request : (o : Option LiveRequest) → request_in key entries ≡ o → IsSomeAnd o P → IsNamed key entries P
-    by_request None is holds = absurd holds
-    by_request (Some request) is holds = record { request = request; named = is; holds = holds }
+named_request key entries P holds = grind (arith, holds)
 
 pub some_named : (key : ℕ) (entries : List KeyedRequest) (P : LiveRequest → Type 0) → IsSomeAnd (request_in key entries) P → IsSome (request_in key entries)
 some_named key entries P holds = rw (named_request key entries P holds).named refl

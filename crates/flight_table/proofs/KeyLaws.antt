@@ -38,9 +38,7 @@ named test (entry ∷ entries) k own found = by_test (test entry.request) refl f
   where
     by_test : (b : Bool) → test entry.request ≡ b → option_map (λ (e : KeyedRequest). e.key) (if b then Some entry else find (λ e. test e.request) entries) ≡ Some k
         → (key_in test entries ≡ Some k → IsNamed test entries k) → IsNamed test (entry ∷ entries) k
-    by_test true is here rest =
-        let same : entry.key ≡ k = cc in
-        record { request = entry.request; named = rw (eq-eqb entry.key k same) refl; passes = is; first = rw is refl }
+    by_test true is here rest = grind (arith, is, here, rest)
     by_test false is later rest =
         let found = rest later in
         let other : k ≢ entry.key = key_listed (λ m. m ≢ entry.key) test entries k own.0 later in

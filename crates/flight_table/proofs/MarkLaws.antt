@@ -1,8 +1,7 @@
 -- Marks at places as the bits of a number: what a change of one is of the other.
-use Rattle.std.proofs.Common.{◌≡◌, ℕ, zero, suc, ◌+◌, ◌-◌, ◌*◌, ◌/◌, ◌%◌, ◌^◌, ◌==◌, ◌<◌, ◌≤◌, Bool, true, false, ◌&&◌, min, List, [], ◌∷◌, ◌++◌, length, get_or, set, refl, ap, sym, ◌∙◌, arith}
+use Rattle.std.proofs.Common.{◌≡◌, ℕ, zero, suc, ◌+◌, ◌-◌, ◌*◌, ◌/◌, ◌%◌, ◌^◌, ◌==◌, ◌<◌, ◌≤◌, Bool, true, false, ◌&&◌, min, List, [], ◌∷◌, ◌++◌, length, get_or, set, refl, ap, sym, ◌∙◌, arith, map, Some, None}
 use Rattle.std.specs.Prelude.{if◌then◌else◌}
 use Rattle.std.specs.List.{position, position_or_len, remove}
-use Rattle.std.proofs.Common.{map, Some, None}
 use Rattle.std.proofs.lemmas.Bool.{lt-ltb, le-ltb}
 use Rattle.std.proofs.lemmas.Simd.{trailing_mask_l}
 use lib.Lanes.{mask_l}
@@ -130,9 +129,7 @@ put_bits marks place mark value within few is =
 pub removed_is : (marks : List Bool) (place : ℕ) → place < length marks
     → number_of (remove marks place) ≡ without_bit place (number_of marks)
 removed_is [] place within = absurd (omega (arith, within))
-removed_is (m ∷ marks) zero within =
-    let half = (lowest m (number_of marks)).1 in
-    rw (div-one (number_of (m ∷ marks)), half) (omega arith)
+removed_is (m ∷ marks) zero within = grind (arith, within, lowest m (number_of marks))
 removed_is (m ∷ marks) (suc place) within =
     let n = number_of marks in
     let rest : number_of (remove marks place) ≡ without_bit place n = removed_is marks place (omega (arith, within)) in

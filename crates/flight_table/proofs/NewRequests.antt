@@ -1,15 +1,14 @@
 -- One more request keeps the laws of the table, and how many there can be.
-use Rattle.std.proofs.Common.{◌≡◌, ℕ, suc, zero, ◌+◌, ◌*◌, ◌<◌, ◌≤◌, Bool, true, false, not, nat_lt, List, [], ◌∷◌, ◌++◌, map, length, Option, Some, None, is_none, refl, ap, sym, ◌∙◌, arith, length-append, subst, IsSome}
-use Rattle.std.specs.Prelude.{if◌then◌else◌, IfSome}
+use Rattle.std.proofs.Common.{◌≡◌, ℕ, suc, zero, ◌+◌, ◌*◌, ◌<◌, ◌≤◌, Bool, true, false, not, nat_lt, List, [], ◌∷◌, ◌++◌, map, length, Option, Some, None, is_none, refl, ap, sym, ◌∙◌, arith, length-append, subst}
+use Rattle.std.specs.Prelude.{if◌then◌else◌}
 use Rattle.std.specs.List.{AllByRecursion, filter, list_any}
 use Rattle.std.proofs.Math.Nat.{mul-le-mul_right}
-use Rattle.std.proofs.lemmas.Bool.{lt-ltb, ltb-true, le-ltb}
+use Rattle.std.proofs.lemmas.Bool.{lt-ltb, le-ltb}
 use Rattle.bus_words.proofs.PlaceChanges.{all-append, all-map}
 use Rattle.flight_table.specs.Laws.{AreLimits, AreRising, HaveOwnKeys, IsSound, IsSoundRequest, IsSoundTable}
-use Rattle.flight_table.specs.LiveRequests.{LiveRequest, all_sent, flight_for, pieces_planned, plan_for, planned}
+use Rattle.flight_table.specs.LiveRequests.{LiveRequest, all_sent, flight_for}
 use Rattle.burst_plan.specs.declared.Piece.{Piece}
 use Rattle.tl_messages.specs.Operations.{has_data, reply_has_data}
-use Rattle.tl_messages.specs.declared.Operation.{Operation}
 use Rattle.burst_plan.specs.Pieces.{PlannedRange}
 use Rattle.tl_messages.specs.Requests.{HeldMessage}
 use Rattle.bus_words.specs.Places.{without_first}
@@ -53,9 +52,7 @@ any-append q (y ∷ xs) x fails = rw (any-append q xs x fails) refl
 
 -- the latest holds back nobody
 latest_holds_none : (x r : LiveRequest) → x.number < r.number → holds_back x r ≡ false
-latest_holds_none x r below =
-    let smaller : nat_lt r.number x.number ≡ false = le-ltb r.number x.number (omega (arith, below)) in
-    rw smaller refl
+latest_holds_none x r below = grind (arith, below)
 
 pub sound_new : (table : FlightTable) (r : LiveRequest) → IsSoundTable table → IsNew table r → IsSoundTable (with_request r table)
 sound_new table r sound new =
@@ -72,16 +69,7 @@ sound_new table r sound new =
     later x s = let number : x.number < table.accepted + 1 = omega (arith, s.number) in assumption
 
     fresh : IsSoundRequest table.limits (table.accepted + 1) r
-    fresh =
-        let number : r.number < table.accepted + 1 = omega (arith, new.number) in
-        let sent : r.sent ≤ length (planned r) = omega (arith, new.sent) in
-        let answered : r.answered ≤ r.sent = omega (arith, new.answered) in
-        let depth : r.sent ≤ r.answered + table.limits.depth = omega (arith, new.sent) in
-        let id : IfSome r.id (λ id. id < table.limits.ids) = rw new.id tt in
-        let holds : r.done ≡ false → 0 < all_sent r → IsSome r.id = λ undone some. absurd (omega (arith, some, new.all)) in
-        let unsent : all_sent r ≡ 0 → r.id ≡ None = λ none. new.id in
-        let freed : r.done ≡ true → r.id ≡ None = λ done. new.id in
-        assumption
+    fresh = grind arith
 
     below : AllByRecursion (λ (o : LiveRequest). o.number < r.number) table.live
     below = all-map (IsSoundRequest table.limits table.accepted) (λ o. o.number < r.number) table.live (λ x s. omega (arith, s.number, new.number)) sound.requests
@@ -145,29 +133,9 @@ pub record MayAccept (keyed : KeyedTable) (client source : ℕ) : Type 0 where
 none_sent : (replies : Bool) (parts : List Piece) → (if not replies then length (if replies then parts else []) else 0) + 0 ≡ 0
 none_sent replies parts = grind arith
 
--- it reads first, where it reads at all
-reads_first : (replies : Bool) → not replies ≡ false → replies ≡ true
-reads_first replies reads = grind arith
-
-writes_first : (operation : Operation) (plan : Option PlannedRange) → not (reply_has_data operation) ≡ true → is_none (plan_for operation plan) ≡ false → has_data operation ≡ true
-writes_first operation plan writes some = grind (arith, writes, some)
-
 pub is_new : (table : FlightTable) (client : ℕ) (held : HeldMessage) (plan : Option PlannedRange) → client < table.limits.clients → has_room table client ≡ true → is_busy table client held.source ≡ false
     → IsNew table (flight_for table.accepted client held plan)
-is_new table client held plan there room free =
-    record {
-      number = refl;
-      client = there;
-      room = room;
-      source = free;
-      reads = reads_first (reply_has_data held.operation);
-      writes = writes_first held.operation plan;
-      sent = refl;
-      all = none_sent (reply_has_data held.operation) (pieces_planned (plan_for held.operation plan));
-      answered = refl;
-      id = refl;
-      no_plan = λ none. rw none refl;
-    }
+is_new table client held plan there room free = grind (arith, there, room, free)
 
 new_table : (keyed : KeyedTable) (client : ℕ) (held : HeldMessage) (plan : Option PlannedRange) → IsSound keyed → MayAccept keyed client held.source
     → IsSoundTable (with_request (flight_for keyed.accepted client held plan) (table_of keyed))
@@ -190,8 +158,7 @@ pub known_client : (old now : KeyedTable) (client : ℕ) → old ≡ now → IsS
 known_client old now client same sound below = omega (arith, ap (λ (t : KeyedTable). t.limits.clients) same, sound.limits.most_clients, below)
 
 pub quota_left : (old now : KeyedTable) (client source : ℕ) → old ≡ now → IsSound old → MayAccept now client source → length (filter (is_of client) (requests_of old.entries)) < 8
-quota_left old now client source same sound may =
-    omega (arith, ltb-true (length (filter (is_of client) (requests_of old.entries))) old.limits.quota (before old now client source same may).room, sound.limits.most_quota)
+quota_left old now client source same sound may = grind (arith, same, sound, may)
 
 -- the next number is above all
 pub is_latest : (keyed : KeyedTable) → IsSound keyed → AllByRecursion (λ (earlier : LiveRequest). earlier.number < keyed.accepted) (requests_of keyed.entries)
@@ -236,5 +203,4 @@ release_is old now key r entries same sound found made own = subst (λ t. IsRele
 
 -- a request that is done as it is accepted has no plan
 pub none_planned : (plan : Option PlannedRange) → is_none plan ≡ true → plan ≡ None
-none_planned None none = refl
-none_planned (Some range) none = absurd (cc (none))
+none_planned plan none = grind (arith, none)

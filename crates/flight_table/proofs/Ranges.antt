@@ -1,9 +1,8 @@
 -- Ranges that meet have an address in common, and spans tell which requests conflict.
-use Rattle.std.proofs.Common.{◌≡◌, ◌↔◌, ℕ, true, false, ◌&&◌, not, Option, Some, None, IsTrue, refl, ap, max, arith, nat_lt}
-use Rattle.std.proofs.lemmas.Bool.{and_from, and_parts, lt-ltb, ltb-true}
+use Rattle.std.proofs.Common.{◌≡◌, ◌↔◌, ℕ, true, false, ◌&&◌, not, Option, Some, None, IsTrue, ap, max, arith, nat_lt}
+use Rattle.std.proofs.lemmas.Bool.{and_parts, ltb-true}
 use Rattle.std.proofs.lemmas.Nat.{pow_pos}
 use Rattle.burst_plan.specs.Pieces.{PlannedRange, range_end}
-use Rattle.flight_table.specs.Inside.{IsProgress}
 use Rattle.flight_table.specs.LiveRequests.{LiveRequest}
 use Rattle.flight_table.specs.Order.{HaveCommonAddress, conflict, is_get, ranges_meet, share_bytes}
 use Rattle.flight_table.specs.Spans.{IsSpanOf, end_of, span_of, spans_conflict, spans_meet, start_of}
@@ -18,9 +17,7 @@ meet a b test =
     (max a.address b.address, record { first = omega arith; last = omega (arith, first, second, pow_pos a.size) }, record { first = omega arith; last = omega (arith, first, second, pow_pos b.size) })
 
 back : (a b : PlannedRange) → HaveCommonAddress (Some a) (Some b) → ranges_meet a b ≡ true
-back a b shared =
-    let (x, in_a, in_b) = shared in
-    and_from (nat_lt a.address (range_end b)) (nat_lt b.address (range_end a)) (lt-ltb a.address (range_end b) (omega (arith, in_a.first, in_b.last))) (lt-ltb b.address (range_end a) (omega (arith, in_b.first, in_a.last)))
+back a b shared = grind (arith, shared)
 
 common_address : (a b : Option PlannedRange) → IsTrue (share_bytes a b) ↔ HaveCommonAddress a b
 common_address None b = (λ test. absurd (cc (test)), λ none. absurd none)
@@ -40,7 +37,3 @@ span_conflicts a b = ap (λ shared. shared && not (is_get a.operation && is_get 
 
 pub span_met : (x y : Span) (a b : Option PlannedRange) → IsSpanOf a x → IsSpanOf b y → IsTrue (spans_meet x y) ↔ HaveCommonAddress a b
 span_met x y a b is_a is_b = rw (is_a.start, is_a.end, is_b.start, is_b.end, ranges_share a b) (common_address a b)
-
--- sending and answering change nothing of it
-pub same_span : (old new : LiveRequest) → IsProgress old new → span_of new ≡ span_of old
-same_span old new progress = rw (progress.plan, progress.operation) refl

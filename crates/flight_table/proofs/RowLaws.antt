@@ -49,8 +49,7 @@ shared : (a b : LiveRequest) → conflict a b ≡ true → share_bytes a.plan b.
 shared a b meet = (and_parts (share_bytes a.plan b.plan) (not (is_get a.operation && is_get b.operation)) meet).0
 
 in_none : (page : Option ℕ) → lies_in page None ≡ false
-in_none None = refl
-in_none (Some page) = refl
+in_none page = grind arith
 
 -- a request that isn't done and conflicts with a later one lies in its page, and holds it back
 pub holds_on : (later earlier : LiveRequest) → HasPlan later → HasPlan earlier → earlier.number < later.number
@@ -64,11 +63,7 @@ holds_on later earlier own plan below = rw (span_conflicts earlier later, lt-ltb
 
 -- the page of a request that is done only where it has no plan
 pub page_is : (r : LiveRequest) → (r.done ≡ true → r.plan ≡ None) → open_page r ≡ page_of r.plan
-page_is r sends = by_done r.done refl
-  where
-    by_done : (done : Bool) → r.done ≡ done → open_page r ≡ page_of r.plan
-    by_done true is = rw (is, sends is) refl
-    by_done false is = rw is refl
+page_is r sends = grind (arith, sends)
 
 -- ---- the row of a page
 

@@ -95,10 +95,6 @@ marked_live q key entries mark = by_request (request_in key entries) refl
 
 -- ---- changes
 
-pub marks_same : (p q : LiveRequest → Bool) (entries : List KeyedRequest) → ((r : LiveRequest) → p r ≡ q r) → slot_marks p entries ≡ slot_marks q entries
-marks_same p q [] same = refl
-marks_same p q (entry ∷ entries) same = rw (same entry.request, marks_same p q entries same) refl
-
 pub marks_pushed : (q : LiveRequest → Bool) (entries : List KeyedRequest) (last : KeyedRequest) → AreOthers last.key entries → slot_marks q (entries ++ last ∷ []) ≡ set (slot_marks q entries) last.key (q last.request)
 marks_pushed q [] last apart = refl
 marks_pushed q (entry ∷ entries) last apart =

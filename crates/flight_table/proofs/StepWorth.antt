@@ -1,20 +1,17 @@
 -- What a step makes of a request, and by how much it lowers the sums.
-use Rattle.std.proofs.Common.{◌≡◌, ℕ, suc, ◌+◌, ◌-◌, ◌*◌, ◌<◌, false, length, refl, arith, suc-mul}
+use Rattle.std.proofs.Common.{◌≡◌, ℕ, suc, ◌+◌, ◌-◌, ◌*◌, ◌<◌, false, length, arith, suc-mul}
 use Rattle.flight_table.specs.Inside.{IsProgress}
 use Rattle.flight_table.specs.LiveRequests.{LiveRequest, planned, with_answered, with_sent}
 use Rattle.flight_table.specs.Progress.{IsWorth, ends, stepped}
 use Rattle.flight_table.specs.Sums.{one_undone}
 use Rattle.flight_table.specs.Work.{AreWorth, later_work, unsent_work}
 use Rattle.flight_table.specs.declared.live_request.Step.{Step}
-use Rattle.flight_table.specs.declared.live_request.Step.TheVariants.{Sent, Answered, Writes, Done}
+use Rattle.flight_table.specs.declared.live_request.Step.TheVariants.{Sent, Answered}
 use Rattle.flight_table.proofs.PhaseLaws.{undone_unsent, undone_work}
 
 -- a step by which it isn't done
 pub goes_on : (step : Step) (r : LiveRequest) → ends step ≡ false → IsProgress r (stepped step r)
-goes_on (Sent id) r goes = record { number = refl; client = refl; source = refl; operation = refl; plan = refl; done = refl }
-goes_on Answered r goes = record { number = refl; client = refl; source = refl; operation = refl; plan = refl; done = refl }
-goes_on Writes r goes = record { number = refl; client = refl; source = refl; operation = refl; plan = refl; done = refl }
-goes_on Done r goes = absurd (cc (goes))
+goes_on step r goes = grind (arith, goes)
 
 -- ---- what it is worth
 

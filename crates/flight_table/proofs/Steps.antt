@@ -1,21 +1,19 @@
 -- What each call makes of a request keeps the laws of the table.
-use Rattle.std.proofs.Common.{◌≡◌, ℕ, suc, zero, ◌+◌, ◌-◌, ◌<◌, ◌≤◌, Bool, true, false, is_some, List, [], ◌∷◌, length, Option, Some, None, refl, ap, sym, ◌∙◌, arith, inl, inr, ◌⊎◌, subst, IsTrue, IsSome}
+use Rattle.std.proofs.Common.{◌≡◌, ℕ, suc, zero, ◌+◌, ◌-◌, ◌<◌, ◌≤◌, Bool, true, false, is_some, List, [], ◌∷◌, length, Option, Some, None, refl, ap, sym, ◌∙◌, arith, inl, inr, ◌⊎◌, subst, IsTrue}
 use Rattle.std.specs.Prelude.{IfSome, IsSomeAnd}
-use Rattle.std.proofs.lemmas.Bool.{cases_lt, not-true, eq-eqb}
+use Rattle.std.proofs.lemmas.Bool.{cases_lt, not-true, eqb-true, leb-true}
 use Rattle.std.specs.List.{AllByRecursion, find, list_any, range_with_len, slice_get}
 use Rattle.std.specs.Option.{option_or}
-use Rattle.std.proofs.lemmas.Bool.{eqb-true, leb-true}
 use Rattle.bus_words.proofs.PlaceChanges.{find-passes}
 use Rattle.bus_words.specs.Places.{change_first}
-use Rattle.tl_messages.specs.Operations.{has_data, reply_has_data}
+use Rattle.tl_messages.specs.Operations.{has_data}
 use Rattle.flight_table.specs.Inside.{HasOneHolder, MayName}
 use Rattle.flight_table.specs.Laws.{HaveOwnKeys, IsSound, IsSoundRequest, IsSoundTable}
 use Rattle.flight_table.specs.LiveRequests.{LiveRequest, all_sent, awaits_write, finished, is_settled, pieces_planned, planned, with_answered, with_sent, with_write}
 use Rattle.flight_table.specs.Progress.{HasAnswers}
-use Rattle.flight_table.specs.Order.{free_id, holds_back, holds_id, id_for, is_free, is_held, is_id, is_ready}
+use Rattle.flight_table.specs.Order.{free_id, holds_id, id_for, is_free, is_held, is_id, is_ready}
 use Rattle.flight_table.specs.Tables.{FlightTable, KeyedRequest, KeyedTable, change_entry, change_key, change_number, has_key, has_number, key_in, request_at, request_in, requests_of, table_of}
 use Rattle.flight_table.specs.declared.TableLimits.{TableLimits}
-use Rattle.flight_table.proofs.PhaseLaws.{length_reading}
 use Rattle.flight_table.proofs.KeyLaws.{by_number, found_by_number, request_listed}
 use Rattle.flight_table.proofs.TableChanges.{IsStep, sound-put}
 use Rattle.std.proofs.lemmas.Bool.Decides.{nat_tests}
@@ -35,14 +33,7 @@ within_some (x ∷ xs) zero some = omega arith
 within_some (x ∷ xs) (suc k) some = omega (arith, within_some xs k some)
 
 pub ready_parts : (table : FlightTable) (r : LiveRequest) → is_ready table r ≡ true → IsReady table r
-ready_parts table r ready =
-    record {
-      undone = grind (arith, ready);
-      more = within_some (planned r) r.sent (grind (arith, ready));
-      depth = grind (arith, nat_tests, ready);
-      some = grind (arith, ready);
-      free = grind (arith, ready);
-    }
+ready_parts table r ready = grind (arith, ready, r.sent, within_some (planned r) r.sent (grind (arith, ready)))
 
 -- ---- sent
 
@@ -62,9 +53,7 @@ takes_id limits live r id None none within is =
       below = omega (arith, below_range (is_free live) 0 limits.ids id is);
       own = inr (not-true (list_any (holds_id id) live) (find-passes (is_free live) (range_with_len 0 limits.ids) id is));
     }
-takes_id limits live r id (Some held) some within is =
-    let same : held ≡ id = cc in
-    record { below = rw (← same) within; own = inl (rw some (eq-eqb held id same)) }
+takes_id limits live r id (Some held) some within is = grind (arith, some, within, is)
 
 pub step_sent : (table : FlightTable) (r : LiveRequest) (id : ℕ) → IsSoundRequest table.limits table.accepted r → is_ready table r ≡ true → id_for table.limits table.live r ≡ Some id
     → IsStep table.limits table.accepted table.live r (with_sent id r)
@@ -90,10 +79,7 @@ step_sent table r id sound ready is =
 
 pub step_answered : (table : FlightTable) (r : LiveRequest) → IsSoundRequest table.limits table.accepted r → (r.done ≡ false → is_held table.live r ≡ true → r.id ≡ None) → r.answered < r.sent
     → IsStep table.limits table.accepted table.live r (with_answered r)
-step_answered table r sound order one =
-    let answered : r.answered + 1 ≤ r.sent = omega (arith, one) in
-    let depth : r.sent ≤ r.answered + 1 + table.limits.depth = omega (arith, sound.depth) in
-    record { number = refl; client = refl; source = refl; sound = assumption; ids = λ id holds. inl holds; back = λ x holds. holds; order = order }
+step_answered table r sound order one = grind (arith, sound, order, one)
 
 -- ---- the write of an atomic is planned
 
@@ -111,56 +97,19 @@ awaits_parts r awaits = record { carries = grind (arith, awaits); undone = grind
 pub has_answers : (limits : TableLimits) (accepted : ℕ) (r : LiveRequest) → IsSoundRequest limits accepted r → is_settled r ≡ true → HasAnswers r
 has_answers limits accepted r sound settled = record { all = leb-true (length (planned r)) r.answered settled; sent = sound.answered }
 
--- it has sent what it sent before
-pub sent_before : (r : LiveRequest) → AwaitsWrite r → r.answered ≤ r.sent → r.sent ≤ length (planned r) → all_sent (with_write r) ≡ all_sent r
-sent_before r awaits later most =
-    rw awaits.reads (omega (arith, later, most, leb-true (length (planned r)) r.answered awaits.settled, length_reading r awaits.reads))
-
 pub step_write : (table : FlightTable) (r : LiveRequest) → IsSoundRequest table.limits table.accepted r → (r.done ≡ false → is_held table.live r ≡ true → r.id ≡ None) → AwaitsWrite r
     → IsStep table.limits table.accepted table.live r (with_write r)
-step_write table r sound order awaits =
-    let same = sent_before r awaits sound.answered sound.sent in
-    let reads : true ≡ false → reply_has_data r.operation ≡ true = λ reads. absurd (cc (reads)) in
-    let none : 0 ≤ length (planned (with_write r)) = omega arith in
-    let depth : 0 ≤ 0 + table.limits.depth = omega arith in
-    let holds : r.done ≡ false → 0 < all_sent (with_write r) → IsSome r.id = λ undone some. sound.holds undone (omega (arith, some, same)) in
-    let unsent : all_sent (with_write r) ≡ 0 → r.id ≡ None = λ none. sound.unsent (sym same ∙ none) in
-    let answered : 0 ≤ 0 = omega arith in
-    record { number = refl; client = refl; source = refl; sound = assumption; ids = λ id holds. inl holds; back = λ x holds. holds; order = order }
+step_write table r sound order awaits = grind (arith, sound, order, awaits)
 
 -- ---- done
 
-done_holds_none : (x r : LiveRequest) → holds_back x (finished r) ≡ true → holds_back x r ≡ true
-done_holds_none x r holds = grind (arith, holds)
-
 pub step_finished : (table : FlightTable) (r : LiveRequest) → IsSoundRequest table.limits table.accepted r → IsStep table.limits table.accepted table.live r (finished r)
-step_finished table r sound =
-    let writes : r.writing ≡ true → true ≡ false → has_data r.operation ≡ true = λ writes live. absurd (cc (live)) in
-    let holds : true ≡ false → 0 < all_sent r → IsSome {T = ℕ} None = λ undone sent. absurd (cc (undone)) in
-    record {
-      number = refl;
-      client = refl;
-      source = refl;
-      sound = assumption;
-      ids = λ id holds. absurd (cc (holds));
-      back = λ x holds. done_holds_none x r holds;
-      order = λ undone held. absurd (cc (undone));
-    }
+step_finished table r sound = grind (arith, sound)
 
 -- nobody holds back a request that isn't done and whose bursts are answered
 pub settled_free : (limits : TableLimits) (accepted : ℕ) (live : List LiveRequest) (r : LiveRequest) → IsSoundRequest limits accepted r → (r.done ≡ false → is_held live r ≡ true → r.id ≡ None) → is_settled r ≡ true
     → r.done ≡ false → 1 ≤ length (pieces_planned r.plan) → is_held live r ≡ false
-settled_free limits accepted live r sound order settled undone some = by_held (is_held live r) refl
-  where
-    many : (writing : Bool) → r.writing ≡ writing → length (planned r) ≡ length (pieces_planned r.plan)
-    many true is = rw (is, sound.writes is undone) refl
-    many false is = rw (is, sound.reads is) refl
-
-    by_held : (held : Bool) → is_held live r ≡ held → is_held live r ≡ false
-    by_held true is =
-        let sent : 0 < all_sent r = omega (arith, some, many r.writing refl, leb-true (length (planned r)) r.answered settled, sound.answered) in
-        absurd (cc (order undone is, sound.holds undone sent))
-    by_held false is = is
+settled_free limits accepted live r sound order settled undone some = grind (arith, sound, order, settled, undone, some)
 
 -- ---- the table after a change
 

@@ -68,10 +68,7 @@ are_small live many all =
 
 -- a request that took a step
 pub small_stepped : (step : Step) (r : LiveRequest) (worth : Sums) → IsWorth step r worth → IsSmall r → IsSmall (stepped step r)
-small_stepped step r worth is small = record { work = below work_of worth.work is.work small.work; unsent = below unsent_work worth.unsent is.unsent small.unsent }
-  where
-    below : (f : LiveRequest → ℕ) (w : ℕ) → f (stepped step r) + w ≡ f r → f r ≤ 100000000 → f (stepped step r) ≤ 100000000
-    below f w fewer most = omega (arith, fewer, most)
+small_stepped step r worth is small = grind (arith, is, small)
 
 -- ---- what is read
 pub count_undone : (live : List LiveRequest) → sum_by one_undone live ≡ length (filter is_undone live)

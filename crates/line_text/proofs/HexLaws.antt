@@ -89,11 +89,6 @@ hex-end number small =
     let all : number < 16 ^ 16 = omega (arith, small) in
     ap (λ digits. take 8 (drop 8 digits)) (sym (last_digits-alone 16 number (omega arith) (omega arith) all)) ∙ last_digits-alone 8 number (omega arith) (omega arith) small
 
--- one digit more
-pub last_digits-step : (left rest : ℕ) (text : List ℕ) → 0 < left → last_digits (left - 1) (rest / 16) (digit_glyph false (rest % 16) ∷ text) ≡ last_digits left rest text
-last_digits-step zero rest text some = absurd (omega arith)
-last_digits-step (suc left) rest text some = let one : suc left - 1 ≡ left = omega arith in rw one refl
-
 -- two digits more
 pub last_digits-pair : (left rest : ℕ) (text : List ℕ) → 2 ≤ left
     → last_digits (left - 2) (rest / 256) (digit_glyph false (rest % 256 / 16) ∷ digit_glyph false (rest % 256 % 16) ∷ text) ≡ last_digits left rest text

@@ -1,26 +1,17 @@
 -- What a filling may be wrong by, and that a score that begins takes one where its set-up has good pages.
-use Rattle.std.proofs.Common.{◌≡◌, ◌+◌, ◌-◌, ◌<◌, ◌++◌, ◌∷◌, [], suc, length, arith, ℕ, List, true, false, Option, None, Some, is_some, Err, refl, rules}
-use Rattle.std.specs.Io.KnownBytes.{Keeps}
+use Rattle.std.proofs.Common.{◌≡◌, ◌+◌, ◌-◌, ◌<◌, ◌++◌, ◌∷◌, [], suc, length, arith, ℕ, List, true, false, Option, None, Some, is_some, refl, rules}
 use Rattle.line_text.specs.Fields.{first_wrong, unless_wrong}
 use Rattle.line_text.specs.Words.{hex_at, word_at}
 use Rattle.std.proofs.lemmas.List.FromFn.{length-map-range_with_len}
 use Rattle.script_text.proofs.PageLists.{map_range-suc}
 use Rattle.score_script.specs.FillLines.{fill_byte_field, fill_byte_fields, fill_bytes_in}
-use Rattle.script_text.specs.Stages.{Kind, Writes, unless_refused, wrong_opened, wrong_word}
+use Rattle.script_text.specs.Stages.{Kind, unless_refused, wrong_opened, wrong_word}
 use Rattle.setups.specs.declared.SetupFault.{SetupFault}
-use Rattle.score_script.specs.Scores.{FailsBy}
-use Rattle.script_text.specs.declared.faults.ScriptFault.{ScriptFault}
 
 -- the wrong word that is told is the one that there is
 pub word_told : {W : Type 0} (given : List ℕ × W) (word : Option ℕ) → wrong_word (unless_wrong given word) ≡ word
 word_told given None = refl
 word_told given (Some word) = refl
-
--- a command that isn't carried out, for its wrong word or for want of memory
-pub fails_so : {W : Type 0} (number : ℕ) (given : List ℕ × W) (new : W) (before : Option (List ℕ)) (word : Option ℕ) (fault : ScriptFault) → FailsBy number word fault → Keeps before before
-    → Writes true number (unless_wrong given word) new before before (Err fault)
-fails_so number given new before None fault is kept = rw is (refl, kept)
-fails_so number given new before (Some word) fault is kept = (is, kept)
 
 -- a set-up that is refused has no first command that is wrong
 pub refused_none : {Z S W C : Type 0} (kind : Kind Z S W C) (world : W) (fault : Option SetupFault) (number : ℕ) (command : C) → is_some fault ≡ true → None ≡ wrong_opened kind (unless_refused world fault) number command
@@ -40,18 +31,6 @@ fields_right words count k below right =
     let left : count - k ≡ suc (count - (k + 1)) = omega (arith, below) in
     let next : 3 + k + 1 ≡ 3 + (k + 1) = omega arith in
     rw (left, right, next) refl
-
--- a wrong one is the first
-pub fields_wrong : (words : List (List ℕ)) (count k : ℕ) → k < count → fill_byte_field (word_at words (3 + k)) ≡ false → first_wrong (fill_byte_fields (count - k)) words (3 + k) ≡ Some (3 + k)
-fields_wrong words count k below wrong =
-    let left : count - k ≡ suc (count - (k + 1)) = omega (arith, below) in
-    rw (left, wrong) refl
-
--- behind the last the line ends
-pub fields_end : (words : List (List ℕ)) (count k : ℕ) → k ≡ count → first_wrong (fill_byte_fields (count - k)) words (3 + k) ≡ first_wrong [] words (3 + count)
-fields_end words count k all =
-    let none : count - count ≡ 0 = omega arith in
-    rw (all, none) refl
 
 -- one byte more
 pub bytes_more : (words : List (List ℕ)) (k : ℕ) → fill_bytes_in words (k + 1) ≡ fill_bytes_in words k ++ hex_at words (3 + k) ∷ []

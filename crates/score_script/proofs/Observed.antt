@@ -1,14 +1,11 @@
 -- What a line and a call of an observation do, by what the score does.
-use Rattle.std.proofs.Common.{◌≡◌, ◌≤◌, ◌<◌, ◌+◌, ◌++◌, inl, inr, ℕ, List, [], Bool, true, false, Option, None, Some, Result, Ok, Err, IsOk, refl, sym, subst, ap, ap₂, ◌∙◌, arith, nat_lt, rules}
+use Rattle.std.proofs.Common.{◌≡◌, ◌≤◌, ◌<◌, ◌+◌, inl, inr, ℕ, List, [], Bool, true, false, Option, None, Some, Result, Ok, Err, IsOk, refl, sym, subst, ap, ap₂, ◌∙◌, arith, nat_lt, rules}
 use Rattle.std.proofs.lemmas.Bool.Decides.{nat_tests}
 use Rattle.std.specs.Str.Lines.{strip_carriage_return}
 use Rattle.line_text.specs.Words.{is_plain_line, is_skipped, words_of}
-use Rattle.score_script.proofs.Carried.{left_text}
-use Rattle.score_script.specs.FindingTexts.{optional_text}
 use Rattle.score_script.specs.ObservedLines.{command_of}
-use Rattle.score_script.specs.Observations.{LineTold, Observing, SetUpState, observing_text, SetUpTold, TakeTold, is_end, line_done, next_number, over_text, stage_in}
-use Rattle.score_script.specs.Scores.{FailsBy, Score, commanded_score, finds, finds_text, score_kind, score_reading, unanswered_by, wrong_command}
-use Rattle.score_script.specs.declared.findings.Finding.{Finding}
+use Rattle.score_script.specs.Observations.{LineTold, Observing, SetUpState, observing_text, SetUpTold, TakeTold, line_done, next_number, stage_in}
+use Rattle.score_script.specs.Scores.{FailsBy, Score, score_kind, score_reading, wrong_command}
 use Rattle.score_script.specs.declared.profiles.Asked.{Asked}
 use Rattle.score_script.specs.declared.score.Command.{Command}
 use Rattle.score_script.specs.declared.score.Command.TheVariants as command
@@ -29,30 +26,7 @@ next_is number within = omega (arith, within)
 
 -- ---- texts
 
-over_left : (score : Score) (number : ℕ) (said : Command) → over_text score number (is_end said) ≡ unanswered_by score number said
-over_left score number (command.Observed seen) = refl
-over_left score number (command.Unknown port client) = refl
-over_left score number (command.Byte address) = refl
-over_left score number command.Withdrawal = refl
-over_left score number command.Answer = refl
-over_left score number (command.Fill address bytes) = refl
-over_left score number (command.Time time) = refl
-over_left score number command.Reset = refl
-over_left score number command.End = refl
-
--- what was found is the text of the command
-pub text_taken : (score after : Score) (number : ℕ) (said : Command) (held own : Option Finding) (over : Bool) → held ≡ (finds score number said).held → own ≡ (finds score number said).own
-    → after ≡ commanded_score score number said → over ≡ is_end said → optional_text held ++ (optional_text own ++ over_text after number over) ≡ finds_text (finds score number said)
-text_taken score after number said held own over is_held is_own is_after is_over =
-    let left : over_text after number over ≡ (finds score number said).unanswered =
-    ap₂ (λ (s : Score) (o : Bool). over_text s number o) is_after is_over ∙ over_left (commanded_score score number said) number said ∙ left_text score number said in
-    ap₂ (λ (h : Option Finding) (rest : List ℕ). optional_text h ++ rest) is_held (ap₂ (λ (o : Option Finding) (rest : List ℕ). optional_text o ++ rest) is_own left)
-
 -- ---- a line
-
--- one whose bytes may not stand
-pub faulty_line : (score : Score) (number : ℕ) (line : List ℕ) → is_plain_line line ≡ false → line_step score_reading (Running score) number line ≡ Err (Script number 0)
-faulty_line score number line odd = rw odd refl
 
 pub skipped_line : (score : Score) (number : ℕ) (line : List ℕ) → is_plain_line line ≡ true → nat_lt 4294967294 number ≡ false → is_skipped (words_of line) ≡ true
     → line_step score_reading (Running score) number line ≡ Ok ([], Running score)

@@ -1,6 +1,6 @@
 -- Lines that are written one after another, where some places of a list have one.
 use Rattle.std.proofs.Common.{◌≡◌, ◌≢◌, ◌≤◌, ◌<◌, ◌+◌, ◌++◌, [], ◌∷◌, ℕ, Bool, true, false, ◌||◌, List, Option, None, Some, arith, ap, append-nil, flat_map, length, refl, slice_get, subst, suc, zero, sym, take, ◌∙◌, rules}
-use Rattle.std.proofs.KnownBytes.{Appends-nil, Appends-trans}
+use Rattle.std.proofs.KnownBytes.{Appends-trans}
 use Rattle.std.specs.Io.KnownBytes.{Appends}
 use Rattle.bus_words.proofs.MappedPlaces.{flat_map-take}
 use Rattle.line_text.proofs.TraceTexts.{some_after, some_before}
@@ -25,9 +25,6 @@ use Rattle.score_script.proofs.FindingLines.{end_some}
 -- a text was written, if there is any
 abbrev pub Wrote : List ℕ → Option (List ℕ) → Option (List ℕ) → Bool → Type 0
 Wrote text before after wrote = Appends before after text × (wrote ≡ false → text ≡ []) × (wrote ≡ true → text ≢ [])
-
-pub wrote_none : (before : Option (List ℕ)) → Wrote [] before before false
-wrote_none before = (Appends-nil before, λ is. refl, λ is. search rules)
 
 -- one text behind another
 pub wrote_both : (first second : List ℕ) (before between after : Option (List ℕ)) (wrote more : Bool) → Wrote first before between wrote → Wrote second between after more

@@ -22,9 +22,6 @@ Keeps-none (Some xs) (Some ys) same = same ∙ append-nil xs
 Appends-none : (a b : Option (List ℕ)) → Keeps a b → Appends a b []
 Appends-none a b kept = Appends-kept a a b [] (Appends-nil a) kept
 
-Appends-after : (a b c : Option (List ℕ)) (xs : List ℕ) → Keeps a b → Appends b c xs → Appends a c xs
-Appends-after a b c xs kept grown = Appends-trans a b c [] xs (Appends-none a b kept) grown
-
 -- ---- what stands after a text
 
 ok_after : {A : Type 0} (whole rest : TextResult A) (text : List ℕ) → whole ≡ after_text text rest → IsOk rest.result → IsOk whole.result

@@ -27,7 +27,3 @@ strip-plain line plain =
     let other : get_or line (length line - 1) 0 ≢ 13 = plain_other line (length line - 1) 13 (omega arith) refl (both (nat_le (length line) 128) (list_all is_plain_byte line) plain).1 in
     let test : (get_or line (length line - 1) 0 == 13) ≡ false = grind (arith, nat_tests, other) in
     rw test refl
-
--- some bytes that may stand are a line
-pub plain-line : (line : List ℕ) → length line ≤ 128 → list_all is_plain_byte line ≡ true → is_plain_line line ≡ true
-plain-line line short all = let test : nat_le (length line) 128 ≡ true = grind (arith, nat_tests, short) in rw (test, all) refl

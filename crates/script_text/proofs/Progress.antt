@@ -16,25 +16,6 @@ use Rattle.script_text.specs.declared.faults.ScriptFault.TheVariants.{Script, Re
 
 -- ---- one line
 
-line_step-skipped : {S A : Type 0} (reading : Reading S A) (state : S) (number : ℕ) (line : List ℕ) → is_plain_line line ≡ true → number ≤ reading.most_lines → true ≡ is_skipped (words_of line)
-    → line_step reading state number line ≡ Ok ([], state)
-line_step-skipped reading state number line plain within skipped =
-    let small : nat_lt reading.most_lines number ≡ false = grind (arith, nat_tests, within) in
-    rw (plain, small, ← skipped) refl
-
--- a line that was skipped went well
-pub Goes-skipped : {S A : Type 0} (reading : Reading S A) (is_silent : S → Bool) (state : S) (number : ℕ) (line : List ℕ) (w : Option (List ℕ)) → is_plain_line line ≡ true → number ≤ reading.most_lines
-    → true ≡ is_skipped (words_of line) → Goes reading (line_step reading state number line) is_silent state state w w false
-Goes-skipped reading is_silent state number line w plain within skipped =
-    record {
-      text = [];
-      step_is = line_step-skipped reading state number line plain within skipped;
-      written = Appends-nil w;
-      quiet = λ wrote. refl;
-      speaks = λ wrote. search rules;
-      silent = λ still. (still, refl);
-    }
-
 pub line_step-not_plain : {S A : Type 0} (reading : Reading S A) (state : S) (number : ℕ) (line : List ℕ) → is_plain_line line ≡ false → line_step reading state number line ≡ Err (Script number 0)
 line_step-not_plain reading state number line bad = rw bad refl
 

@@ -7,7 +7,7 @@ use Rattle.std.proofs.lemmas.Bool.Decides.{nat_tests}
 use Rattle.std.proofs.lemmas.List.Folds.{find-append}
 use Rattle.subordinate.specs.Faults.{is_good, is_no_word, lists_page, standing_at, standing_of_listed}
 use Rattle.subordinate.specs.declared.PageKind.{PageKind}
-use Rattle.sparse_memory.specs.Ranges.{faults_of, has_page, is_unknown_in, kind_of, pages_in, pages_of, range_of, standing_in}
+use Rattle.sparse_memory.specs.Ranges.{faults_of, has_page, kind_of, pages_in, pages_of, range_of, standing_in}
 use Rattle.sparse_memory.specs.declared.PageRange.{PageRange}
 
 -- the entry of a page among pages of one kind that follow each other
@@ -34,10 +34,6 @@ standing-ranges ranges bad_words address = standing-range_of (address / 4096) ra
 
 pub standing-found : (ranges : List PageRange) (bad_words : List ℕ) (address : ℕ) (range : Option PageRange) → range ≡ range_of ranges (address / 4096) → standing_in range ≡ standing_at (faults_of ranges bad_words) address
 standing-found ranges bad_words address range is = ap standing_in is ∙ sym (standing-ranges ranges bad_words address)
-
--- a page of which nobody knows at first which bytes it has is good
-pub unknown-good : (range : Option PageRange) → is_unknown_in range ≡ true → is_good (standing_in range) ≡ true
-unknown-good range unknown = grind (arith, unknown)
 
 -- a word at a multiple of 8 can't be bad where its page isn't good
 pub no_word : (ranges : List PageRange) (word : ℕ) (good : Bool) → good ≡ is_good (standing_in (range_of ranges (word / 4096))) → word % 8 ≡ 0 → not good ≡ is_no_word (pages_in ranges) word

@@ -11,7 +11,6 @@ use Rattle.axi_beats.specs.Transfers.{covers_lane, lane_address, transfer_addres
 use Rattle.axi_beats.specs.declared.ArBeat.{ArBeat}
 use Rattle.axi_beats.specs.Responses.{is_okay}
 use Rattle.axi_beats.specs.declared.Resp.{Resp}
-use Rattle.axi_beats.specs.declared.Resp.TheVariants.{Okay, SlvErr}
 use Rattle.subordinate.specs.Effects.{HasGoodPages}
 use Rattle.subordinate.specs.Faults.{Faults, Standing, is_bad, is_good, read_response, read_response_on, standing_at, write_response}
 use Rattle.subordinate.specs.FreeMemory.{byte_in_lane, captured, captured_as}
@@ -68,14 +67,6 @@ payload_of-whole bus_bytes memory ar n word is whole aligned small found = sym (
         grind (arith, covered, first, byte_at_lane bus_bytes memory ar n lane (Some word) is found covered)
 
 -- ---- its response
-
--- a word that is found is one of a good page: whether it is bad decides
-pub read_response-found : (faults : Faults) (memory : Memory) (address word : ℕ) → HasGoodPages faults memory → word_at memory address ≡ Some word → read_response faults address ≡ (if is_bad faults address then SlvErr else Okay)
-read_response-found faults memory address word pages found =
-    by_standing (standing_at faults address) (is_bad faults address) (sym (pages.exactly address) ∙ ap (λ o. is_some (option_map (λ w. lane_byte w (address % 8)) o)) found)
-  where
-    by_standing : (standing : Standing) (bad : Bool) → is_good standing ≡ true → read_response_on standing bad ≡ (if bad then SlvErr else Okay)
-    by_standing standing bad good = grind arith
 
 -- elsewhere the page does
 pub read_response-absent : (faults : Faults) (memory : Memory) (address : ℕ) → HasGoodPages faults memory → word_at memory address ≡ None → write_response (standing_at faults address) ≡ read_response faults address

@@ -19,9 +19,8 @@ use Rattle.data_unit.proofs.ByteLaws.{lane_byte-low, lane_byte-up}
 use Rattle.subordinate.specs.FreeMemory.{bytes_written, lane_written, writes_lane}
 use Rattle.subordinate.specs.InsidePages.{IsTransferOf, first_lane}
 use Rattle.subordinate.specs.Pages.{Memory, with_byte, with_word, word_with_byte}
-use Rattle.subordinate.proofs.PageLaws.{with_word-same, with_word-with_word}
+use Rattle.subordinate.proofs.PageLaws.{with_word-same, with_word-with_word, lane_byte-lt, lane_byte-word_with_byte, with_word-near}
 use Rattle.subordinate.proofs.TransferWords.{bus_lane, covered_within, first_lane-within, strobes_covered}
-use Rattle.subordinate.proofs.PageLaws.{lane_byte-lt, lane_byte-word_with_byte, with_word-near}
 
 -- a word with the byte of one lane set, where a test has that lane of the bus; the bus's lanes begin at `first`
 abbrev pub byte_set : (ℕ → Bool) → ℕ → ℕ → ℕ → ℕ → ℕ

@@ -4,7 +4,6 @@ use Rattle.std.specs.Prelude.{◌&&◌}
 use Rattle.std.specs.List.{list_all}
 use Rattle.world.specs.World.{WorldState, Outcome, after, leaves_all, next, outcomes}
 use Rattle.world.specs.declared.Step.{Step}
-use Rattle.world.proofs.Kept.{next_kept}
 use Rattle.world_run.proofs.RunLemmas.{after-append, outcomes-append}
 use Rattle.thread_reports.specs.Histories.{IsHistory, all_change, has_changed}
 
@@ -33,9 +32,3 @@ history_goes_on start steps world step history changed =
       replays = cc (history.replays, after-append start steps step);
       changes = cc (history.changes, history.replays, changed, all_change-append start steps step);
     }
-
--- and stays as it is with one that doesn't
-pub history_stays : (start : WorldState) (steps : List Step) (world : WorldState) (step : Step) → IsHistory start steps world → leaves_all (next world step).answer ≡ true
-    → IsHistory start steps (next world step).state
-history_stays start steps world step history still =
-    record { replays = next_kept world step still ∙ history.replays; changes = history.changes }

@@ -1,10 +1,10 @@
 -- A replay in which all was found right is a report's, and each accepted number was handed out. It knows counts and lists; what a step does is
 -- hidden.
-use Rattle.std.proofs.Common.{◌≡◌, ℕ, ◌+◌, ◌<◌, ◌≤◌, ◌^◌, ◌-◌, Bool, true, false, List, [], ◌∷◌, map, length, None, refl, sym, subst, ap, ◌∙◌, arith, suc, zero}
+use Rattle.std.proofs.Common.{◌≡◌, ℕ, ◌+◌, ◌<◌, ◌≤◌, ◌^◌, ◌-◌, Bool, true, false, List, [], ◌∷◌, map, length, None, refl, sym, ap, ◌∙◌, arith, suc, zero}
 use Rattle.std.specs.Prelude.{nat_eq, ◌||◌, IsTrue}
 use Rattle.std.specs.List.{AllByRecursion, IsDistinct, list_any, range_with_len}
 use Rattle.std.proofs.lemmas.Bool.{eqb-true, false≢true}
-use Rattle.std.proofs.lemmas.List.{take_all, length-map}
+use Rattle.std.proofs.lemmas.List.{length-map}
 use Rattle.std.proofs.lemmas.Map.Steps.{le-length_from_below, length-le_from_distinct_below}
 use Rattle.std.proofs.lemmas.Option.{slice_get_within}
 use Rattle.tl_messages.specs.Requests.{WholeRequest}
@@ -15,16 +15,15 @@ use Rattle.meaning.specs.InTurn.{replies_of}
 use Rattle.world.specs.Laws.{AreSoundAlong}
 use Rattle.world_run.specs.Runs.{HandedReply, accepted_in, accepted_numbers, answers_of, handed_in, sent_in}
 use Rattle.setups.specs.Setups.{SetupLists, setup_fault}
-use Rattle.world.specs.World.{WorldState, after, byte_of, in_flight, opening_world}
+use Rattle.world.specs.World.{after, byte_of, in_flight, opening_world}
 use Rattle.world.specs.declared.Answer.{Answer}
 use Rattle.world.specs.declared.Answer.TheVariants.{Accepted}
 use Rattle.world.specs.declared.Step.{Step}
 use Rattle.world_run.proofs.CarriedOut.{is_carried_out}
 use Rattle.world_run.proofs.MainTheorem.{one_at_a_time}
-use Rattle.thread_reports.specs.Replays.{FoundOffers, FoundReplies, IsFound, IsReplay}
-use Rattle.thread_reports.specs.Reports.{AreClientReports, IsClientReport, IsReport, accepted_of}
+use Rattle.thread_reports.specs.Replays.{IsReplay}
+use Rattle.thread_reports.specs.Reports.{AreClientReports, IsReport}
 use Rattle.thread_reports.specs.declared.receipts.Receipts.{Receipts}
-use Rattle.thread_reports.specs.declared.replay.Found.{Found}
 use Rattle.thread_reports.specs.declared.replay.Replay.{Replay}
 
 -- ---- as many different numbers as there are below a bound are all of them
@@ -116,25 +115,6 @@ module _ (setup : SetupLists) (steps : List Step) (along : AreSoundAlong (openin
       no_more (_ ∷ answers) = omega (arith, no_more answers)
 
 -- ---- one client
-
--- where all was found right of a client, it has its part of a report
-pub right_client : {start : WorldState} {steps : List Step} {client : ℕ} {script : List ABeat} {received : Receipts} (found : Found) → IsFound start steps client script received found
-    → found.strayed ≡ false → found.offered ≡ length script → found.differs ≡ false → found.right ≡ length received.heads.items → found.beats ≡ length received.beats.items
-    → found.accepted ≡ found.right → length received.heads.items < 2 ^ 64 - 1 → IsClientReport start steps client script received
-right_client {start = start} {steps = steps} {client = client} {script = script} {received = received} found is straight whole same heads beats counted small =
-    let offers : FoundOffers start steps client script found.offered false = subst (FoundOffers start steps client script found.offered) straight is.offers in
-    let replies : FoundReplies start steps client received found.right found.beats false = subst (FoundReplies start steps client received found.right found.beats) same is.replies in
-    let accepted : found.accepted ≡ accepted_of client start steps = omega (arith, is.accepted, counted, heads, small) in
-    record {
-      script_kept = offers.0 ∙ take_all found.offered script (omega (arith, whole));
-      all_taken = offers.2;
-      receipts_kept =
-          record {
-            heads = sym (take_all found.right received.heads.items (omega (arith, heads))) ∙ replies.1;
-            beats = sym (take_all found.beats received.beats.items (omega (arith, beats))) ∙ replies.3;
-          };
-      all_received = sym replies.0 ∙ sym counted ∙ accepted;
-    }
 
 -- ---- the report
 

@@ -10,11 +10,7 @@ unanswered : (c : goal.After-saturating_sub-unanswered) → c.saturating_sub-una
 unanswered c = omega (arith, ap (λ (r : LiveRequest). r.answered) c.self.view_is, c.planned.ensures.count)
 
 pub returns-clause-work : goal.returns-clause-work
-returns-clause-work c =
-    rw (unsent c, unanswered c, c.later_work-later.ensures.work)
-    (sym (undone_work c.args.self.now c.each-each.result (ap (λ (r : LiveRequest). r.done) (sym c.self.view_is) ∙ c.if-self.false) c.each-each.ensures.each))
+returns-clause-work c = grind (arith, c.later_work-later.ensures.work, c.if-self.false, c.each-each.ensures.each, undone_work c.args.self.now c.each-each.result)
 
 pub returns-clause-unsent : goal.returns-clause-unsent
-returns-clause-unsent c =
-    rw (unsent c, c.later_work-later.ensures.work)
-    (sym (undone_unsent c.args.self.now c.each-each.result (ap (λ (r : LiveRequest). r.done) (sym c.self.view_is) ∙ c.if-self.false) c.each-each.ensures.each))
+returns-clause-unsent c = grind (arith, c.later_work-later.ensures.work, c.if-self.false, c.each-each.ensures.each, undone_unsent c.args.self.now c.each-each.result)

@@ -9,7 +9,4 @@ returns-in-Sent c =
     rw c.in-Sent.is (worth_sent c.args.self.now c.in-Sent.field-0 c.each.result may.0 may.1 c.each.ensures.each)
 
 pub returns-in-Answered : goal.returns-in-Answered
-returns-in-Answered c =
-    let may = rw c.in-Answered.is at c.requires in
-    rw c.in-Answered.is
-    (worth_answered c.args.self.now c.each-in-Answered.result (ap (λ (r : LiveRequest). r.done) (sym c.self.view_is) ∙ c.if-self.false) (omega (arith, may.0, may.1)) c.each-in-Answered.ensures.each)
+returns-in-Answered c = grind (arith, c.requires, c.if-self.false, c.each-in-Answered.ensures.each, worth_answered c.args.self.now c.each-in-Answered.result)

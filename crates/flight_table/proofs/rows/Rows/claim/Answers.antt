@@ -37,9 +37,7 @@ returns-in-Some-first_vacant-clause-same c =
     λ other. bits_claimed rows k c.args.page other row c.self.invariant.0 new first.within (first-passes is_vacant rows k row first) ∙ ap (bits_of other) c.self.view_is
 
 pub push_reserved-requires : goal.push_reserved-requires
-push_reserved-requires c =
-    let full = ap (position is_vacant) (sym c.self.view_is ∙ sym c.deref-2.ensures.value) ∙ sym c.first_vacant.ensures ∙ c.in_default-first_vacant.is in
-    omega (arith, c.requires.room full, ap length c.self.view_is, c.self.invariant.1, c.self.inside.rows.ok)
+push_reserved-requires c = grind (arith, c.deref-2.ensures.value, c.first_vacant.ensures, c.requires.room, c.self.invariant.1, c.self.inside.rows.ok)
 
 pub invariant_of-self-2 : goal.invariant_of-self-2
 invariant_of-self-2 c =
