@@ -92,6 +92,4 @@ short_of_lines f xs k x text lines old between new found far wrote short =
 
 -- the two digits of a byte
 pub hex-pair : (byte first second : ℕ) → byte < 256 → first ≡ digit_glyph false (byte / 16) → second ≡ digit_glyph false (byte % 16) → first ∷ second ∷ [] ≡ hex 2 byte
-hex-pair byte first second small one two =
-    let high : byte / 16 ≡ byte / 16 % 16 = omega arith in
-    ap₂ (λ a b. a ∷ b ∷ []) (one ∙ ap (digit_glyph false) high) two ∙ last_digits-alone 2 byte (omega arith) (omega arith) small
+hex-pair byte first second small one two = grind (arith, small, one, two, last_digits-alone 2 byte (omega arith) (omega arith) small)

@@ -1,5 +1,5 @@
 -- From the places at which words begin and end to the words of a line.
-use Rattle.std.proofs.Common.{◌≡◌, ◌≢◌, ◌≤◌, ◌<◌, ◌==◌, ℕ, zero, suc, ◌+◌, ◌-◌, ◌%◌, ◌*◌, ◌^◌, nat_lt, Bool, true, false, List, length, drop, get_or, bit_and, bit_xor, w64, refl, sym, ap, ◌∙◌, arith, subst}
+use Rattle.std.proofs.Common.{◌≡◌, ◌≢◌, ◌≤◌, ◌<◌, ℕ, zero, suc, ◌+◌, ◌-◌, ◌%◌, ◌*◌, ◌^◌, nat_lt, Bool, true, false, List, length, drop, get_or, bit_and, bit_xor, w64, refl, sym, ap, ◌∙◌, arith}
 use Rattle.std.proofs.lemmas.Bool.Decides.{nat_tests}
 use Rattle.std.proofs.lemmas.List.{drop_all, get_or_default, get_or_past}
 use Rattle.std.specs.Int.{bit_at, trailing_zeros}
@@ -31,9 +31,7 @@ skip line (suc count) from within none =
     ∙ ap (λ n. words_of (drop n line)) on
 
 skip_to : (line : List ℕ) (from to : ℕ) → from ≤ to → to ≤ length line → ((k : ℕ) → from ≤ k → k < to → is_in_word line k ≡ false) → words_of (drop from line) ≡ words_of (drop to line)
-skip_to line from to order within none =
-    let whole : from + (to - from) ≡ to = omega (arith, order) in
-    skip line (to - from) from (omega (arith, order, within)) (λ k above below. none k above (omega (arith, below, order))) ∙ ap (λ n. words_of (drop n line)) whole
+skip_to line from to order within none = grind (arith, order, within, none, skip line (to - from) from (omega (arith, order, within)))
 
 behind_word : (line : List ℕ) (end : ℕ) → end ≤ length line → is_in_word line end ≡ false → words_of (drop end line) ≡ words_of (drop (suc end) line)
 behind_word line end within none = by_end (nat_lt end (length line)) refl
@@ -113,15 +111,8 @@ module _ (line : List ℕ) (short : length line ≤ 63) (count last edges : ℕ)
           }
         where
           word : (k : ℕ) → start ≤ k → k < end → is_in_word line k ≡ true
-          word k on to = by_place (k == start) refl
-            where
-              by_place : (place : Bool) → (k == start) ≡ place → is_in_word line k ≡ true
-              by_place true is = let same : start ≡ k = grind (arith, nat_tests, is) in subst (λ n. is_in_word line n ≡ true) same begin.turns
-              by_place false other = finish.same k (grind (arith, nat_tests, other, on)) to
+          word k on to = grind (arith, on, to)
 
           by_past : (test : Bool) → nat_lt (length line) end ≡ test → end ≤ length line
-          by_past true is =
-              let past : length line < end = grind (arith, nat_tests, is) in
-              let inside = (byte_at line start begin.turns).0 in
-              let absurdly = (byte_at line (length line) (word (length line) (omega (arith, inside)) past)).0 in absurd (omega (arith, absurdly))
+          by_past true is = grind (arith, is, byte_at line start begin.turns, byte_at line (length line))
           by_past false is = grind (arith, nat_tests, is)

@@ -43,12 +43,7 @@ last_digits-onto (suc count) (suc fuel) number text some enough small = by_rest 
         → last_digits count (number / 16) (digit_glyph false (number % 16) ∷ text)
         ≡ replicate (suc count + length text - length (if number / 16 == 0 then digit_glyph false (number % 16) ∷ text else digits_onto fuel 16 false (number / 16) (digit_glyph false (number % 16) ∷ text))) 48
         ++ (if number / 16 == 0 then digit_glyph false (number % 16) ∷ text else digits_onto fuel 16 false (number / 16) (digit_glyph false (number % 16) ∷ text))
-    by_rest more true last =
-        let none : number / 16 ≡ 0 = grind (arith, nat_tests, last) in
-        let zeros : suc count + length text - suc (length text) ≡ count = omega arith in
-        rw last
-        (ap (λ n. last_digits count n (digit_glyph false (number % 16) ∷ text)) none ∙ last_digits-zero count (digit_glyph false (number % 16) ∷ text)
-        ∙ ap (λ n. replicate n 48 ++ digit_glyph false (number % 16) ∷ text) (sym zeros))
+    by_rest more true last = grind (arith, more, last, last_digits-zero count (digit_glyph false (number % 16) ∷ text))
     by_rest more false other =
         let rest : number / 16 ≢ 0 = grind (arith, nat_tests, other) in
         let less : number / 16 < 16 ^ count = omega (arith, small, pow-suc 16 count) in
@@ -94,12 +89,7 @@ pub last_digits-pair : (left rest : ℕ) (text : List ℕ) → 2 ≤ left
     → last_digits (left - 2) (rest / 256) (digit_glyph false (rest % 256 / 16) ∷ digit_glyph false (rest % 256 % 16) ∷ text) ≡ last_digits left rest text
 last_digits-pair zero rest text some = absurd (omega arith)
 last_digits-pair (suc zero) rest text some = absurd (omega arith)
-last_digits-pair (suc (suc left)) rest text some =
-    let less : suc (suc left) - 2 ≡ left = omega arith in
-    let high : rest % 256 / 16 ≡ rest / 16 % 16 = omega arith in
-    let low : rest % 256 % 16 ≡ rest % 16 = omega arith in
-    let off : rest / 256 ≡ rest / 16 / 16 = omega arith in
-    rw (less, high, low, off) refl
+last_digits-pair (suc (suc left)) rest text some = grind (arith, some)
 
 -- ---- the digits of eight bytes, which are made lane by lane
 

@@ -1,5 +1,5 @@
 -- What digits write, digit by digit.
-use Rattle.std.proofs.Common.{T, cond, eqb, eqb→eq, subst, ◌≡◌, ◌<◌, ◌≤◌, ℕ, suc, ◌+◌, ◌*◌, ◌^◌, List, [], ◌∷◌, ◌++◌, length, take, drop, get_or, Bool, true, false, ◌&&◌, nat_le, nat_lt, Option, Some, None, MatchOption, refl, sym, ap, ◌∙◌, arith, if◌then◌else◌, length-take-le, take_all, take-append-drop, rules}
+use Rattle.std.proofs.Common.{T, cond, eqb, eqb→eq, subst, ◌≡◌, ◌<◌, ◌≤◌, ℕ, suc, ◌+◌, ◌*◌, ◌^◌, List, [], ◌∷◌, ◌++◌, length, take, drop, get_or, Bool, true, false, ◌&&◌, Option, Some, None, MatchOption, refl, sym, ap, ◌∙◌, arith, length-take-le, take_all, take-append-drop, rules}
 use Rattle.std.proofs.Math.Nat.{pow-le-pow_right, mul-le-mul_right, pow-suc, pow-succ', pow-zero, mul-one, add-mul, mul_assoc, le_trans}
 use Rattle.std.proofs.lemmas.Bool.{agree_below_at, and_parts}
 use Rattle.std.proofs.lemmas.Bool.Decides.{nat_tests}
@@ -9,7 +9,7 @@ use Rattle.std.proofs.lemmas.List.Folds.{list_all_more, list_all-append}
 use Rattle.std.specs.Char.{is_digit, digit_value}
 use Rattle.std.specs.List.{list_all}
 use Rattle.std.specs.Str.Parse.{AllDigits, digits_value, digits_value_after}
-use Rattle.line_text.specs.Words.{are_digits, number_of}
+use Rattle.line_text.specs.Words.{number_of}
 use Rattle.line_text.specs.declared.numbers.TheConstants.{DIGITS}
 
 -- the value of each byte as a digit, as it is looked up
@@ -153,25 +153,11 @@ read_fits bytes count value few far = omega (arith, far.bound, pow-le-pow_right 
 -- a number of so many digits
 pub number_of-digits : (radix most : ℕ) (word : List ℕ) → 0 < length word → length word ≤ most → all_digits radix word ≡ true → digits_value radix word < 18446744073709551616
     → number_of radix most word ≡ Some (digits_value radix word)
-number_of-digits radix most word some few all small =
-    let has : nat_le 1 (length word) ≡ true = grind (arith, nat_tests) in
-    let short : nat_le (length word) most ≡ true = grind (arith, nat_tests) in
-    let fits : nat_lt (digits_value radix word) 18446744073709551616 ≡ true = grind (arith, nat_tests) in
-    rw (has, short, all, fits) refl
-
-none_unless : (test : Bool) (value : ℕ) → (test ≡ true → ⊥) → (if test then Some value else None) ≡ None
-none_unless true value never = absurd (never refl)
-none_unless false value never = refl
+number_of-digits radix most word some few all small = grind (arith, some, few, all, small)
 
 -- any other word has none
 pub number_of-none : (radix most : ℕ) (word : List ℕ) → (0 < length word → length word ≤ most → all_digits radix word ≡ true → digits_value radix word < 18446744073709551616 → ⊥) → number_of radix most word ≡ None
-number_of-none radix most word never =
-    none_unless _ (digits_value radix word)
-    (λ tests.
-    let parts = and_parts (are_digits radix most word) _ tests in
-    let form = and_parts (nat_le 1 (length word) && nat_le (length word) most) (all_digits radix word) parts.0 in
-    let sizes = and_parts (nat_le 1 (length word)) (nat_le (length word) most) form.0 in
-    never (grind (arith, nat_tests, sizes.0)) (grind (arith, nat_tests, sizes.1)) form.1 (grind (arith, nat_tests, parts.1)))
+number_of-none radix most word never = grind (arith, never)
 
 -- the last digit of a number of 20
 pub longest : (word : List ℕ) → length word ≡ 20 → all_digits 10 (take 19 word) ≡ true → is_digit (get_or word 19 0) 10 ≡ true
@@ -186,11 +172,7 @@ pub number_of-one : (radix most : ℕ) (word : List ℕ) (result : Option ℕ) �
     → MatchOption result (is_digit (get_or word 0 0) radix ≡ false) (λ digit. (is_digit (get_or word 0 0) radix ≡ true) × (digit ≡ digit_value (get_or word 0 0))) → result ≡ number_of radix most word
 number_of-one radix most [] result some few one reads = absurd (omega (arith, one))
 number_of-one radix most (x ∷ y ∷ word) result some few one reads = absurd (omega (arith, one))
-number_of-one radix most (x ∷ []) None some few one other =
-    sym (number_of-none radix most (x ∷ []) (λ _ _ all small. no (sym (and_parts (is_digit x radix) true all).0 ∙ other)))
-  where
-    no : true ≡ false → ⊥
-    no wrong = search rules
+number_of-one radix most (x ∷ []) None some few one other = grind (arith, some, few, one, other, number_of-none radix most (x ∷ []))
 number_of-one radix most (x ∷ []) (Some digit) some few one (is, same) =
     let value : digits_value radix (x ∷ []) ≡ digit_value x = omega arith in
     let small : digit_value x < radix = is_digit-small x radix is in

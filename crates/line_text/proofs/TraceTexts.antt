@@ -1,19 +1,16 @@
 -- The lines of one beat more, and texts that aren't empty.
-use Rattle.std.proofs.Common.{◌≡◌, ◌≢◌, ℕ, ◌≤◌, List, [], ◌∷◌, ◌++◌, flat_map, Option, Some, None, length, length-append, refl, ap, rules, arith}
+use Rattle.std.proofs.Common.{◌≡◌, ◌≢◌, ℕ, ◌≤◌, List, [], ◌∷◌, ◌++◌, flat_map, Option, Some, length, length-append, refl, ap, rules, arith}
 use Rattle.axi_beats.specs.Boxes.{aw_of, w_beats_of}
-use Rattle.axi_beats.specs.Bursts.{Burst, WriteBurst, ReadBurst}
+use Rattle.axi_beats.specs.Bursts.{Burst}
 use Rattle.axi_beats.specs.Lines.{aw_text, w_text}
 use Rattle.axi_beats.specs.declared.AwBeat.{AwBeat}
 use Rattle.line_text.specs.Traces.{held_text}
 use Rattle.tl_checker.specs.Names.{name_of}
 use Rattle.tl_checker.specs.declared.TlRule.{TlRule}
-use Rattle.tl_checker.specs.declared.TlRule.TheVariants.{Opcode, Level, Size, AtomicSize, Align, Param, Mask, Corrupt, SourceBusy, BurstControl, DOpcode, DSize, DSource, DBeats, DDenied, DCorrupt}
 
 -- the text of a write
 pub held_text-write : (burst : Option Burst) (aw : AwBeat) → aw_of burst ≡ Some aw → held_text burst ≡ aw_text aw ++ flat_map w_text (w_beats_of burst)
-held_text-write None aw found = search rules
-held_text-write (Some (ReadBurst ar)) aw found = search rules
-held_text-write (Some (WriteBurst first beats)) aw found = let same : first ≡ aw = cc in ap (λ beat. aw_text beat ++ flat_map w_text beats) same
+held_text-write burst aw found = grind (arith, found)
 
 -- a text with a part that isn't empty
 pub some_before : (xs ys : List ℕ) → xs ≢ [] → xs ++ ys ≢ []
@@ -31,19 +28,4 @@ grows xs (y ∷ ys) some same = omega (arith, ap length same, length-append xs (
 
 -- a rule's name is short
 pub short_name : (r : TlRule) → length (name_of r) ≤ 13
-short_name Opcode = omega arith
-short_name Level = omega arith
-short_name Size = omega arith
-short_name AtomicSize = omega arith
-short_name Align = omega arith
-short_name Param = omega arith
-short_name Mask = omega arith
-short_name Corrupt = omega arith
-short_name SourceBusy = omega arith
-short_name BurstControl = omega arith
-short_name DOpcode = omega arith
-short_name DSize = omega arith
-short_name DSource = omega arith
-short_name DBeats = omega arith
-short_name DDenied = omega arith
-short_name DCorrupt = omega arith
+short_name r = grind arith

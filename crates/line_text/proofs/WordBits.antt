@@ -35,16 +35,10 @@ of_bytes line at n mask within is = record {
 -- a mask of the first n bytes and one of the last n
 module _ (line : List ℕ) (n behind first last : ℕ) (long : behind + n ≡ length line) (over : behind ≤ n) (one : OfBytes line 0 n first) (two : OfBytes line behind n last) where
   moved_low : (k : ℕ) → k < behind → bit_at (last * 2 ^ behind) k ≡ 0
-  moved_low k below = ap (λ m. bit_at m k) (sum (last * 2 ^ behind)) ∙ bit_at_cat_low last behind 0 k below ∙ bit_at-zero k
-    where
-      sum : (m : ℕ) → m ≡ m + 0
-      sum m = omega arith
+  moved_low k below = grind (arith, below, bit_at_cat_low last behind 0 k below, bit_at-zero k)
 
   moved_high : (k : ℕ) → behind ≤ k → bit_at (last * 2 ^ behind) k ≡ bit_at last (k - behind)
-  moved_high k from = ap (λ m. bit_at m k) (sum (last * 2 ^ behind)) ∙ bit_at_cat_high last behind 0 k (pow_pos behind) from
-    where
-      sum : (m : ℕ) → m ≡ m + 0
-      sum m = omega arith
+  moved_high k from = grind (arith, from, bit_at_cat_high last behind 0 k (pow_pos behind) from)
 
   abbrev word : ℕ → ℕ
   word k = cond (is_in_word line k) 1 0

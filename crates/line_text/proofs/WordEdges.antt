@@ -112,9 +112,7 @@ stays test was from edges t are within none (suc k) above to = by_place (λ on. 
   where
     by_place : (from ≤ k → before test k ≡ was) → (place : Bool) → (from == suc k) ≡ place → test k ≡ was
     by_place stayed true is = let start : from ≡ suc k = grind (arith, nat_tests, is) in subst (λ n. before test n ≡ was) start are.state
-    by_place stayed false other =
-        let on : from ≤ k = grind (arith, nat_tests, other, above) in
-        no_turn (test k) (before test k) (sym (none k (omega (arith, to))) ∙ are.here k on (omega (arith, to, within))) ∙ stayed on
+    by_place stayed false other = grind (arith, stayed, other, no_turn (test k) (before test k))
 
 -- the next place at which the test turns
 pub record NextEdge (test : ℕ → Bool) (was : Bool) (from t rest : ℕ) : Type 0 where

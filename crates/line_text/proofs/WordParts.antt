@@ -1,6 +1,5 @@
 -- The words of a line, part by part.
 use Rattle.std.proofs.Common.{◌≡◌, ◌≤◌, ◌==◌, ℕ, suc, ◌+◌, List, [], ◌∷◌, ◌++◌, length, filter, Bool, true, false, refl, arith, if◌then◌else◌}
-use Rattle.std.proofs.lemmas.Bool.Decides.{nat_tests}
 use Rattle.std.specs.List.{slice_split, onto_first}
 use Rattle.line_text.proofs.Parts.{Lacks, slice_split-lacks, slice_split-at}
 use Rattle.line_text.specs.Words.{is_word, words_of}
@@ -13,11 +12,7 @@ pub words_of-last : (part : List ℕ) → Lacks 32 part → words_of part ≡ wo
 words_of-last part lacks = rw (slice_split-lacks 32 part lacks) refl
 
 filter-cons : (part : List ℕ) (parts : List (List ℕ)) → filter is_word (part ∷ parts) ≡ word_in part ++ filter is_word parts
-filter-cons part parts = by_test (is_word part)
-  where
-    by_test : (test : Bool) → (if test then part ∷ filter is_word parts else filter is_word parts) ≡ (if test then part ∷ [] else []) ++ filter is_word parts
-    by_test true = refl
-    by_test false = refl
+filter-cons part parts = grind arith
 
 pub words_of-cut : (line part rest : List ℕ) → line ≡ part ++ 32 ∷ rest → Lacks 32 part → words_of line ≡ word_in part ++ words_of rest
 words_of-cut line part rest cut lacks = rw (cut, slice_split-at 32 part rest lacks) (filter-cons part (slice_split (λ byte. byte == 32) rest))
@@ -33,26 +28,10 @@ begun [] = 0
 begun (part ∷ parts) = if is_word part then 1 else 0
 
 begun-few : (parts : List (List ℕ)) → begun parts ≤ 1
-begun-few [] = omega arith
-begun-few (part ∷ parts) = by_test (is_word part)
-  where
-    by_test : (test : Bool) → (if test then 1 else 0) ≤ 1
-    by_test true = omega arith
-    by_test false = omega arith
-
-pub is_word-cons : (x : ℕ) (part : List ℕ) → is_word (x ∷ part) ≡ true
-is_word-cons x part = let other : (suc (length part) == 0) ≡ false = grind (arith, nat_tests) in rw other refl
+begun-few parts = grind arith
 
 onto-few : (x n : ℕ) (parts : List (List ℕ)) → words_in parts + words_in parts ≤ n + begun parts → words_in (onto_first x parts) + words_in (onto_first x parts) ≤ suc n + begun (onto_first x parts)
-onto-few x n [] few = omega arith
-onto-few x n (part ∷ parts) few = rw (is_word-cons x part) (by_test (is_word part) few)
-  where
-    count : Bool → ℕ
-    count test = length (if test then part ∷ filter is_word parts else filter is_word parts)
-
-    by_test : (test : Bool) → count test + count test ≤ n + (if test then 1 else 0) → suc (words_in parts) + suc (words_in parts) ≤ suc n + 1
-    by_test true h = omega (arith, h)
-    by_test false h = omega (arith, h)
+onto-few x n parts few = grind (arith, few)
 
 parts-few : (line : List ℕ) → words_in (slice_split (λ byte. byte == 32) line) + words_in (slice_split (λ byte. byte == 32) line) ≤ length line + begun (slice_split (λ byte. byte == 32) line)
 parts-few [] = omega arith

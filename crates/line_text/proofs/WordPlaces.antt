@@ -4,7 +4,7 @@ use Rattle.std.proofs.lemmas.Bool.Decides.{nat_tests}
 use Rattle.std.proofs.lemmas.List.{drop-drop, drop_all, drop_more, get_or-drop, get_or-take}
 use Rattle.std.specs.List.{between}
 use Rattle.line_text.proofs.Parts.{Lacks}
-use Rattle.line_text.proofs.WordParts.{word_in, words_of-last, words_of-cut, is_word-cons}
+use Rattle.line_text.proofs.WordParts.{word_in, words_of-last, words_of-cut}
 use Rattle.line_text.specs.Words.{IsPlace, words_of}
 
 -- a space in front is no word
@@ -12,8 +12,7 @@ pub words_of-space : (line : List ℕ) (place : ℕ) → place < length line →
 words_of-space line place within space = ap words_of (drop_more line place 0 within ∙ ap (λ byte. byte ∷ drop (place + 1) line) space)
 
 word_in-some : (part : List ℕ) → 0 < length part → word_in part ≡ part ∷ []
-word_in-some [] some = absurd (omega arith)
-word_in-some (x ∷ part) some = rw (is_word-cons x part) refl
+word_in-some part some = grind (arith, some)
 
 -- the bytes from a word's start to the space behind it are the next word
 module _ (line : List ℕ) (start end : ℕ) (some : start < end) (within : end ≤ length line) (lacks : (k : ℕ) → start ≤ k → k < end → get_or line k 0 ≢ 32) (found : end < length line → get_or line end 0 ≡ 32) where
@@ -82,11 +81,7 @@ word_here line start end inside byte (order, within) lacks found = let some : st
 
 -- what holds of a word's first place and of those behind it
 pub from_next : (line : List ℕ) (start end : ℕ) → get_or line start 0 ≢ 32 → ((k : ℕ) → start + 1 ≤ k → k < end → get_or line k 0 ≢ 32) → (k : ℕ) → start ≤ k → k < end → get_or line k 0 ≢ 32
-from_next line start end first rest k from below = by_place (k == start) refl
-  where
-    by_place : (test : Bool) → (k == start) ≡ test → get_or line k 0 ≢ 32
-    by_place true same = let e : k ≡ start = grind (arith, nat_tests, same) in rw e first
-    by_place false other = rest k (grind (arith, nat_tests, other, from)) below
+from_next line start end first rest k from below = grind (arith, first, rest, from, below)
 
 -- the word that begins at a place, behind those held so far
 pub record NextWord (line : List ℕ) (count start end : ℕ) : Type 0 where

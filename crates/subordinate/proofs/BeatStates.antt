@@ -105,9 +105,7 @@ past-within first beats k state within most = grind (arith, nat_tests, length-se
 pub places-after : (first from : ℕ) (beats : List BeatState) → AllByRecursion IsPerformed (take first beats) → first ≤ length beats → waiting_places from beats ≡ waiting_places (from + first) (drop first beats)
 places-after zero from beats performed within = let same : from ≡ from + 0 = omega arith in ap (λ (n : ℕ). waiting_places n beats) same
 places-after (suc first) from [] performed within = absurd (omega (arith, within))
-places-after (suc first) from (beat ∷ beats) performed within =
-    let same : from + 1 + first ≡ from + suc first = omega arith in
-    grind (arith, same, performed.0, places-after first (from + 1) beats performed.1 (omega (arith, within)))
+places-after (suc first) from (beat ∷ beats) performed within = grind (arith, performed, within, places-after first (from + 1) beats performed.1 (omega (arith, within)))
 
 -- the performed beats that aren't answered, counted by those that wait
 pub performed_waiting-count : (pending : Pending) → AllByRecursion IsPerformed (take pending.answered pending.beats) → pending.answered ≤ length pending.beats
@@ -144,9 +142,7 @@ waiting-here pending i left p beat within is inside found =
 pub waiting-after : (pending : List Pending) (i left : ℕ) (p : Pending) → i < length pending → p ≡ get_or pending i p → count_waiting p.beats ≤ left
     → slice_get (flat_map waiting_in (drop i pending)) left ≡ slice_get (flat_map waiting_in (drop (i + 1) pending)) (left - count_waiting p.beats)
 waiting-after pending i left p within is past =
-    ap (λ (beats : List (ℕ × ℕ)). slice_get beats left) (from_place pending i p within is)
-    ∙ slice_get-append-after (waiting_in p) (flat_map waiting_in (drop (i + 1) pending)) left (omega (arith, past, length-waiting_in p))
-    ∙ ap (λ (n : ℕ). slice_get (flat_map waiting_in (drop (i + 1) pending)) (left - n)) (length-waiting_in p)
+    grind (arith, within, is, past, from_place pending i p within is, slice_get-append-after (waiting_in p), length-waiting_in p)
 
 -- past all open bursts there is none
 pub waiting-none : (pending : List Pending) (i left k : ℕ) → length pending ≤ i → slice_get (flat_map waiting_in (drop i pending)) left ≡ slice_get (flat_map waiting_in pending) k
@@ -191,7 +187,4 @@ waiting-back (p ∷ ps) (suc i) left within =
 -- and so many are from a place on
 pub length-from_place : (pending : List Pending) (i : ℕ) (p : Pending) → i < length pending → p ≡ get_or pending i p
     → length (flat_map waiting_in (drop i pending)) ≡ count_waiting p.beats + length (flat_map waiting_in (drop (i + 1) pending))
-length-from_place pending i p within is =
-    ap (λ (beats : List (ℕ × ℕ)). length beats) (from_place pending i p within is)
-    ∙ length-append (waiting_in p) (flat_map waiting_in (drop (i + 1) pending))
-    ∙ ap (λ (n : ℕ). n + length (flat_map waiting_in (drop (i + 1) pending))) (length-waiting_in p)
+length-from_place pending i p within is = grind (arith, within, is, from_place pending i p within is, length-append (waiting_in p), length-waiting_in p)

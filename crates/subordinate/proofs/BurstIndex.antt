@@ -1,5 +1,5 @@
 -- What stays true of the queues of open bursts, and of the marks of those that may answer, when one is sent, changed or closed.
-use Rattle.std.proofs.Common.{◌≡◌, ℕ, zero, suc, ◌+◌, ◌*◌, ◌/◌, ◌%◌, ◌<◌, ◌==◌, Bool, true, false, not, ◌⊎◌, inl, inr, List, [], ◌∷◌, ◌++◌, drop, length, get_or, map, replicate, refl, sym, ◌∙◌, ap, subst, arith}
+use Rattle.std.proofs.Common.{◌≡◌, ℕ, zero, suc, ◌+◌, ◌*◌, ◌<◌, ◌==◌, Bool, true, false, not, ◌⊎◌, inl, inr, List, [], ◌∷◌, ◌++◌, drop, length, get_or, map, replicate, refl, sym, ◌∙◌, ap, subst, arith}
 use Rattle.std.proofs.Math.ListN.{set}
 use Rattle.std.proofs.lemmas.Bool.{cases_eq, eq-eqb, eqb-false, eqb-true, ne_eqb}
 use Rattle.std.proofs.lemmas.List.{append-nil, get_or_default, get_or-set_other, get_or-set_same, length-set, map-append}
@@ -110,8 +110,7 @@ set_found new None = None
 set_found new (Some p) = if p.serial == new.serial then Some new else Some p
 
 set_found_ready : (new : Pending) (found : Option Pending) → (if is_first (option_map (λ (p : Pending). p.serial) found) new.serial then is_ready new else is_found_ready found) ≡ is_found_ready (set_found new found)
-set_found_ready new None = refl
-set_found_ready new (Some p) = elim (p.serial == new.serial) as (λ b. (if b then is_ready new else is_ready p) ≡ is_found_ready (if b then Some new else Some p)) [ true ↦ refl | false ↦ refl ]
+set_found_ready new found = grind arith
 
 find_set : (low top : ℕ) (test : Pending → Bool) (bursts : List Pending) (k : ℕ) (new : Pending) → RisesWithin low top bursts → k < length bursts → new.serial ≡ serial_at bursts k → test new ≡ test (burst_at bursts k)
     → find test (set bursts k new) ≡ set_found new (find test bursts)
@@ -216,8 +215,7 @@ performed bursts current k beat state was new seen queues old now view rise inde
         })
 
 pub read_at : (bursts current : List Pending) (k : ℕ) (was p : Pending) → bursts ≡ current → k < length current → was ≡ get_or bursts k was → slice_get current k ≡ Some p → was ≡ p
-read_at bursts current k was p view inside is some =
-    same_Some was p (ap Some is ∙ sym (slice_get-get_or bursts k was (subst (λ (ps : List Pending). k < length ps) (sym view) inside)) ∙ ap (λ (ps : List Pending). slice_get ps k) view ∙ some)
+read_at bursts current k was p view inside is some = grind (arith, view, inside, is, some, same_Some was p, slice_get-get_or bursts k was)
 
 -- ---- an R of the oldest read of an ID
 
@@ -313,13 +311,7 @@ closed bursts queues old now queue k rise indexed known place here others =
 -- ---- a queue's mark by its ID
 
 pub marked_b : (answers : Answers) (id : ℕ) → is_marked answers (2 * id) ≡ has_id answers.b id
-marked_b answers id =
-    let even : 2 * id % 2 ≡ 0 = omega arith in
-    let half : 2 * id / 2 ≡ id = omega arith in
-    rw (even, half) refl
+marked_b answers id = grind arith
 
 pub marked_r : (answers : Answers) (id : ℕ) → is_marked answers (2 * id + 1) ≡ has_id answers.r id
-marked_r answers id =
-    let odd : (2 * id + 1) % 2 ≡ 1 = omega arith in
-    let half : (2 * id + 1) / 2 ≡ id = omega arith in
-    rw (odd, half) refl
+marked_r answers id = grind arith

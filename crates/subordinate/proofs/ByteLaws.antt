@@ -71,8 +71,7 @@ byte_in-set_in-other address x byte page small same_page apart =
 -- ---- the memory
 
 option_map-option_map : {X Y Z : Type 0} (g : Y → Z) (h : X → Y) (found : Option X) → option_map g (option_map h found) ≡ option_map (λ x. g (h x)) found
-option_map-option_map g h None = refl
-option_map-option_map g h (Some x) = refl
+option_map-option_map g h found = grind arith
 
 byte_at_address-page : (memory : Memory) (x : ℕ) → byte_at_address memory x ≡ option_map (byte_in x) (find (holds_address x) memory)
 byte_at_address-page memory x = option_map-option_map (λ word. lane_byte word (x % 8)) (λ page. get_or page.words (word_place x) 0) (find (holds_address x) memory)
@@ -118,11 +117,7 @@ byte_at_address-with_byte-other memory address x byte small apart =
     in_page same (Some page) = ap Some (byte_in-set_in-other address x byte page small same apart)
 
     near : x / 4096 ≡ address / 4096 → byte_at_address (with_byte memory address byte) x ≡ byte_at_address memory x
-    near same =
-        same_page-read memory address x byte same
-        ∙ in_page same (find (holds_address address) memory)
-        ∙ ap (option_map (byte_in x)) (sym (same_page-find memory x address same))
-        ∙ sym (byte_at_address-page memory x)
+    near same = grind (arith, same, same_page-read memory address x byte same, in_page same (find (holds_address address) memory))
 
 -- no byte comes or goes
 pub is_some-with_byte : (memory : Memory) (address x byte : ℕ) → is_some (byte_at_address (with_byte memory address byte) x) ≡ is_some (byte_at_address memory x)
@@ -140,8 +135,4 @@ is_some-with_byte memory address x byte =
 pub whole-with_byte : (memory : Memory) (address byte : ℕ) → AllByRecursion IsWholePage memory → AllByRecursion IsWholePage (with_byte memory address byte)
 whole-with_byte [] address byte whole = whole
 whole-with_byte (page ∷ memory) address byte whole =
-    grind (
-      arith,
-      length-set page.words (word_place address) (word_with_byte (address % 8) byte (get_or page.words (word_place address) 0)),
-      whole-with_byte memory address byte whole.1,
-    )
+    grind (arith, whole, page.words, length-set page.words (word_place address), whole-with_byte memory address byte whole.1)

@@ -1,19 +1,17 @@
 -- What a transfer of a read captures, from the word of eight bytes that it lies in.
-use Rattle.std.proofs.Common.{◌≡◌, ℕ, ◌+◌, ◌*◌, ◌/◌, ◌%◌, ◌^◌, ◌<◌, Bool, true, false, inl, inr, refl, sym, ◌∙◌, ap, arith, lit<}
+use Rattle.std.proofs.Common.{◌≡◌, ℕ, ◌+◌, ◌*◌, ◌/◌, ◌%◌, ◌^◌, ◌<◌, true, inl, inr, sym, ◌∙◌, ap, arith, lit<}
 use Rattle.std.proofs.lemmas.Bool.{leb-true}
-use Rattle.std.proofs.lemmas.Bool.Decides.{nat_tests}
-use Rattle.std.specs.Prelude.{Option, Some, None, if◌then◌else◌, is_some, option_map, unwrap_or}
+use Rattle.std.specs.Prelude.{Option, Some, None, if◌then◌else◌, option_map, unwrap_or}
 use Rattle.bus_words.specs.Lanes.{has_lane, lane_byte, payload_of}
 use Rattle.bus_words.proofs.LaneLaws.{word_of_lanes-lane_byte, word_of_lanes-same}
 use Rattle.data_unit.specs.Words.{merged}
 use Rattle.data_unit.proofs.ByteLaws.{lane_byte-down, lane_byte-past}
 use Rattle.axi_beats.specs.Transfers.{covers_lane, lane_address, transfer_address}
 use Rattle.axi_beats.specs.declared.ArBeat.{ArBeat}
-use Rattle.axi_beats.specs.Responses.{is_okay}
 use Rattle.axi_beats.specs.declared.Resp.{Resp}
 use Rattle.subordinate.specs.Effects.{HasGoodPages}
-use Rattle.subordinate.specs.Faults.{Faults, Standing, is_bad, is_good, read_response, read_response_on, standing_at, write_response}
-use Rattle.subordinate.specs.FreeMemory.{byte_in_lane, captured, captured_as}
+use Rattle.subordinate.specs.Faults.{Faults, read_response, standing_at, write_response}
+use Rattle.subordinate.specs.FreeMemory.{byte_in_lane, captured}
 use Rattle.subordinate.specs.declared.BeatState.TheVariants.{Captured}
 use Rattle.subordinate.specs.InsidePages.{IsTransferOf, first_lane}
 use Rattle.subordinate.specs.Pages.{Memory, byte_at_address, word_at}
@@ -48,10 +46,6 @@ payload_of-read bus_bytes memory ar n word lanes is found between = word_of_lane
           byte_at_lane bus_bytes memory ar n lane (Some word) is found,
         )
 
--- a transfer of eight bytes from a multiple of eight on covers all lanes
-covers_all : (start n lane : ℕ) → transfer_address start 3 n % 8 ≡ 0 → lane < 8 → covers_lane 8 start 3 n lane ≡ true
-covers_all start n lane aligned below = grind (arith, nat_tests)
-
 -- so what is captured is the word
 pub payload_of-whole : (bus_bytes : ℕ) (memory : Memory) (ar : ArBeat) (n word : ℕ) → IsTransferOf bus_bytes ar.address ar.len ar.size n → ar.size ≡ 3 → transfer_address ar.address ar.size n % 8 ≡ 0 → word < 2 ^ 64
     → word_at memory (transfer_address ar.address ar.size n) ≡ Some word → word ≡ payload_of (byte_in_lane bus_bytes memory ar n)
@@ -61,20 +55,13 @@ payload_of-whole bus_bytes memory ar n word is whole aligned small found = sym (
     eight = elim is.width [ inl narrow ↦ absurd (omega (arith, narrow, leb-true 8 bus_bytes (rw whole at is.fits))) | inr wide ↦ wide ]
 
     at : (lane : ℕ) → lane < 8 → lane_byte word lane ≡ unwrap_or (byte_in_lane bus_bytes memory ar n lane) 0
-    at lane below =
-        let covered : covers_lane bus_bytes ar.address ar.size n lane ≡ true = rw (eight, whole) (covers_all ar.address n lane (rw whole at aligned) below) in
-        let first : first_lane bus_bytes (transfer_address ar.address ar.size n) + lane ≡ lane = rw eight (omega (arith, aligned)) in
-        grind (arith, covered, first, byte_at_lane bus_bytes memory ar n lane (Some word) is found covered)
+    at lane below = grind (arith, below)
 
 -- ---- its response
 
 -- elsewhere the page does
 pub read_response-absent : (faults : Faults) (memory : Memory) (address : ℕ) → HasGoodPages faults memory → word_at memory address ≡ None → write_response (standing_at faults address) ≡ read_response faults address
-read_response-absent faults memory address pages missing =
-    by_standing (standing_at faults address) (is_bad faults address) (sym (pages.exactly address) ∙ ap (λ o. is_some (option_map (λ w. lane_byte w (address % 8)) o)) missing)
-  where
-    by_standing : (standing : Standing) (bad : Bool) → is_good standing ≡ false → write_response standing ≡ read_response_on standing bad
-    by_standing standing bad absent = grind arith
+read_response-absent faults memory address pages missing = grind (arith, pages, missing)
 
 -- ---- what is captured
 
@@ -89,11 +76,4 @@ payload_of-absent bus_bytes memory ar n is missing = word_of_lanes-same _ (λ la
 pub captured-absent : (bus_bytes : ℕ) (faults : Faults) (memory : Memory) (ar : ArBeat) (n address : ℕ) (resp : Resp) (word : Option ℕ) → IsTransferOf bus_bytes ar.address ar.len ar.size n
     → address ≡ transfer_address ar.address ar.size n → resp ≡ read_response faults address → word ≡ word_at memory address → word ≡ None → Captured 0 resp ≡ captured bus_bytes faults memory ar n
 captured-absent bus_bytes faults memory ar n address resp word is here answers found missing =
-    by_response (is_okay resp) ∙ ap (λ r. captured_as r bus_bytes memory ar n) (answers ∙ ap (read_response faults) here)
-  where
-    nothing : payload_of (byte_in_lane bus_bytes memory ar n) ≡ 0
-    nothing = payload_of-absent bus_bytes memory ar n is (ap (word_at memory) (sym here) ∙ sym found ∙ missing)
-
-    by_response : (b : Bool) → Captured 0 resp ≡ Captured (if b then payload_of (byte_in_lane bus_bytes memory ar n) else 0) resp
-    by_response true = ap (λ payload. Captured payload resp) (sym nothing)
-    by_response false = refl
+    grind (arith, is, here, answers, found, missing, payload_of-absent bus_bytes memory ar n is (ap (word_at memory) (sym here) ∙ sym found ∙ missing))

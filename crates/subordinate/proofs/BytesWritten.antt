@@ -1,9 +1,8 @@
 -- A transfer of a write changes one word of eight bytes, lane by lane: it becomes the old word merged with the beat, moved up to the word's lanes.
-use Rattle.std.proofs.Common.{◌≡◌, ℕ, zero, suc, ◌+◌, ◌-◌, ◌*◌, ◌/◌, ◌%◌, ◌^◌, ◌<◌, ◌≤◌, ◌==◌, Bool, true, false, inl, inr, refl, sym, ◌∙◌, ap, arith}
+use Rattle.std.proofs.Common.{◌≡◌, ℕ, zero, suc, ◌+◌, ◌-◌, ◌*◌, ◌/◌, ◌%◌, ◌^◌, ◌<◌, ◌≤◌, Bool, true, false, inl, inr, refl, sym, ◌∙◌, ap, arith}
 use Rattle.std.specs.Prelude.{if◌then◌else◌, fold}
 use Rattle.std.specs.Int.{bit_at}
 use Rattle.std.specs.List.{range_with_len}
-use Rattle.std.proofs.Math.Nat.{add-zero}
 use Rattle.std.proofs.lemmas.Bool.{and_parts, cases_lt}
 use Rattle.std.proofs.lemmas.Bool.Decides.{nat_tests}
 use Rattle.std.proofs.lemmas.Nat.{pow_pos}
@@ -19,7 +18,7 @@ use Rattle.data_unit.proofs.ByteLaws.{lane_byte-low, lane_byte-up}
 use Rattle.subordinate.specs.FreeMemory.{bytes_written, lane_written, writes_lane}
 use Rattle.subordinate.specs.InsidePages.{IsTransferOf, first_lane}
 use Rattle.subordinate.specs.Pages.{Memory, with_byte, with_word, word_with_byte}
-use Rattle.subordinate.proofs.PageLaws.{with_word-same, with_word-with_word, lane_byte-lt, lane_byte-word_with_byte, with_word-near}
+use Rattle.subordinate.proofs.PageLaws.{with_word-same, with_word-with_word, lane_byte-lt, lane_byte-word_with_byte}
 use Rattle.subordinate.proofs.TransferWords.{bus_lane, covered_within, first_lane-within, strobes_covered}
 
 -- a word with the byte of one lane set, where a test has that lane of the bus; the bus's lanes begin at `first`
@@ -84,20 +83,15 @@ bit_at-eight number k below =
 
 has_lane-moved : (strobes first lane : ℕ) → first + lane < 8 → has_lane (strobes * 2 ^ first % 2 ^ 8) (first + lane) ≡ has_lane strobes lane
 has_lane-moved strobes first lane below =
-    let back : first + lane - first ≡ lane = omega arith in
-    ap (λ (bit : ℕ). bit == 1)
-    (bit_at-eight (strobes * 2 ^ first) (first + lane) below ∙ ap (λ (m : ℕ). bit_at m (first + lane)) (sym (add-zero (strobes * 2 ^ first)))
-    ∙ bit_at_cat_high strobes first 0 (first + lane) (pow_pos first) (omega arith) ∙ ap (bit_at strobes) back)
+    grind (arith, below, bit_at-eight (strobes * 2 ^ first) (first + lane) below, bit_at_cat_high strobes first 0 (first + lane) (pow_pos first) (omega arith))
 
 has_lane-moved_below : (strobes first lane : ℕ) → first ≤ 8 → lane < first → has_lane (strobes * 2 ^ first % 2 ^ 8) lane ≡ false
 has_lane-moved_below strobes first lane few below =
-    ap (λ (bit : ℕ). bit == 1)
-    (bit_at-eight (strobes * 2 ^ first) lane (omega arith) ∙ ap (λ (m : ℕ). bit_at m lane) (sym (add-zero (strobes * 2 ^ first))) ∙ bit_at_cat_low strobes first 0 lane below ∙ bit_at-zero lane)
+    grind (arith, few, below, bit_at-eight (strobes * 2 ^ first) lane (omega arith), bit_at_cat_low strobes first 0 lane below, bit_at-zero lane)
 
 lane_byte-moved : (payload first lane : ℕ) → first + lane < 8 → lane_byte (payload * 2 ^ (8 * first) % 2 ^ 64) (first + lane) ≡ lane_byte payload lane
 lane_byte-moved payload first lane below =
-    let back : first + lane - first ≡ lane = omega arith in
-    lane_byte-low (payload * 2 ^ (8 * first)) 8 (first + lane) below ∙ lane_byte-up payload first (first + lane) (omega arith) ∙ ap (λ k. lane_byte payload k) back
+    grind (arith, below, lane_byte-low (payload * 2 ^ (8 * first)) 8 (first + lane) below, lane_byte-up payload first (first + lane) (omega arith))
 
 -- the bytes of the strobed lanes, set in a word one after another, are those of a merged word
 pub bytes_set-merged : (test : ℕ → Bool) (payload strobes first word : ℕ) → ((lane : ℕ) → lane < 8 → test lane ≡ has_lane strobes lane) → first ≤ 8 → word < 2 ^ 64
@@ -130,10 +124,7 @@ abbrev in_lane : ℕ → ℕ → ℕ
 in_lane start lane = start / 8 * 8 + lane
 
 with_byte-word : (memory : Memory) (start lane byte : ℕ) → lane < 8 → with_byte memory (in_lane start lane) byte ≡ with_word memory start (word_with_byte lane byte)
-with_byte-word memory start lane byte below =
-    let within : in_lane start lane % 8 ≡ lane = omega arith in
-    ap (λ (k : ℕ). with_word memory (in_lane start lane) (word_with_byte k byte)) within
-    ∙ with_word-near memory (in_lane start lane) start (word_with_byte lane byte) (omega arith) (omega arith)
+with_byte-word memory start lane byte below = grind (arith, below)
 
 lane_written-word : (bus_bytes : ℕ) (memory : Memory) (aw : AwBeat) (n : ℕ) (w : WBeat) (lane : ℕ) → IsTransferOf bus_bytes aw.address aw.len aw.size n
     → lane_written bus_bytes aw n w memory lane

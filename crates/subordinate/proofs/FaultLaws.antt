@@ -3,7 +3,7 @@ use Rattle.std.proofs.Common.{◌≡◌, ℕ, Bool, false, List, [], ◌∷◌, 
 use Rattle.std.specs.Prelude.{Some, None, position, find}
 use Rattle.bus_words.specs.Tables.{first_broken}
 use Rattle.axi_beats.specs.Responses.{is_exokay}
-use Rattle.subordinate.specs.Faults.{IsAbsent, Standing, lists_page, read_response_on, standing_of_kind, standing_of_listed, write_response}
+use Rattle.subordinate.specs.Faults.{IsAbsent, Standing, lists_page, standing_of_kind, standing_of_listed, write_response}
 use Rattle.bus_words.proofs.FirstPlaces.{position_is_first, find-first, find-none}
 use Rattle.subordinate.specs.declared.PageKind.{PageKind}
 use Rattle.subordinate.specs.declared.DeviceFault.{DeviceFault}
@@ -28,6 +28,3 @@ standing-missing pages number missing = ap standing_of_listed (find-none (lists_
 -- the device never answers EXOKAY
 pub write_plain : (standing : Standing) → is_exokay (write_response standing) ≡ false
 write_plain standing = grind arith
-
-pub read_plain : (standing : Standing) (bad : Bool) → is_exokay (read_response_on standing bad) ≡ false
-read_plain standing bad = grind arith

@@ -2,7 +2,7 @@
 use Rattle.std.proofs.Common.{◌≡◌, ℕ, ◌+◌, ◌/◌, ◌==◌, Bool, true, false, List, [], ◌∷◌, ◌++◌, map, refl, ◌∙◌, arith}
 use Rattle.std.proofs.lemmas.Bool.Decides.{nat_tests}
 use Rattle.std.specs.List.{AllByRecursion, list_any}
-use Rattle.std.specs.Prelude.{Option, Some, None, filter, find, is_some, nat_lt, slice_get}
+use Rattle.std.specs.Prelude.{Option, Some, None, filter, find, is_some, slice_get}
 use Rattle.bus_words.specs.Tables.{first_broken}
 use Rattle.axi_beats.specs.Bursts.{Burst, WriteBurst, ReadBurst}
 use Rattle.axi_beats.specs.declared.WBeat.{WBeat}
@@ -11,11 +11,9 @@ use Rattle.subordinate.specs.Faults.{device_fault, is_good, lists_page, rules_of
 use Rattle.subordinate.specs.FreeMemory.{FreeMemory, memory_after, memory_with}
 use Rattle.subordinate.specs.Pages.{Memory, byte_at_address, holds_address, is_listed_good, opening_memory, word_at, zero_page, zero_words}
 use Rattle.subordinate.specs.declared.DeviceFault.{DeviceFault}
-use Rattle.subordinate.specs.declared.DeviceFault.TheVariants.{PageRange, PageTwice}
 use Rattle.subordinate.specs.declared.PageKind.{PageKind}
 use Rattle.subordinate.proofs.EffectLaws.{is_some-bytes_written, whole-bytes_written}
 use Rattle.subordinate.proofs.OpenBursts.{is_some-option_map}
-use Rattle.bus_words.proofs.TableLaws.{unbroken}
 use Rattle.axi_beats.specs.declared.AwBeat.{AwBeat}
 
 -- ---- tables without a broken rule
@@ -41,10 +39,7 @@ listed_last number (first ∷ earlier) page here = grind (arith, listed_last num
 -- what the rules on a page ask: it doesn't stand earlier, and the later ones break none
 pub page_parts : (earlier : List (ℕ × PageKind)) (i : ℕ) (page : ℕ × PageKind) (pages : List (ℕ × PageKind)) → first_broken (rules_of_pages earlier i (page ∷ pages)) ≡ None
     → (list_any (lists_page page.0) earlier ≡ false) × (first_broken (rules_of_pages (earlier ++ page ∷ []) (i + 1) pages) ≡ None)
-page_parts earlier i page pages none =
-    let later = rules_of_pages (earlier ++ page ∷ []) (i + 1) pages in
-    let range = unbroken (nat_lt 1048575 page.0) (PageRange i) ((list_any (lists_page page.0) earlier, PageTwice i) ∷ later) none in
-    unbroken (list_any (lists_page page.0) earlier) (PageTwice i) later range.1
+page_parts earlier i page pages none = grind (arith, none)
 
 -- a page that stands earlier isn't among the later ones
 not_later : (number : ℕ) (earlier : List (ℕ × PageKind)) (i : ℕ) (pages : List (ℕ × PageKind)) → first_broken (rules_of_pages earlier i pages) ≡ None → list_any (lists_page number) earlier ≡ true

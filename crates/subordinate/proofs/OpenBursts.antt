@@ -151,8 +151,7 @@ found_none test pending none = find-none test pending none
 -- ---- the B and R that an ID may give
 
 pub is_some-option_map : {X Y : Type 0} (f : X → Y) (found : Option X) → is_some (option_map f found) ≡ is_some found
-is_some-option_map f None = refl
-is_some-option_map f (Some x) = refl
+is_some-option_map f found = grind arith
 
 -- ---- an answered R
 

@@ -6,7 +6,7 @@ use Rattle.std.proofs.lemmas.List.Folds.{find_at}
 use Rattle.std.proofs.lemmas.Option.{same_Some, slice_get-get_or}
 use Rattle.std.specs.List.{AllByRecursion}
 use Rattle.std.specs.Prelude.{Option, Some, None, IfSome, IsSome, filter, find, is_some, position, slice_get}
-use Rattle.axi_beats.specs.Bursts.{Burst, ReadBurst, WriteBurst}
+use Rattle.axi_beats.specs.Bursts.{Burst}
 use Rattle.bus_words.proofs.FirstPlaces.{find-same, first-passes, position_is_first}
 use Rattle.bus_words.proofs.PlaceChanges.{find-passes}
 use Rattle.subordinate.specs.Bursts.{is_found_ready, is_in, is_queue_ready, is_ready}
@@ -15,7 +15,7 @@ use Rattle.subordinate.specs.Inside.{burst_in, captured_at, is_beside, no_burst}
 use Rattle.subordinate.specs.Laws.{IsSoundMemory, IsSoundPending, queue_of, queue_of_burst}
 use Rattle.subordinate.specs.declared.BeatState.{BeatState}
 use Rattle.subordinate.proofs.BurstIndex.{burst_at}
-use Rattle.subordinate.proofs.OpenBursts.{all-placed, count_in_queue}
+use Rattle.subordinate.proofs.OpenBursts.{all-placed}
 use Rattle.bus_words.proofs.MappedPlaces.{position_same}
 use Rattle.std.proofs.lemmas.Bool.Decides.{nat_tests}
 
@@ -94,9 +94,7 @@ whole_at bus_bytes bursts k within sound =
 
 -- a burst has a place in the list that is kept, where it has one in the list that callers see
 pub kept_place : (queue : ℕ) (bursts current : List Pending) (k : ℕ) → bursts ≡ current → position (is_in queue) current ≡ Some k → (position (is_in queue) bursts ≡ Some k) × (k < length bursts)
-kept_place queue bursts current k view place =
-    let kept = ap (λ (ps : List Pending). position (is_in queue) ps) view ∙ place in
-    (kept, (position_is_first (is_in queue) bursts k kept).within)
+kept_place queue bursts current k view place = grind (arith, view, place)
 
 -- a beat that captured is one of its burst
 pub captured_within : (beats : List BeatState) (n : ℕ) → IsSome (captured_at (slice_get beats n)) → n < length beats
@@ -109,10 +107,8 @@ captured_within (beat ∷ beats) (suc n) some = omega (arith, captured_within be
 -- how many are beside a box's burst
 pub counted_beside : (held : Option Burst) (queue n : ℕ) (bursts : List Pending) → queue ≡ queue_of_burst (burst_in held) → n ≡ length (filter (is_in queue) bursts)
     → IfSome held (λ burst. n ≡ length (filter (is_beside burst) bursts))
-counted_beside None queue n bursts is count = tt
-counted_beside (Some burst) queue n bursts is count = count ∙ ap (λ q. length (filter (is_in q) bursts)) is ∙ count_in_queue burst bursts
+counted_beside held queue n bursts is count = grind (arith, is, count)
 
 -- it waits
 pub newly_waits : (serial : ℕ) (burst : Burst) → is_ready (newly_pending serial burst) ≡ false
-newly_waits serial (WriteBurst aw ws) = let more : aw.len + 1 ≡ suc aw.len = omega arith in rw more refl
-newly_waits serial (ReadBurst ar) = let more : ar.len + 1 ≡ suc ar.len = omega arith in rw more refl
+newly_waits serial burst = grind arith

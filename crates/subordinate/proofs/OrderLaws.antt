@@ -1,6 +1,5 @@
 -- Answers come in AXI4's order: each is the first that its ID owes, and what is sent is owed after all before it.
-use Rattle.std.proofs.Common.{◌≡◌, ◌≢◌, ℕ, suc, ◌+◌, ◌-◌, ◌<◌, Bool, true, false, List, [], ◌∷◌, ◌++◌, map, refl, ap, arith}
-use Rattle.std.proofs.lemmas.Bool.{eqb-true}
+use Rattle.std.proofs.Common.{◌≡◌, ◌≢◌, ℕ, ◌+◌, ◌-◌, ◌<◌, Bool, true, false, List, [], ◌∷◌, ◌++◌, map, refl, ap, arith}
 use Rattle.std.proofs.lemmas.List.{append-nil, map-append}
 use Rattle.std.proofs.lemmas.List.Elements.{filter-append}
 use Rattle.std.proofs.lemmas.Grind.{flat_map-append}
@@ -112,15 +111,10 @@ answers_oldest_write id pending p found =
 
 -- the next beat that a read owes, and those after it
 beats_owed-next : (p : Pending) → p.answered < transfers_in p.burst → beats_owed p ≡ (p.serial, p.answered) ∷ beats_owed (with_answer p)
-beats_owed-next p more =
-    let count : transfers_in p.burst - p.answered ≡ suc (transfers_in p.burst - (p.answered + 1)) = omega arith in
-    rw count refl
+beats_owed-next p more = grind (arith, more)
 
 beats_owed-last : (p : Pending) → gives_last p ≡ true → beats_owed (with_answer p) ≡ []
-beats_owed-last p last =
-    let ends : p.answered + 1 ≡ transfers_in p.burst = eqb-true (p.answered + 1) (transfers_in p.burst) last in
-    let none : transfers_in p.burst - (p.answered + 1) ≡ 0 = omega (arith, ends) in
-    rw none refl
+beats_owed-last p last = grind (arith, last)
 
 oldest_read_next : (id : ℕ) (pending : List Pending) (p : Pending) → find (is_read_of id) pending ≡ Some p → p.answered < transfers_in p.burst
     → reads_owed id pending ≡ (p.serial, p.answered) ∷ reads_owed id (pending_after_r id pending)

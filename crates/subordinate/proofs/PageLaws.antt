@@ -1,7 +1,7 @@
 -- Words and their bytes: a byte that is set in a word, a word that is changed in a memory, and addresses of one word.
-use Rattle.std.proofs.Common.{◌≡◌, ℕ, zero, suc, ◌+◌, ◌*◌, ◌/◌, ◌%◌, ◌<◌, ◌==◌, true, false, List, get_or, refl, ◌∙◌, ap, arith, [], ◌∷◌, Bool}
+use Rattle.std.proofs.Common.{◌≡◌, ℕ, zero, suc, ◌+◌, ◌*◌, ◌/◌, ◌<◌, ◌==◌, List, get_or, refl, ◌∙◌, ap, arith, [], ◌∷◌, Bool}
 use Rattle.std.proofs.Math.Seq.{set-get_or}
-use Rattle.std.specs.Prelude.{if◌then◌else◌, find, option_map}
+use Rattle.std.specs.Prelude.{if◌then◌else◌, option_map}
 use Rattle.bus_words.specs.Lanes.{lane_byte}
 use Rattle.bus_words.specs.Places.{change_first}
 use Rattle.bus_words.proofs.LaneLaws.{GivesBytes, lane_byte-word_of_lanes}
@@ -16,8 +16,7 @@ lane_byte-lt word zero = omega arith
 lane_byte-lt word (suc lane) = omega arith
 
 with_byte_gives : (word lane byte : ℕ) → byte < 256 → GivesBytes (λ other. if other == lane then byte else lane_byte word other)
-with_byte_gives word lane byte small =
-    record { at = λ other below. elim (other == lane) as (λ b. (if b then byte else lane_byte word other) < 256) [ true ↦ small | false ↦ lane_byte-lt word other ] }
+with_byte_gives word lane byte small = grind (arith, small)
 
 pub lane_byte-word_with_byte : (word lane byte other : ℕ) → byte < 256 → other < 8 → lane_byte (word_with_byte lane byte word) other ≡ (if other == lane then byte else lane_byte word other)
 lane_byte-word_with_byte word lane byte other small below = lane_byte-word_of_lanes _ other (with_byte_gives word lane byte small) below
@@ -67,19 +66,6 @@ with_word-same memory address f same =
 
 -- ---- addresses of one word
 
-pub with_word-near : (memory : Memory) (near address : ℕ) (f : ℕ → ℕ) → near / 4096 ≡ address / 4096 → word_place near ≡ word_place address → with_word memory near f ≡ with_word memory address f
-with_word-near memory near address f page place =
-    let at : ℕ → ℕ → Memory = λ number k. change_first (λ (p : GoodPage). p.number == number) (page_with_word k f) memory in
-    ap (λ number. at number (word_place near)) page ∙ ap (at (address / 4096)) place
-
-word_at-near : (memory : Memory) (near address : ℕ) → near / 4096 ≡ address / 4096 → word_place near ≡ word_place address → word_at memory near ≡ word_at memory address
-word_at-near memory near address page place =
-    let at = λ (number k : ℕ). option_map (λ (p : GoodPage). get_or p.words k 0) (find (λ (p : GoodPage). p.number == number) memory) in
-    ap (λ number. at number (word_place near)) page ∙ ap (at (address / 4096)) place
-
 -- the byte of a lane of a word
 pub byte_at_address-lane : (memory : Memory) (address lane : ℕ) → lane < 8 → byte_at_address memory (address / 8 * 8 + lane) ≡ option_map (λ word. lane_byte word lane) (word_at memory address)
-byte_at_address-lane memory address lane below =
-    let within : (address / 8 * 8 + lane) % 8 ≡ lane = omega arith in
-    ap (λ (k : ℕ). option_map (λ word. lane_byte word k) (word_at memory (address / 8 * 8 + lane))) within
-    ∙ ap (option_map (λ word. lane_byte word lane)) (word_at-near memory (address / 8 * 8 + lane) address (omega arith) (omega arith))
+byte_at_address-lane memory address lane below = grind (arith, below)

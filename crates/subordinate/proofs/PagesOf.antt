@@ -1,5 +1,5 @@
 -- Good pages by their numbers and their words: what is found by number is what the memory holds.
-use Rattle.std.proofs.Common.{◌≡◌, ℕ, zero, suc, ◌+◌, ◌/◌, ◌==◌, Bool, cond, not, List, [], ◌∷◌, length, map, get_or, position, refl, sym, ◌∙◌, ap, arith}
+use Rattle.std.proofs.Common.{◌≡◌, ℕ, zero, suc, ◌/◌, ◌==◌, Bool, List, [], ◌∷◌, length, map, get_or, position, refl, sym, ◌∙◌, ap, arith}
 use Rattle.std.proofs.Math.ListN.{set}
 use Rattle.std.proofs.lemmas.List.{get_or_default}
 use Rattle.std.specs.List.{position_or_len}
@@ -24,8 +24,7 @@ position_or_len-pages_of : (number : ℕ) (numbers : List ℕ) (pages : List (Li
     → position_or_len (λ page. page.number == number) (pages_of numbers pages) ≡ position_or_len (λ n. n == number) numbers
 position_or_len-pages_of number [] pages same = refl
 position_or_len-pages_of number (n ∷ numbers) [] same = absurd (omega arith)
-position_or_len-pages_of number (n ∷ numbers) (words ∷ pages) same =
-    ap (λ (k : ℕ). cond (not (n == number)) (1 + k) 0) (position_or_len-pages_of number numbers pages (omega arith))
+position_or_len-pages_of number (n ∷ numbers) (words ∷ pages) same = grind (arith, same, position_or_len-pages_of number numbers pages (omega arith))
 
 length-pages_of : (numbers : List ℕ) (pages : List (List ℕ)) → length pages ≡ length numbers → length (pages_of numbers pages) ≡ length numbers
 length-pages_of [] pages same = refl

@@ -1,13 +1,12 @@
 -- The rows of queues, and the serials that callers see in them.
-use Rattle.std.proofs.Common.{◌≡◌, ℕ, ◌<◌, List, [], ◌∷◌, drop, length, get_or, map, refl, sym, ◌∙◌, ap, arith}
+use Rattle.std.proofs.Common.{◌≡◌, ℕ, ◌<◌, List, [], drop, length, get_or, map, sym, ◌∙◌, ap, arith}
 use Rattle.std.proofs.Math.ListN.{set}
 use Rattle.std.proofs.lemmas.List.{get_or-map, length-map, map-set}
 use Rattle.std.specs.List.{remove}
 use Rattle.arrayvec.specs.ArrayVec.{ArrayVec}
 
 pub remove_first : (xs : List ℕ) → remove xs 0 ≡ drop 1 xs
-remove_first [] = refl
-remove_first (x ∷ xs) = refl
+remove_first xs = grind arith
 
 pub row_at : (rows : List (ArrayVec ℕ)) (now : List (List ℕ)) (k : ℕ) (row : ArrayVec ℕ) → map (λ (r : ArrayVec ℕ). r.items) rows ≡ now → k < length now → row ≡ get_or rows k row → row.items ≡ get_or now k []
 row_at rows now k row view inside is =

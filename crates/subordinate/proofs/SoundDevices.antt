@@ -23,8 +23,6 @@ use Rattle.subordinate.specs.Laws.{HasAnswered, IsBeatOf, IsPerformed, IsSoundMe
 use Rattle.subordinate.proofs.GoodPages.{good_pages-after}
 use Rattle.subordinate.specs.declared.BeatState.{BeatState}
 use Rattle.subordinate.specs.declared.BeatState.TheVariants.{Waiting, Written, Captured}
-use Rattle.subordinate.proofs.FaultLaws.{read_plain}
-use Rattle.subordinate.specs.Faults.{is_bad, standing_at}
 use Rattle.subordinate.proofs.OpenBursts.{all-placed, count_in_queue, known_beside, pending_after_r-last, pending_after_r-more, position-serial, rises-append, rises-change_first, rises-without_first, serial_at}
 use Rattle.subordinate.proofs.BeatStates.{set_performed}
 
@@ -89,14 +87,12 @@ sound-newly bus_bytes serial burst legal =
     }
   where
     none_answered : (burst : Burst) → HasAnswered burst 0
-    none_answered (WriteBurst aw ws) = refl
-    none_answered (ReadBurst ar) = tt
+    none_answered burst = grind arith
 
 -- ---- all of them
 
 queue_below : (burst : Burst) → id_of burst < 16 → queue_of_burst burst < 32
-queue_below (WriteBurst aw ws) known = omega (arith, known)
-queue_below (ReadBurst ar) known = omega (arith, known)
+queue_below burst known = grind (arith, known)
 
 -- a burst that was sent
 pub sound-append : (memory : FreeMemory) (burst : Burst) → IsSoundMemory memory → IsLegal memory.bus_bytes burst → id_of burst < 16
@@ -173,12 +169,7 @@ performing bus_bytes pages changed pending sent closed test k beat p state place
 pub room-close : (open_bursts closed spare open_after closed_after spare_after room_of_closed room_of_spare new_closed new_spare : ℕ) → HasRoom open_bursts closed spare room_of_closed room_of_spare
     → open_after + 1 ≡ open_bursts → closed_after ≡ closed + 1 → spare_after ≡ spare + 1 → room_of_closed ≤ new_closed → room_of_spare ≤ new_spare → HasRoom open_after closed_after spare_after new_closed new_spare
 room-close open_bursts closed spare open_after closed_after spare_after room_of_closed room_of_spare new_closed new_spare room one_less one_more another more_closed more_spare =
-    record {
-      bursts = omega (arith, room.bursts, one_less, one_more);
-      beats = omega (arith, room.beats, one_less, another);
-      for_closed = omega (arith, room.for_closed, more_closed);
-      for_spare = omega (arith, room.for_spare, more_spare);
-    }
+    grind (arith, room, one_less, one_more, another, more_closed, more_spare)
 
 -- and where as many are open as before
 pub room_changed : (open_bursts closed spare room_of_closed room_of_spare : ℕ) {open_after : ℕ} → open_after ≡ open_bursts → HasRoom open_bursts closed spare room_of_closed room_of_spare
@@ -194,8 +185,7 @@ beat_becomes-performed memory burst beat state is = grind arith
 
 -- and is one of its burst
 pub beat_after-of : (memory : FreeMemory) (burst : Burst) (beat : ℕ) → IsBeatOf burst (beat_after memory burst beat)
-beat_after-of memory (WriteBurst aw ws) beat = tt
-beat_after-of memory (ReadBurst ar) beat = read_plain (standing_at memory.faults _) (is_bad memory.faults _)
+beat_after-of memory burst beat = grind arith
 
 captured-is : (state : Option BeatState) → IsSome (captured_at state) → (payload : ℕ) × (resp : Resp) × (state ≡ Some (Captured payload resp))
 captured-is None captured = absurd (cc)
@@ -230,10 +220,7 @@ sound-performed memory pages k beat state p sound within is became becomes =
 pub counting : (bus_bytes : ℕ) (pages : PagesState) (pending : List Pending) (sent : ℕ) (closed : List (Option Burst)) (test : Pending → Bool) (k : ℕ) (p : Pending) → position test pending ≡ Some k
     → p ≡ get_or pending k p → device_state bus_bytes pages (set pending k (with_answer p)) sent closed ≡ after_counting test (device_state bus_bytes pages pending sent closed)
 counting bus_bytes pages pending sent closed test k p place is =
-    let new : change_first test with_answer pending ≡ set pending k (with_answer p) =
-    change_first-first test with_answer pending k p (position_is_first test pending k place) ∙ ap (λ q. set pending k (with_answer q)) (sym is)
-    in
-    rw (← new) refl
+    grind (arith, place, is, set pending k (with_answer p), change_first-first test with_answer pending k p (position_is_first test pending k place))
 
 -- the R of an ID is that of its oldest open read, which the last one closes
 pub answering-last : (device : DeviceState) (id : ℕ) (p : Pending) → find (is_read_of id) device.memory.pending ≡ Some p → gives_last p ≡ true → after_closing (is_read_of id) device ≡ after_r device id
@@ -274,9 +261,4 @@ sending memory (Some burst) full sound legal room =
 pub room-send : (open_bursts closed spare open_after spare_after room_of_closed room_of_spare new_spare : ℕ) → HasRoom open_bursts closed spare room_of_closed room_of_spare
     → open_bursts < 128 → closed ≡ 0 → open_after ≡ open_bursts + 1 → spare_after + 1 ≡ spare → room_of_spare ≤ new_spare → HasRoom open_after closed spare_after room_of_closed new_spare
 room-send open_bursts closed spare open_after spare_after room_of_closed room_of_spare new_spare room fewer none one_more one_less more_spare =
-    record {
-      bursts = omega (arith, fewer, none, one_more);
-      beats = omega (arith, room.beats, one_more, one_less);
-      for_closed = room.for_closed;
-      for_spare = omega (arith, room.for_spare, more_spare);
-    }
+    grind (arith, room, fewer, none, one_more, one_less, more_spare)

@@ -44,8 +44,7 @@ covered_within bus_bytes start len size n lane is covered =
 
 address_parts : (bus_bytes address len size burst_type n : ℕ) → IsBusWidth bus_bytes → is_legal_address bus_bytes address len size burst_type ≡ true → 1 ≤ n → n ≤ len + 1
     → IsTransferOf bus_bytes address len size n
-address_parts bus_bytes address len size burst_type n width legal first last =
-    record { width = width; fits = grind (arith, legal); first = first; last = last; one_page = grind (arith, legal) }
+address_parts bus_bytes address len size burst_type n width legal first last = grind (arith, width, legal, first, last)
 
 -- what is right of all W beats is right of each
 data_at : (bus_bytes : ℕ) (aw : AwBeat) (from : ℕ) (ws : List WBeat) (beat : ℕ) (w : WBeat)
