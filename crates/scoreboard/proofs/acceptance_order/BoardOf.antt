@@ -15,7 +15,7 @@ use Rattle.config.specs.Configs.{axi_port_of, port_of}
 use Rattle.meaning.specs.Meaning.{Bytes, bytes_after_all}
 use Rattle.setups.specs.Setups.{faults_of}
 use Rattle.scoreboard.specs.Boards.{Beginning, Board, ClientBoard, opening_client, opening_from}
-use Rattle.scoreboard.specs.Flights.{Footprint, no_flights}
+use Rattle.scoreboard.specs.Flights.{Footprint}
 use Rattle.scoreboard.specs.InTurn.{DueBeat, dues_of}
 use Rattle.scoreboard.specs.Observed.{Observed, nothing_observed, requests_in}
 use Rattle.scoreboard.specs.Right.{IsRightNow, acts, is_of, replies_from, replies_to, unknown_after, unknown_after_all}
@@ -60,10 +60,6 @@ pub record IsBoardOf (beginning : Beginning) (observed : Observed) (board : Boar
 
 -- ---- at the start
 
-owed_open : (source : ℕ) → IsOwed [] [] no_flights source
-owed_open source =
-    record { is_told = told_nothing.is_told; left_is = refl; has_begun = λ partly. absurd (omega (arith, partly.some_left)); partly = λ is. absurd (cc (is)) }
-
 pub right_opens : (beginning : Beginning) → IsRightNow beginning nothing_observed
 right_opens beginning =
     record {
@@ -78,10 +74,7 @@ right_opens beginning =
 clients_open : (beginning : Beginning) (from count number : ℕ) (client : ClientBoard) → slice_get (map (opening_client beginning.lists.config) (range_with_len from count)) number ≡ Some client
     → IsClientOf beginning nothing_observed (from + number) client
 clients_open beginning from zero number client is = absurd (cc (is))
-clients_open beginning from (suc count) zero client is =
-    let found : opening_client beginning.lists.config from ≡ client = cc (is) in
-    let first : from + 0 ≡ from = omega arith in
-    rw (first, ← found) (record { limits = refl; front = refl; dues = tt; owed = owed_open })
+clients_open beginning from (suc count) zero client is = grind (arith, is, beginning.lists.config)
 clients_open beginning from (suc count) (suc number) client is =
     let next : from + suc number ≡ from + 1 + number = omega arith in
     rw next (clients_open beginning (from + 1) count number client is)

@@ -68,11 +68,8 @@ without_beat flights source flight rest = option_to_list (with_left flight rest)
 
 pub dues_without_beat : (flights : List InFlight) (flight : InFlight) (rest : List DBeat) → AreDues flights → AreOf flight.source rest → AreDues (without_beat flights flight.source flight rest)
 dues_without_beat flights flight [] dues own = dues_without (is_of_source flight.source) flights dues
-dues_without_beat flights flight (beat ∷ rest) dues own = (
-  record { some = λ none. cc (none); own = own },
-  none_more flight.source flights dues,
-  dues_without (is_of_source flight.source) flights dues,
-)
+dues_without_beat flights flight (beat ∷ rest) dues own =
+    grind (arith, dues, own, none_more flight.source flights dues, dues_without (is_of_source flight.source) flights dues)
 
 pub left_without_beat : (flights : List InFlight) (flight : InFlight) (rest : List DBeat) → AreDues flights → beats_in (find (is_of_source flight.source) (without_beat flights flight.source flight rest)) ≡ dues_of flight.footprint rest
 left_without_beat flights flight [] dues = ap beats_in (none_more flight.source flights dues)

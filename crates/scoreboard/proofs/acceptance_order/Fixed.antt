@@ -3,7 +3,6 @@ use Rattle.std.proofs.Common.{◌≡◌, ℕ, ◌+◌, ◌-◌, ◌*◌, ◌^◌
 use Rattle.std.specs.Prelude.{is_some}
 use Rattle.std.proofs.Math.Path.{fun_ext}
 use Rattle.std.proofs.lemmas.Bool.{and_parts}
-use Rattle.std.proofs.Math.Bool.{and-false}
 use Rattle.bus_words.specs.Lanes.{given_at, word_address}
 use Rattle.burst_plan.specs.PageMap.{address_of}
 use Rattle.setups.specs.Setups.{SetupLists, faults_of}
@@ -50,8 +49,7 @@ same_unknown footprint k beat lane = by_test (is_fixed footprint) refl
 pub dues_unless_fixed : (footprint : Footprint) (beats : List DBeat) → dues_of (unless_fixed footprint) beats ≡ dues_of footprint beats
 dues_unless_fixed footprint [] = refl
 dues_unless_fixed footprint (beat ∷ rest) =
-    ap₂ (λ (unknown : ℕ → Bool) (dues : List DueBeat). record { beat = beat; unknown = unknown } ∷ dues)
-    (fun_ext (same_unknown footprint (beats_of footprint.size true - length (beat ∷ rest)) beat)) (dues_unless_fixed footprint rest)
+    grind (arith, same_unknown footprint (beats_of footprint.size true - length (beat ∷ rest)) beat, dues_unless_fixed footprint rest)
 
 -- one that reads nothing tells nothing that isn't known
 pub dues_silent : (footprint : Footprint) (beats : List DBeat) → footprint.reads ≡ false → dues_of footprint beats ≡ dues_of no_footprint beats
@@ -68,9 +66,7 @@ abbrev pub known_alone : Option ℕ → WholeRequest → Footprint
 known_alone place q = record (alone (λ x. false) place q) { reads = false }
 
 pub kept_known : (place : Option ℕ) (q : WholeRequest) → unless_fixed (alone (λ x. false) place q) ≡ known_alone place q
-kept_known place q =
-    ap (λ (reads : Bool). record (alone (λ x. false) place q) { reads = reads })
-    (ap (λ (fixed : Bool). (alone (λ x. false) place q).reads && not fixed) (fixed_alone place q) ∙ and-false (alone (λ x. false) place q).reads)
+kept_known place q = grind (arith, fixed_alone place q)
 
 -- and leaves all known
 pub known_after : (place : Option ℕ) (q : WholeRequest) → after_turn (λ x. false) (alone (λ x. false) place q) q.bytes ≡ (λ x. false)
@@ -80,21 +76,18 @@ known_after place q = fun_ext (λ x. grind (arith, fixed_alone place q))
 pub in_turn_known : (board : Board) (number : ℕ) (client : ClientBoard) (q : WholeRequest) (place : Option ℕ)
     → in_turn_on (record board { indeterminate = λ x. false }) number client q (alone (λ x. false) place q)
     ≡ with_taken (record board { indeterminate = λ x. false }) number client q (known_alone place q)
-in_turn_known board number client q place =
-    ap₂ {C = Board} (λ (footprint : Footprint) (unknown : ℕ → Bool). record (with_taken board number client q footprint) { indeterminate = unknown }) (kept_known place q) (known_after place q)
+in_turn_known board number client q place = grind (arith, kept_known place q, known_after place q)
 
 -- and a beat of a reply without a footprint is compared whole
 pub in_turn_alone : (beats : List DBeat) (beat : DBeat) → wrong_in_turn (dues_of no_footprint beats) beat ≡ wrong_beat beats beat
-in_turn_alone [] beat = refl
-in_turn_alone (due ∷ rest) beat = refl
+in_turn_alone beats beat = grind arith
 
 -- ---- from zeros
 
 -- no request leaves what isn't known
 nothing_unknown : (setup : SetupLists) (qs : List WholeRequest) → unknown_after_all setup (λ x. false) qs ≡ (λ x. false)
 nothing_unknown setup [] = refl
-nothing_unknown setup (q ∷ qs) =
-    ap (λ (unknown : ℕ → Bool). unknown_after_all setup unknown qs) (known_after (on_good_page (faults_of setup) (address_of setup.regions q)) q) ∙ nothing_unknown setup qs
+nothing_unknown setup (q ∷ qs) = grind (arith, known_after (on_good_page (faults_of setup) (address_of setup.regions q)) q, nothing_unknown setup qs)
 
 -- so that each reply is compared whole
 pub dues_from_zeros : (setup : SetupLists) (qs : List WholeRequest) (q : WholeRequest) (beats : List DBeat)

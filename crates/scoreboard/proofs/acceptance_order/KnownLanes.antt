@@ -1,18 +1,16 @@
 -- The lanes of a beat of which it is known what is due there: as a mask has them, and how a beat is compared by them.
-use Rattle.std.proofs.Common.{◌≡◌, ℕ, zero, suc, ◌+◌, ◌-◌, ◌<◌, Bool, true, false, ◌&&◌, ◌||◌, not, if◌then◌else◌, List, [], ◌∷◌, length, Option, Some, None, refl, sym, ◌∙◌, ap, ap₂, arith}
+use Rattle.std.proofs.Common.{◌≡◌, ℕ, zero, suc, ◌+◌, ◌-◌, ◌<◌, Bool, true, false, ◌||◌, not, if◌then◌else◌, List, [], ◌∷◌, length, Option, Some, None, refl, sym, ◌∙◌, ap, ap₂, arith}
 use Rattle.std.specs.Prelude.{◌≢◌, slice_get}
 use Rattle.std.specs.Cmp.{booleans_Decides}
 use Rattle.std.specs.List.{list_any, range_with_len}
 use Rattle.std.proofs.lemmas.Bool.Decides.{nat_tests}
 use Rattle.bus_words.specs.Lanes.{has_lane}
 use Rattle.bus_words.specs.Tables.{first_broken}
-use Rattle.bus_words.proofs.MaskLaws.{mask_of-has_lane, mask_of-same}
-use Rattle.bus_words.proofs.Ranges.{one_passes}
 use Rattle.tl_messages.specs.declared.DBeat.{DBeat}
 use Rattle.tl_messages.specs.Operations.{beats_of}
-use Rattle.scoreboard.specs.Boards.{is_payload, reply_rules, unless_indeterminate, wrong_by, wrong_in_turn, wrong_reply}
+use Rattle.scoreboard.specs.Boards.{reply_rules, unless_indeterminate, wrong_by, wrong_in_turn, wrong_reply}
 use Rattle.scoreboard.specs.Flights.{InFlight}
-use Rattle.scoreboard.specs.InTurn.{DueBeat, agrees_where_known, as_known, differs_known, dues_of, is_unknown_in}
+use Rattle.scoreboard.specs.InTurn.{DueBeat, agrees_where_known, as_known, dues_of, is_unknown_in}
 use Rattle.scoreboard.specs.declared.Policy.{Policy}
 use Rattle.scoreboard.specs.declared.Policy.TheVariants.{AcceptanceOrder, RealTime}
 use Rattle.scoreboard.specs.declared.ReplyRule.TheVariants.{Unasked}
@@ -21,18 +19,7 @@ use Rattle.scoreboard.specs.declared.ReplyRule.{ReplyRule}
 
 -- a mask with any bit has a lane
 pub some_lane : (mask : ℕ) → mask < 256 → mask ≢ 0 → list_any (has_lane mask) (range_with_len 0 8) ≡ true
-some_lane mask fits some = by_test (list_any (has_lane mask) (range_with_len 0 8)) refl
-  where
-    none : list_any (has_lane mask) (range_with_len 0 8) ≡ false → (lane : ℕ) → lane < 8 → has_lane mask lane ≡ false
-    none is lane below = by_lane (has_lane mask lane) refl
-      where
-        by_lane : (b : Bool) → has_lane mask lane ≡ b → has_lane mask lane ≡ false
-        by_lane false without = without
-        by_lane true has = let at : 0 + lane ≡ lane = omega arith in absurd (cc (is, one_passes (has_lane mask) 0 8 lane below (rw at has)))
-
-    by_test : (b : Bool) → list_any (has_lane mask) (range_with_len 0 8) ≡ b → list_any (has_lane mask) (range_with_len 0 8) ≡ true
-    by_test true is = is
-    by_test false is = absurd (some (sym (mask_of-has_lane mask fits) ∙ mask_of-same (has_lane mask) (λ lane. false) (none is)))
+some_lane mask fits some = grind (arith, fits, some)
 
 -- tests that say the same of numbers from one on say the same of a range
 any_same : (f g : ℕ → Bool) (from n : ℕ) → ((k : ℕ) → k < n → f (from + k) ≡ g (from + k)) → list_any f (range_with_len from n) ≡ list_any g (range_with_len from n)
@@ -49,19 +36,12 @@ any_same f g from (suc n) same =
 -- it is by its eight lanes whether a beat agrees
 pub agrees_same : (due beat : DBeat) (f g : ℕ → Bool) → ((lane : ℕ) → lane < 8 → f lane ≡ g lane)
     → agrees_where_known (record { beat = due; unknown = f }) beat ≡ agrees_where_known (record { beat = due; unknown = g }) beat
-agrees_same due beat f g same =
-    ap₂ (λ (some other : Bool). some && not other) (any_same f g 0 8 (λ k below. same (0 + k) (omega (arith, below))))
-    (any_same (differs_known f due.payload beat.payload) (differs_known g due.payload beat.payload) 0 8 (λ k below. rw (same (0 + k) (omega (arith, below))) refl))
+agrees_same due beat f g same = grind (arith, same)
 
 -- ---- by which rule a beat is wrong
 
 keeps : (rule : Option ReplyRule) → unless_indeterminate true rule ≡ rule
-keeps None = refl
-keeps (Some rule) = by_test (is_payload rule)
-  where
-    by_test : (b : Bool) → (if b && false then None else Some rule) ≡ Some rule
-    by_test true = refl
-    by_test false = refl
+keeps rule = grind arith
 
 -- by the rule by which it is wrong without that, but for its payload, where it agrees
 pub rule_where_known : (due : DueBeat) (beat : DBeat)

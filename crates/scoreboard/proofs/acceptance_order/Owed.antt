@@ -3,7 +3,7 @@ use Rattle.std.proofs.Common.{◌≡◌, Bool, ℕ, ◌==◌, true, false, ◌&&
 use Rattle.std.specs.Prelude.{◌≢◌, is_some, nat_lt}
 use Rattle.std.specs.List.{find}
 use Rattle.std.specs.Option.{option_to_list}
-use Rattle.std.proofs.lemmas.Bool.{eq-eqb, eqb-true, ne_eqb}
+use Rattle.std.proofs.lemmas.Bool.{eq-eqb, eqb-true}
 use Rattle.std.proofs.lemmas.Bool.Decides.{eqb_tells, nat_tests}
 use Rattle.std.specs.Cmp.{booleans_Decides}
 use Rattle.std.proofs.lemmas.List.{append_assoc}
@@ -242,12 +242,8 @@ owed_own flights flight replies told none owed =
 
 pub owed_other : (flights : Flights) (flight : InFlight) (other : ℕ) (replies : List (List DueBeat)) (told : List DBeat) → other ≢ flight.source → IsOwed replies told flights other
     → IsOwed replies told (with_flight flight flights) other
-owed_other flights flight other replies told differs owed =
-    let same : flying_of (with_flight flight flights) other ≡ flying_of flights other =
-    ap (find (is_of_source other)) (flying_with flights flight) ∙ find-append-fails (is_of_source other) (flying flights) flight (ne_eqb flight.source other (λ is. differs (sym is))) in
-    record { is_told = owed.is_told; left_is = owed.left_is ∙ ap beats_in (sym same); has_begun = owed.has_begun; partly = owed.partly }
+owed_other flights flight other replies told differs owed = grind (arith, differs, owed, find-append-fails (is_of_source other) (flying flights) flight)
 
 -- in order of acceptance it plays no part what was told before
 pub as_untold : (told : Option Bool) (next : Option InFlight) (beat : DBeat) → wrong_reply AcceptanceOrder None next beat ≡ wrong_reply AcceptanceOrder told next beat
-as_untold told None beat = refl
-as_untold told (Some flight) beat = refl
+as_untold told next beat = grind arith

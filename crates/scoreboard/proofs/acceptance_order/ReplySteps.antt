@@ -68,10 +68,7 @@ right_told beginning observed number client beat to right =
         cc (left, empty)
 
     free_at : (other : ℕ) (begun : List ABeat) → IsFree beginning observed other begun → (other ≡ number) ⊎ (other ≢ number) → IsFree beginning (with_reply_beat number beat observed) other begun
-    free_at other [] free is = tt
-    free_at other (first ∷ rest) free (inl same) =
-        rw (told_other observed number beat other first.source (inr (differs_from first (subst (λ n. left_of (replies_to beginning observed n first.source) (observed.told n first.source) ≡ []) same free)))) free
-    free_at other (first ∷ rest) free (inr differs) = rw (told_other observed number beat other first.source (inl differs)) free
+    free_at other begun free is = grind (arith, free, is)
 
 pub step_reply : (beginning : Beginning) (observed : Observed) (board : Board) (number : ℕ) (client : ClientBoard) (beat : DBeat) → IsBoardOf beginning observed board → slice_get board.clients number ≡ Some client
     → wrong_reply AcceptanceOrder (told_to client) (next_reply client.flights beat.source) beat ≡ None

@@ -1,7 +1,7 @@
 -- A beat on channel A after those of the message that has begun: what its answer says of them all.
-use Rattle.std.proofs.Common.{◌≡◌, ℕ, ◌<◌, ◌==◌, Bool, true, false, not, List, [], ◌∷◌, ◌++◌, length, Some, Ok, refl, ◌∙◌, ap, arith}
+use Rattle.std.proofs.Common.{◌≡◌, ℕ, ◌<◌, ◌==◌, Bool, true, false, List, [], ◌∷◌, ◌++◌, length, Some, Ok, refl, ◌∙◌, ap, arith}
 use Rattle.std.specs.Prelude.{option_map}
-use Rattle.std.proofs.lemmas.Bool.{ne_eqb, not-true}
+use Rattle.std.proofs.lemmas.Bool.{not-true}
 use Rattle.tl_messages.specs.Requests.{WholeRequest, held_of, request_of}
 use Rattle.tl_messages.specs.Operations.{beats_of, opcode_has_data}
 use Rattle.tl_messages.specs.declared.ABeat.{ABeat}
@@ -16,8 +16,7 @@ use Rattle.scoreboard.proofs.acceptance_order.Owed.{eqb_same}
 -- ---- how many beats there are
 
 pub front_lacks : (beats : List ABeat) → length beats < wanted_of beats → is_complete beats ≡ false
-front_lacks [] fewer = refl
-front_lacks (first ∷ rest) fewer = ne_eqb _ _ (λ same. omega (arith, same, fewer))
+front_lacks beats fewer = grind (arith, fewer)
 
 pub spelling_complete : (limits : TlPortLimits) (beats : List ABeat) (q : WholeRequest) → Spells limits beats q → is_complete beats ≡ true
 spelling_complete limits [] q spells = absurd spells
@@ -34,8 +33,7 @@ free_of client [] busy free none = not-true busy free
 free_of client (first ∷ rest) busy free none = absurd (cc (none))
 
 of_free : (client : ℕ) (begun : List ABeat) (busy : Bool) → IsFreeFor begun busy → is_free (held_of client begun) busy ≡ true
-of_free client [] busy free = ap not (free refl)
-of_free client (first ∷ rest) busy free = refl
+of_free client begun busy free = grind (arith, free)
 
 pub record GoesOn (limits : TlPortLimits) (beats : List ABeat) (beat : ABeat) (busy : Bool) : Type 0 where
   pub front : IsFront limits (beats ++ beat ∷ [])
@@ -49,12 +47,7 @@ pub record EndsHere (limits : TlPortLimits) (beats : List ABeat) (beat : ABeat) 
 
 pub goes_on : (limits : TlPortLimits) (beats : List ABeat) (beat : ABeat) (busy : Bool) → IsFront limits beats → judged limits (held_of limits.client beats) beat busy ≡ Ok More → GoesOn limits beats beat busy
 goes_on limits beats beat busy front is =
-    let told = (reads limits beats beat busy front).more.0 is in
-    record {
-      front = told.1;
-      incomplete = front_lacks (beats ++ beat ∷ []) ((front_exact limits (beats ++ beat ∷ [])).0 told.1).1;
-      free = free_of limits.client beats busy told.0;
-    }
+    grind (arith, front, is, reads limits beats beat busy front, front_lacks (beats ++ beat ∷ []), front_exact limits (beats ++ beat ∷ []))
 
 pub ends_here : (limits : TlPortLimits) (beats : List ABeat) (beat : ABeat) (busy : Bool) → IsFront limits beats → judged limits (held_of limits.client beats) beat busy ≡ Ok Whole → EndsHere limits beats beat busy
 ends_here limits beats beat busy front is =

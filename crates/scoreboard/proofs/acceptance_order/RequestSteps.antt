@@ -2,12 +2,11 @@
 use Rattle.std.proofs.Common.{◌≡◌, ℕ, ◌==◌, Bool, true, false, ◌&&◌, List, [], ◌∷◌, ◌++◌, length, zip, Some, None, Result, Ok, Err, if◌then◌else◌, ◌⊎◌, inl, inr, refl, sym, ◌∙◌, ap, ap₂, subst, arith}
 use Rattle.std.proofs.lemmas.Bool.{ne_eqb}
 use Rattle.std.specs.Prelude.{◌≢◌, is_some, option_map, slice_get, slice_set}
-use Rattle.std.proofs.lemmas.Bool.Decides.{eqb_tells}
 use Rattle.std.proofs.lemmas.List.{length-append, length-set}
 use Rattle.std.proofs.lemmas.Option.{slice_get_within}
 use Rattle.bus_words.proofs.PlaceChanges.{all-append}
 use Rattle.bus_words.proofs.StoredPlaces.{get_set, get_set-other}
-use Rattle.tl_messages.specs.Requests.{HeldMessage, WholeRequest, held_of, message_of, request_of}
+use Rattle.tl_messages.specs.Requests.{HeldMessage, WholeRequest, held_of, request_of}
 use Rattle.tl_messages.specs.declared.ABeat.{ABeat}
 use Rattle.tl_checker.specs.Ports.{joined, judged}
 use Rattle.tl_checker.specs.RequestRules.{IsFront, Spells}
@@ -42,10 +41,7 @@ use Rattle.scoreboard.proofs.acceptance_order.Told.{left-nothing, told-reply}
 -- what holds of a client's own beats and of those of each other, holds of all
 at_client : (P : ℕ → List ABeat → Type 0) (number : ℕ) (beats : List ABeat) (old : ℕ → List ABeat) → P number beats → ((client : ℕ) → client ≢ number → P client (old client))
     → (client : ℕ) → P client (if client == number then beats else old client)
-at_client P number beats old own others client = elim (eqb_tells client number) [
-  | inl same ↦ rw same.0 (subst (λ n. P n beats) (sym same.1) own)
-  | inr other ↦ rw other.0 (others client other.1)
-]
+at_client P number beats old own others client = grind (arith, own, others)
 
 -- a client of which the same was observed
 pub client_kept : {beginning : Beginning} {old new : Observed} {number : ℕ} {client : ClientBoard} → IsClientOf beginning old number client → new.begun number ≡ old.begun number
@@ -114,14 +110,12 @@ board_more beginning observed board number client beat of there goes =
 
 -- the request that it completes is the client's
 pub client_of : (number : ℕ) (begun : List ABeat) (beat : ABeat) (message : HeldMessage) → held_of number (begun ++ beat ∷ []) ≡ Some message → message.client ≡ number
-client_of number [] beat message is = cc (is)
-client_of number (first ∷ rest) beat message is = cc (is)
+client_of number begun beat message is = grind (arith, is)
 
 -- of its source nothing is left to tell
 source_free : (beginning : Beginning) (observed : Observed) (number : ℕ) (beats : List ABeat) (message : HeldMessage) → held_of number beats ≡ Some message → IsFree beginning observed number beats
     → left_of (replies_to beginning observed number message.source) (observed.told number message.source) ≡ []
-source_free beginning observed number [] message is free = absurd (cc (is))
-source_free beginning observed number (first ∷ rest) message is free = let same : message_of number first rest ≡ message = cc (is) in rw (← same) free
+source_free beginning observed number beats message is free = grind (arith, is, free)
 
 -- what was observed with a message more
 abbrev pub with_whole : ℕ → List ABeat → Observed → Observed

@@ -1,55 +1,25 @@
 -- W beats that come before their AW: where none is early, a port goes on as one that asks for an AW before its W beats; and how a list of them is taken.
-use Rattle.std.proofs.Common.{◌≡◌, ◌<◌, Bool, true, false, ◌&&◌, List, [], ◌∷◌, ◌++◌, drop, length, slice_index_or, Option, Some, None, if◌then◌else◌, refl, sym, ◌∙◌, ap, arith}
+use Rattle.std.proofs.Common.{◌≡◌, ◌<◌, true, false, ◌&&◌, List, [], ◌∷◌, drop, length, slice_index_or, Option, None, sym, ◌∙◌, ap, arith}
 use Rattle.std.specs.Prelude.{nat_lt}
 use Rattle.std.specs.Option.{option_or}
 use Rattle.axi_beats.specs.declared.AwBeat.{AwBeat}
 use Rattle.axi_beats.specs.declared.WBeat.{WBeat}
 use Rattle.axi_checker.specs.OpenBursts.{OpenBursts}
 use Rattle.axi_checker.specs.declared.AxiBeat.{AxiBeat}
-use Rattle.axi_checker.specs.declared.AxiBeat.TheVariants.{Ar as OnAr, Aw as OnAw, B as OnB, R as OnR, W as OnW}
+use Rattle.axi_checker.specs.declared.AxiBeat.TheVariants.{W as OnW}
 use Rattle.axi_checker.specs.Rules.{AxiPortLimits, axi_fault}
 use Rattle.axi_checker.specs.declared.AxiRule.{AxiRule}
-use Rattle.scoreboard.specs.AxiPorts.{bursts_after, wrong_axi}
+use Rattle.scoreboard.specs.AxiPorts.{bursts_after, wrong_axi, PortBoard, Taken, none_early, wrong_with_early, taken_by, taking, tells_no_write, wrong_first, wrong_in_order}
 use Rattle.scoreboard.specs.declared.Wrong.{Wrong}
-use Rattle.scoreboard.specs.AxiPorts.{PortBoard, Taken, is_early, none_early, after_with_early, wrong_with_early, taken_by, taking, tells_no_write, wrong_first, wrong_in_order}
-
-or_associates : (first second third : Option Wrong) → option_or (option_or first second) third ≡ option_or first (option_or second third)
-or_associates None second third = refl
-or_associates (Some wrong) second third = refl
 
 or_none : (first : Option Wrong) → option_or first None ≡ first
-or_none None = refl
-or_none (Some wrong) = refl
+or_none first = grind arith
 
 -- ---- nothing is early
 
 module _ (limits : AxiPortLimits) (open_bursts : OpenBursts) where
   pub aw_wrong : (aw : AwBeat) (fault : Option AxiRule) → (taken_by (none_early limits open_bursts) aw fault).wrong ≡ wrong_axi fault
   aw_wrong aw fault = or_none (wrong_axi fault)
-
-  aw_after : (aw : AwBeat) (fault : Option AxiRule)
-      → record (none_early limits open_bursts) {
-        open_bursts = (taken_by (none_early limits open_bursts) aw fault).open_bursts;
-        early = (taken_by (none_early limits open_bursts) aw fault).early;
-      }
-      ≡ none_early limits (bursts_after limits open_bursts (OnAw aw) fault)
-  aw_after aw fault = refl
-
-  -- nothing is early after a beat that isn't a W beat without a write
-  pub after_as : (beat : AxiBeat) → tells_no_write (wrong_axi (axi_fault limits open_bursts beat)) ≡ false
-      → after_with_early (none_early limits open_bursts) beat
-      ≡ none_early limits (bursts_after limits open_bursts beat (axi_fault limits open_bursts beat))
-  after_as (OnAw aw) there = aw_after aw (axi_fault limits open_bursts (OnAw aw))
-  after_as (OnW w) there =
-      ap
-      (λ (early : Bool).
-      if early && nat_lt 0 256
-      then record (none_early limits open_bursts) { early = [] ++ w ∷ [] }
-      else none_early limits (bursts_after limits open_bursts (OnW w) (axi_fault limits open_bursts (OnW w))))
-      there
-  after_as (OnB b) there = refl
-  after_as (OnAr ar) there = refl
-  after_as (OnR r) there = refl
 
 -- ---- a list of early beats
 
@@ -68,24 +38,16 @@ module _ (limits : AxiPortLimits) (open_bursts : OpenBursts) (beats : List WBeat
   -- the first has one: it is taken, and then the others
   pub taking_more : tells_no_write verdict ≡ false → wrong_first first (taking limits open_bursts beats)
       ≡ wrong_first (option_or first verdict) (taking limits (bursts_after limits open_bursts (OnW w) (axi_fault limits open_bursts (OnW w))) (drop 1 beats))
-  taking_more none =
-      let goes : tells_no_write (wrong_axi (axi_fault limits open_bursts (OnW w))) ≡ false = ap tells_no_write (sym is) ∙ none in
-      let later = taking limits (bursts_after limits open_bursts (OnW w) (axi_fault limits open_bursts (OnW w))) (drop 1 beats) in
-      ap (λ (ws : List WBeat). wrong_first first (taking limits open_bursts ws)) (by_first beats w some there)
-      ∙ rw (goes, is) (ap (λ (wrong : Option Wrong). record later { wrong = wrong }) (sym (or_associates first (wrong_axi (axi_fault limits open_bursts (OnW w))) later.wrong)))
+  taking_more none = grind (arith, none, is, some, there)
 
 -- none is left: what was wrong so far
 pub taking_ends : (limits : AxiPortLimits) (open_bursts : OpenBursts) (first : Option Wrong)
     → wrong_first first (taking limits open_bursts []) ≡ record { open_bursts = open_bursts; early = []; wrong = first }
-taking_ends limits open_bursts first =
-    ap {B = Taken} (λ (wrong : Option Wrong). record { open_bursts = open_bursts; early = []; wrong = wrong }) (or_none first)
+taking_ends limits open_bursts first = grind arith
 
 -- ---- a W beat that isn't early
 
 -- its verdict is as it would be in order
 pub not_early : (port : PortBoard) (beat : AxiBeat) (w : WBeat) (verdict : Option Wrong) → beat ≡ OnW w → verdict ≡ wrong_in_order port beat
     → (tells_no_write verdict && nat_lt (length port.early) 256) ≡ false → verdict ≡ wrong_with_early port beat
-not_early port beat w verdict is same none =
-    let here : verdict ≡ wrong_in_order port (OnW w) = same ∙ ap (wrong_in_order port) is in
-    let early : is_early port w ≡ false = sym (ap (λ v. tells_no_write v && nat_lt (length port.early) 256) here) ∙ none in
-    here ∙ sym (ap (λ (b : Bool). if b then None else wrong_in_order port (OnW w)) early) ∙ sym (ap (wrong_with_early port) is)
+not_early port beat w verdict is same none = grind (arith, is, same, none)

@@ -40,10 +40,6 @@ failed_by errors memory held place footprint flight failed there is fails =
 abbrev with_footprint : Footprint → FlightState → InFlight
 with_footprint footprint flight = record { source = flight.source; beats = flight.beats; footprint = footprint }
 
-pub flight_carried : (memory : Memory) (held : HeldMessage) (footprint : FootprintState) (flight : FlightState) → flight ≡ carried memory held footprint
-    → flight_of flight ≡ flight_for memory (footprint_of flight.footprint) (request_of held)
-flight_carried memory held footprint flight is = ap (with_footprint (footprint_of flight.footprint)) is
-
 -- one that may have failed since
 pub flight_failed : (memory : Memory) (held : HeldMessage) (footprint : FootprintState) (flight failed : FlightState) → flight ≡ carried memory held footprint
     → failed ≡ record flight { footprint = record flight.footprint { failed = failed.footprint.failed; determined = failed.footprint.determined } }

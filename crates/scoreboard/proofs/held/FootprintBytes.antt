@@ -31,9 +31,6 @@ few_bytes size small = pow_mono {i = size} {j = 12} small
 byte_in_page : (address size i : ℕ) → IsMemoryRange address size → i < 2 ^ size → (address + i) / 4096 ≡ address / 4096
 byte_in_page address size i range below = in_page 8 address size i (inr refl) range.small range.aligned below
 
-pub room_byte : (rooms : ℕ → Bool) (address size i : ℕ) → IsMemoryRange address size → i < 2 ^ size → rooms (address / 4096) ≡ true → rooms ((address + i) / 4096) ≡ true
-room_byte rooms address size i range below room = ap rooms (byte_in_page address size i range below) ∙ room
-
 pub byte_exists : (address size i : ℕ) → address < 2 ^ 32 → IsMemoryRange address size → i < 2 ^ size → address + i < 2 ^ 32
 byte_exists address size i low range below = omega (arith, low, byte_in_page address size i range below)
 
@@ -109,14 +106,6 @@ by_word a size masks told range each x = by_test (nat_le a x && nat_lt x (a + 2 
         let at = within a (2 ^ size) x is in
         each (x / 8 - a / 8) (x % 8) (place_below a size x range at.0 at.1) (omega arith) ∙ ap told (place_of_byte a x at.0)
 
--- a lane of a word of a range
-pub lane_determined : (r : FootprintState) (k lane : ℕ) → lane < 8 → determined_in r (word_address r.address + 8 * k + lane)
-    ≡ (covers (footprint_of r) (word_address r.address + 8 * k + lane) && has_lane (get_or r.determined k 0) lane)
-lane_determined r k lane below =
-    let word : (word_address r.address + 8 * k + lane) / 8 - r.address / 8 ≡ k = omega (arith, below) in
-    let own : (word_address r.address + 8 * k + lane) % 8 ≡ lane = omega (arith, below) in
-    rw (word, own) refl
-
 -- the address of a word of a range is that of a word
 pub word_again : (a k : ℕ) → word_address (word_address a + 8 * k) ≡ word_address a + 8 * k
 word_again a k = omega arith
@@ -124,17 +113,12 @@ word_again a k = omega arith
 -- ---- the lanes of a word
 
 pub word_within : (a size word : ℕ) → (nat_le (a / 8) (word / 8) && nat_lt (word / 8 - a / 8) (words_of size)) ≡ true → (a / 8 ≤ word / 8) × (word / 8 - a / 8 < words_of size)
-word_within a size word is =
-    let parts = and_parts (nat_le (a / 8) (word / 8)) (nat_lt (word / 8 - a / 8) (words_of size)) is in
-    (leb-true (a / 8) (word / 8) parts.0, ltb-true (word / 8 - a / 8) (words_of size) parts.1)
+word_within a size word is = grind (arith, is)
 
 -- a byte of a word that has one of a request's
 pub lane_of_word : (r : FootprintState) (word lane : ℕ) → word % 8 ≡ 0 → lane < 8
     → (covers (footprint_of r) (word + lane) && has_lane (get_or r.determined (word / 8 - r.address / 8) 0) lane) ≡ determined_in r (word + lane)
-lane_of_word r word lane whole less =
-    let place : (word + lane) / 8 ≡ word / 8 = omega (arith, whole, less) in
-    let own : (word + lane) % 8 ≡ lane = omega (arith, whole, less) in
-    rw (place, own) refl
+lane_of_word r word lane whole less = grind (arith, whole, less)
 
 -- none is a request's that has no byte in the word
 pub not_own : (a size word lane : ℕ) → IsMemoryRange a size → word % 8 ≡ 0 → lane < 8 → (nat_le (a / 8) (word / 8) && nat_lt (word / 8 - a / 8) (words_of size)) ≡ false
@@ -167,9 +151,7 @@ own_lane a size word lane range whole less has = elim (cases_lt size 3) [
 
 -- a word of a range is one of its own
 own_word : (a size k : ℕ) → k < words_of size → (nat_le (a / 8) ((word_address a + 8 * k) / 8) && nat_lt ((word_address a + 8 * k) / 8 - a / 8) (words_of size)) ≡ true
-own_word a size k below =
-    let word : (word_address a + 8 * k) / 8 ≡ a / 8 + k = omega arith in
-    rw word (grind (arith, nat_tests, below))
+own_word a size k below = grind (arith, below)
 
 -- those of one of its own words
 pub own_lane_of_word : (a size k lane : ℕ) → IsMemoryRange a size → k < words_of size → lane < 8
@@ -196,9 +178,7 @@ past_own r k lane range less past = by_test (covers (footprint_of r) (word_addre
 
 -- nor determined
 pub past_words : (r : FootprintState) (k lane : ℕ) → IsMemoryRange r.address r.size → lane < 8 → words_of r.size ≤ k → determined_in r (word_address r.address + 8 * k + lane) ≡ false
-past_words r k lane range less past =
-    ap (λ (b : Bool). b && has_lane (get_or r.determined ((word_address r.address + 8 * k + lane) / 8 - r.address / 8) 0) ((word_address r.address + 8 * k + lane) % 8))
-    (past_own r k lane range less past)
+past_words r k lane range less past = grind (arith, range, less, past, past_own r k lane range less past)
 
 -- a word of a range is in its page
 pub room_word : (rooms : ℕ → Bool) (address size k : ℕ) → IsMemoryRange address size → k < words_of size → rooms (address / 4096) ≡ true → rooms ((word_address address + 8 * k) / 4096) ≡ true

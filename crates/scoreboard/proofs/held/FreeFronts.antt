@@ -7,9 +7,7 @@ use Rattle.bus_words.specs.Places.{without_first}
 use Rattle.tl_messages.specs.Requests.{HeldMessage}
 use Rattle.tl_messages.specs.Operations.{opcode_of, operation_of, param_of}
 use Rattle.tl_messages.specs.declared.ABeat.{ABeat}
-use Rattle.tl_messages.specs.declared.AtomicOp.TheVariants.{Add, And, Max, MaxU, Min, MinU, Or, Swap, Xor}
 use Rattle.tl_messages.specs.declared.Operation.{Operation}
-use Rattle.tl_messages.specs.declared.Operation.TheVariants.{Atomic, Get, Intent, PutFull, PutPartial}
 use Rattle.tl_checker.specs.Ports.{PortState, joined, judged, port_after}
 use Rattle.tl_checker.specs.RequestRules.{TlPortLimits}
 use Rattle.tl_checker.specs.declared.Progress.{Progress}
@@ -17,10 +15,9 @@ use Rattle.tl_checker.specs.declared.Progress.TheVariants.{More, Whole}
 use Rattle.tl_checker.specs.declared.TlRule.{TlRule}
 use Rattle.tl_checker.proofs.BeatRules.{first_none, later_none, later_parts, right_named}
 use Rattle.tl_checker.proofs.Taking.{answered_parts}
-use Rattle.scoreboard.specs.Flights.{Flights, Footprint, InFlight, begun_is_of, due_after, each_flight, flights_after, is_busy, is_of_source}
+use Rattle.scoreboard.specs.Flights.{Flights, Footprint, each_flight, flights_after, is_busy, is_of_source}
 use Rattle.scoreboard.specs.InsideBoards.{IsAskedBy, IsFirstBeat, IsFrontFree, flight_changed, front_corrupt}
 use Rattle.scoreboard.specs.declared.Policy.{Policy}
-use Rattle.scoreboard.specs.declared.Policy.TheVariants.{AcceptanceOrder, RealTime}
 use Rattle.scoreboard.proofs.MappedLists.{any_map}
 use Rattle.scoreboard.proofs.real_time.FirstBeats.{more_beats, more_no_data_back}
 
@@ -33,8 +30,7 @@ none_without_first p q (x ∷ xs) none = let parts = or_parts (p x) (list_any p 
 -- ---- a beat on channel A
 
 not_busy : (policy : Policy) (flights : Flights) (source : ℕ) → is_busy policy flights source ≡ false → list_any (is_of_source source) flights.due ≡ false
-not_busy AcceptanceOrder flights source free = (or_parts (list_any (is_of_source source) flights.due) (begun_is_of source flights.begun) free).0
-not_busy RealTime flights source free = free
+not_busy policy flights source free = grind (arith, free)
 
 -- the message with a beat that is taken is of a free source
 pub joined_free : (policy : Policy) (limits : TlPortLimits) (front : Option HeldMessage) (beat : ABeat) (flights : Flights) (told : Progress) → IsFrontFree front flights
@@ -45,8 +41,7 @@ joined_free policy limits (Some held) beat flights told free is = free
 
 -- a message is corrupt if a beat of it is
 corrupt_joined : (limits : TlPortLimits) (front : Option HeldMessage) (beat : ABeat) → (front_corrupt front || beat.corrupt) ≡ (joined limits front beat).corrupt
-corrupt_joined limits None beat = refl
-corrupt_joined limits (Some held) beat = refl
+corrupt_joined limits front beat = grind arith
 
 -- a port that has taken a beat, of a message of which more are to come
 pub more_right : (policy : Policy) (port taken : PortState) (beat : ABeat) (flights : Flights) (answer : Result Progress TlRule) (corrupt : Bool) → port.whole ≡ None → port.limits.max_size ≤ 12
@@ -74,19 +69,14 @@ first_taken limits (Some held) beat busy small begun is = absurd (cc (begun))
 -- the request that stands whole is the message with the beat
 pub whole_joined : (port taken : PortState) (beat : ABeat) (answer : Result Progress TlRule) (request : HeldMessage) → taken ≡ port_after port beat answer
     → taken.whole ≡ Some request → answer ≡ Ok Whole → request ≡ joined port.limits port.front beat
-whole_joined port taken beat answer request becomes stands whole =
-    let stood : Some request ≡ Some (joined port.limits port.front beat) = sym stands ∙ ap (λ (p : PortState). p.whole) (becomes ∙ ap (port_after port beat) whole) in
-    cc (stood)
+whole_joined port taken beat answer request becomes stands whole = grind (arith, becomes, stands, whole)
 
 -- ---- what is due gets less, or as it was
 
 pub front_after_reply : (front : Option HeldMessage) (flights : Flights) (source : ℕ) → IsFrontFree front flights → IsFrontFree front (flights_after flights source)
 front_after_reply None flights source free = tt
-front_after_reply (Some held) flights source free = by_begun flights.begun
-  where
-    by_begun : (begun : Option InFlight) → list_any (is_of_source held.source) (due_after begun flights.due source) ≡ false
-    by_begun None = none_without_first (is_of_source held.source) (is_of_source source) flights.due free
-    by_begun (Some flight) = free
+front_after_reply (Some held) flights source free =
+    grind (arith, free, none_without_first (is_of_source held.source) (is_of_source source) flights.due free)
 
 pub front_changed : (front : Option HeldMessage) (flights : Flights) (change : Footprint → Footprint) → IsFrontFree front flights
     → IsFrontFree front (each_flight (flight_changed change) flights)
@@ -95,20 +85,7 @@ front_changed (Some held) flights change free = any_map (is_of_source held.sourc
 
 -- an operation is the one of its opcode and param
 named_again : (operation : Operation) → operation_of (opcode_of operation) (param_of operation) ≡ operation
-named_again PutFull = refl
-named_again PutPartial = refl
-named_again (Atomic Min) = refl
-named_again (Atomic Max) = refl
-named_again (Atomic MinU) = refl
-named_again (Atomic MaxU) = refl
-named_again (Atomic Add) = refl
-named_again (Atomic Xor) = refl
-named_again (Atomic Or) = refl
-named_again (Atomic And) = refl
-named_again (Atomic Swap) = refl
-named_again Get = refl
-named_again (Intent true) = refl
-named_again (Intent false) = refl
+named_again operation = grind arith
 
 -- a request that is whole with a beat asks what the beat asks
 pub asked_by : (limits : TlPortLimits) (front : Option HeldMessage) (beat : ABeat) (busy : Bool) (told : Progress) → judged limits front beat busy ≡ Ok told → IsAskedBy (joined limits front beat) beat

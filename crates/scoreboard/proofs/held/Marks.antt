@@ -2,7 +2,7 @@
 use Rattle.std.proofs.Common.{◌≡◌, ℕ, ◌+◌, ◌-◌, ◌*◌, ◌/◌, ◌%◌, ◌^◌, ◌<◌, ◌≤◌, ◌==◌, Bool, true, false, ◌&&◌, List, [], ◌∷◌, Option, Some, None, length, if◌then◌else◌, refl, sym, ◌∙◌, ap, arith, true≢false, inl, inr}
 use Rattle.std.specs.Prelude.{is_some, nat_le, nat_lt, slice_get}
 use Rattle.std.proofs.Math.Path.{fun_ext}
-use Rattle.std.proofs.lemmas.Bool.{cases_lt, eqb-true}
+use Rattle.std.proofs.lemmas.Bool.{cases_lt}
 use Rattle.std.proofs.lemmas.Bool.Decides.{nat_tests}
 use Rattle.bus_words.specs.Lanes.{given_at, has_lane, lane_byte, word_address}
 use Rattle.bus_words.proofs.PlaceChanges.{all-got}
@@ -38,18 +38,7 @@ marked_then first next = record { memory = next.memory ∙ first.memory; rooms =
 pub word_marked : (passes told now new : ℕ → Bool) (word flags mask : ℕ) → new ≡ put_flags word flags mask now → word % 8 ≡ 0
     → ((lane : ℕ) → lane < 8 → has_lane mask lane ≡ passes (word + lane)) → ((lane : ℕ) → lane < 8 → has_lane flags lane ≡ told (word + lane)) → (x : ℕ)
     → new x ≡ (if passes x && word_address x == word then told x else now x)
-word_marked passes told now new word flags mask is whole strobes marks x = ap (λ (f : ℕ → Bool). f x) is ∙ by_test (word_address x == word) refl
-  where
-    own : word_address word ≡ word
-    own = omega (arith, whole)
-
-    by_test : (b : Bool) → (word_address x == word) ≡ b → put_flags word flags mask now x ≡ (if passes x && b then told x else now x)
-    by_test true here =
-        let place : word + x % 8 ≡ x = omega (arith, eqb-true (word_address x) word here) in
-        let strobe : has_lane mask (x % 8) ≡ passes x = strobes (x % 8) (omega arith) ∙ ap passes place in
-        let mark : has_lane flags (x % 8) ≡ told x = marks (x % 8) (omega arith) ∙ ap told place in
-        rw (own, here, strobe, mark) (grind arith)
-    by_test false other = rw (own, other) (grind arith)
+word_marked passes told now new word flags mask is whole strobes marks x = grind (arith, is, whole, strobes, marks)
 
 -- ---- the words before a place, their bytes marked where they pass a test; the others as they were
 
@@ -58,11 +47,7 @@ module _ (passes told d : ℕ → Bool) (address size : ℕ) (inside : (x : ℕ)
   marked_to k x = if passes x && nat_lt (word_address x) (word_address address + 8 * k) then told x else d x
 
   pub none_marked : (x : ℕ) → d x ≡ marked_to 0 x
-  none_marked x = by_test (passes x) refl
-    where
-      by_test : (b : Bool) → passes x ≡ b → d x ≡ (if b && nat_lt (word_address x) (word_address address + 8 * 0) then told x else d x)
-      by_test false is = refl
-      by_test true is = let low : nat_lt (word_address x) (word_address address + 8 * 0) ≡ false = grind (arith, nat_tests, (inside x is).0) in rw low refl
+  none_marked x = grind (arith, inside)
 
   pub one_more_marked : (now new : ℕ → Bool) (k : ℕ) → ((x : ℕ) → now x ≡ marked_to k x)
       → ((x : ℕ) → new x ≡ (if passes x && word_address x == word_address address + 8 * k then told x else now x)) → (x : ℕ) → new x ≡ marked_to (k + 1) x
@@ -122,9 +107,7 @@ mask_gives held address k lane checked carries same below less = by_test (nat_le
     range = RequestWords.range held address checked same
 
     enough : k < length held.beats
-    enough =
-        let count : length held.beats ≡ beats_of held.size true = checked.2.beats ∙ ap (beats_of held.size) carries in
-        omega (arith, count, below)
+    enough = grind arith
 
     by_test : (b : Bool) → (nat_le address x && nat_lt x (address + 2 ^ held.size)) ≡ b → has_lane beat.mask lane ≡ gives (bytes_given held) address x
     by_test true is =

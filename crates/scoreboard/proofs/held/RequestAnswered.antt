@@ -10,7 +10,7 @@ use Rattle.tl_checker.specs.Ports.{joined}
 use Rattle.tl_checker.specs.declared.Progress.{Progress}
 use Rattle.tl_checker.specs.declared.Progress.TheVariants.{More, Whole}
 use Rattle.tl_checker.specs.declared.TlRule.{TlRule}
-use Rattle.scoreboard.specs.Boards.{Board, ClientBoard, a_wrong, accepted_on, after_a, answer_to, answered_on, client_beside, client_footprints, coming_on, continued_on, fails, flight_for, footprints_of, has_replied, joining_on, place_on, with_accepted, with_client, with_whole, wrong_request}
+use Rattle.scoreboard.specs.Boards.{Board, ClientBoard, accepted_on, after_a, answer_to, answered_on, client_beside, client_footprints, coming_on, continued_on, fails, flight_for, footprints_of, has_replied, joining_on, place_on, with_accepted, with_client, with_whole}
 use Rattle.scoreboard.specs.Flights.{Footprint, InFlight, is_of_source}
 use Rattle.scoreboard.specs.InTurn.{after_turn, unless_fixed}
 use Rattle.scoreboard.specs.InsideBoards.{ClientState, IsFreeOf, client_of, flights_of, front_after}
@@ -95,9 +95,6 @@ accepted_same RealTime board number client message false there =
 module _ (policy : Policy) (board : Board) (number : ℕ) (found : ClientBoard) (beat : ABeat) (there : slice_get board.clients number ≡ Some found) where
   abbrev message : HeldMessage
   message = joined found.limits found.front beat
-
-  pub wrong_as : (answer : Result Progress TlRule) → answer ≡ answer_to policy found beat → wrong_request answer ≡ a_wrong policy (slice_get board.clients number) beat
-  wrong_as answer is = ap wrong_request is ∙ ap (λ o. a_wrong policy o beat) (sym there)
 
   -- the board with its front after the answer
   abbrev pub with_front : Result Progress TlRule → Board

@@ -28,8 +28,7 @@ others_due source (flight ∷ due) none =
 
 -- one has begun at most
 pub few_begun : {X : Type 0} (begun : Option X) → option_len begun ≤ 1
-few_begun None = omega arith
-few_begun (Some flight) = omega arith
+few_begun begun = grind arith
 
 -- with one more of another source, of which there are so many at most
 pub record AreJoined (room : ℕ) (due : List FlightState) (flight : FlightState) : Type 0 where

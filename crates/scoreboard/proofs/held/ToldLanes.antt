@@ -15,8 +15,7 @@ use Rattle.scoreboard.proofs.held.Sources.{placed}
 
 -- as many pass one test as pass another that says the same of each
 pub lanes_same : (p q : ℕ → Bool) → ((lane : ℕ) → lane < 8 → p lane ≡ q lane) → lanes_with p ≡ lanes_with q
-lanes_same p q same =
-    rw (same 0 (omega arith), same 1 (omega arith), same 2 (omega arith), same 3 (omega arith), same 4 (omega arith), same 5 (omega arith), same 6 (omega arith), same 7 (omega arith)) refl
+lanes_same p q same = grind (arith, same)
 
 -- where none passes
 pub no_lanes : (test : ℕ → Bool) → ((lane : ℕ) → lane < 8 → test lane ≡ false) → 0 ≡ lanes_with test

@@ -44,8 +44,7 @@ abbrev nothing : ℕ → Option ℕ
 nothing i = None
 
 flat_none : (o : Option ℕ) → option_flatten (option_map nothing o) ≡ None
-flat_none None = refl
-flat_none (Some i) = refl
+flat_none o = grind arith
 
 given_none : (n start x : ℕ) → is_some (given_at (map nothing (range_with_len 0 n)) start x) ≡ false
 given_none n start x = by_test (nat_le start x) refl

@@ -2,7 +2,6 @@
 use Rattle.std.proofs.Common.{◌≡◌, ℕ, Bool, true, false, List, [], ◌∷◌, ◌++◌, map, set, Option, Some, None, ◌⊎◌, inl, inr, refl, sym, ◌∙◌, ap, subst, arith}
 use Rattle.std.specs.Prelude.{is_some, option_map, slice_get}
 use Rattle.std.specs.List.{AllByRecursion, list_any}
-use Rattle.std.proofs.lemmas.Bool.Decides.{nat_tests}
 use Rattle.std.proofs.lemmas.Option.{slice_get-map}
 use Rattle.tl_messages.specs.Requests.{WholeRequest}
 use Rattle.burst_plan.specs.declared.Region.{Region}
@@ -15,7 +14,7 @@ use Rattle.scoreboard.specs.Orders.{Order, begun_to, has_ended}
 use Rattle.scoreboard.proofs.real_time.StepOrders.{first_of}
 use Rattle.scoreboard.specs.declared.Errors.TheVariants.{Strict}
 use Rattle.scoreboard.specs.Flights.{Flights, Footprint, InFlight, due_to, is_of_source}
-use Rattle.scoreboard.specs.Races.{alone, beside, beside_all, flight_beside, joining, may_write}
+use Rattle.scoreboard.specs.Races.{alone, beside, beside_all, flight_beside, joining}
 use Rattle.scoreboard.proofs.MappedLists.{any_map}
 use Rattle.scoreboard.proofs.real_time.Apart.{AreAll, IsJoining}
 use Rattle.scoreboard.proofs.real_time.Entries.{Each, IsElsewhere, Stands, any_here, any_with, carry, distinct_with}
@@ -32,23 +31,15 @@ use Rattle.scoreboard.proofs.real_time.RequestActs.{IsWell, acts}
 joins_right : (faults : Faults) (regions : List Region) (indeterminate : ℕ → Bool) (footprints : Place → Footprint) (all : List Footprint) (q : WholeRequest)
     → AreAll footprints all → IsWell q
     → IsJoining indeterminate footprints (beside_all (alone indeterminate (on_good_page faults (address_of regions q)) q) all) q.bytes
-joins_right faults regions indeterminate footprints all q are well =
-    record {
-      alone = λ i x determined. are.each (λ other. may_write other x) refl (grind (arith, determined)) i;
-      known = λ x reads determined. grind (arith, reads, determined);
-      full = (acts faults regions q well).full;
-      within = (acts faults regions q well).within;
-    }
+joins_right faults regions indeterminate footprints all q are well = grind (arith, are, well, acts faults regions q well)
 
 -- where nothing is in flight nobody stands
 all_elsewhere : (faults : Faults) (regions : List Region) (flights : Place → Option InFlight) (place : Place) → flights place ≡ None
     → (order : Order) (m : Bytes) → Each faults regions (Stands faults regions flights) m order
     → AllByRecursion (IsElsewhere place) order
 all_elsewhere faults regions flights place none [] m each = tt
-all_elsewhere faults regions flights place none (entry ∷ order) m each = (
-  (λ live same. let is = sym none ∙ ap flights (sym same) ∙ (each.0.live live).there in absurd (cc (is))),
-  all_elsewhere faults regions flights place none order (carry faults regions entry.request m) each.1,
-)
+all_elsewhere faults regions flights place none (entry ∷ order) m each =
+    grind (arith, none, each, all_elsewhere faults regions flights place none order (carry faults regions entry.request m) each.1)
 
 -- ---- clients beside one that joins
 
@@ -172,8 +163,4 @@ module _ (board : Board) (number : ℕ) (client : ClientBoard) (q : WholeRequest
       waiting c source some (inr differ) =
           any_with (waits_for c source) before after (first_of Strict number q true n)
           (explains.waiting c source (sym (still_some board number client q sure there free (due_at c source) differ) ∙ some))
-      waiting c source some (inl same) =
-          let there : Some source ≡ Some q.source = ap (λ (p : Place). p.source) same in
-          let is : source ≡ q.source = cc (there) in
-          any_here (waits_for c source) before after (first_of Strict number q true n)
-          (grind (arith, nat_tests, is, ap (λ (p : Place). p.client) same))
+      waiting c source some (inl same) = grind (arith, some, there, any_here (waits_for c source) before after (first_of Strict number q true n))

@@ -1,10 +1,9 @@
 -- A board beside its shadow, on which each request is carried out with its first beat, as what it becomes. The board knows less: a request that has begun
 -- there is in flight on the shadow. What the board holds to be determined is so on the shadow, as far as it is read, and tells the same.
-use Rattle.std.proofs.Common.{◌≡◌, ℕ, ◌<◌, Bool, true, false, ◌&&◌, ◌||◌, ◌==◌, List, map, length, drop, Option, Some, None, if◌then◌else◌, inl, inr, refl, sym, ◌∙◌, ap, ap₂, arith}
+use Rattle.std.proofs.Common.{◌≡◌, ℕ, ◌<◌, Bool, true, false, ◌&&◌, ◌||◌, ◌==◌, List, map, length, drop, Option, Some, None, if◌then◌else◌, inl, inr, refl, sym, ◌∙◌, ap, arith}
 use Rattle.std.specs.Prelude.{is_some, slice_get}
 use Rattle.std.specs.List.{list_any}
-use Rattle.std.proofs.lemmas.Bool.{and_parts, cases_Bool}
-use Rattle.std.proofs.lemmas.Bool.Decides.{nat_tests}
+use Rattle.std.proofs.lemmas.Bool.{cases_Bool}
 use Rattle.tl_messages.specs.Requests.{HeldMessage, WholeRequest}
 use Rattle.burst_plan.specs.declared.Region.{Region}
 use Rattle.responses.specs.Shown.{shown}
@@ -78,27 +77,10 @@ abbrev pub fates_with : (Place → Bool) → Place → Bool → Place → Bool
 fates_with fates place fated other = if is_at other place then fated else fates other
 
 pub fates_own : (fates : Place → Bool) (place : Place) (fated : Bool) → fates_with fates place fated place ≡ fated
-fates_own fates place fated = by_source place.source refl
-  where
-    by_source : (source : Option ℕ) → place.source ≡ source → fates_with fates place fated place ≡ fated
-    by_source None is = grind (arith, nat_tests, is)
-    by_source (Some source) is = grind (arith, nat_tests, is)
+fates_own fates place fated = grind arith
 
 pub fates_other : (fates : Place → Bool) (place : Place) (fated : Bool) (other : Place) → (other ≡ place → ⊥) → fates_with fates place fated other ≡ fates other
-fates_other fates place fated other differ = by_at (is_at other place) refl
-  where
-    same_source : (one two : Option ℕ) → is_source one two ≡ true → one ≡ two
-    same_source None None is = refl
-    same_source None (Some two) is = absurd (cc (is))
-    same_source (Some one) None is = absurd (cc (is))
-    same_source (Some one) (Some two) is = ap Some (grind (arith, nat_tests, is))
-
-    by_at : (b : Bool) → is_at other place ≡ b → fates_with fates place fated other ≡ fates other
-    by_at false is = rw is refl
-    by_at true is =
-        let parts = and_parts (other.client == place.client) (is_source other.source place.source) is in
-        let client : other.client ≡ place.client = grind (arith, nat_tests, parts.0) in
-        absurd (differ (ap₂ (λ c s. record { client = c; source = s }) client (same_source other.source place.source parts.1)))
+fates_other fates place fated other differ = grind (arith, differ)
 
 -- no request in flight may write a byte that is fated to fail and hasn't
 abbrev pub NoneFated : List ClientBoard → (Place → Bool) → ℕ → Type 0
@@ -176,22 +158,14 @@ pub record IsWithin (theirs mine : Footprint) : Type 0 where
   pub size : theirs.writes ≡ true → mine.size ≡ theirs.size
 
 pub within_writes : (theirs mine : Footprint) (x : ℕ) → IsWithin theirs mine → may_write mine x ≡ false → may_write theirs x ≡ false
-within_writes theirs mine x within none =
-    elim (cases_Bool theirs.writes) [
-      | inl is ↦ grind (arith, none, within.writes is, within.address is, within.size is)
-      | inr is ↦ rw is refl
-    ]
+within_writes theirs mine x within none = grind (arith, within, none)
 
 -- whether one depends on another that writes, and has a byte
 abbrev pub touches : Footprint → ℕ → Footprint → Bool
 touches other x footprint = depends_on footprint other && covers footprint x
 
 touches_less : (theirs mine footprint : Footprint) (x : ℕ) → IsWithin theirs mine → touches mine x footprint ≡ false → touches theirs x footprint ≡ false
-touches_less theirs mine footprint x within none =
-    elim (cases_Bool theirs.writes) [
-      | inl is ↦ grind (arith, none, is, within.writes is, within.address is, within.size is)
-      | inr is ↦ grind (arith, is)
-    ]
+touches_less theirs mine footprint x within none = grind (arith, within, none)
 
 -- what has begun reads nothing
 pub reads_nothing : (faults : Faults) (regions : List Region) (coming : Footprint) (q : WholeRequest) (theirs : InFlight) → IsComing faults regions coming q theirs
@@ -201,15 +175,7 @@ reads_nothing faults regions coming q theirs is = ap (λ (r : Footprint). r.read
 -- and writes no more than it may
 pub becomes_within : (faults : Faults) (regions : List Region) (coming : Footprint) (q : WholeRequest) (theirs : InFlight) → IsComing faults regions coming q theirs
     → IsWithin theirs.footprint coming
-becomes_within faults regions coming q theirs is =
-    record {
-      writes = λ does. ap (λ (r : Footprint). r.writes) (is.same (own_writes does)) ∙ own_writes does;
-      address = λ does. ap (λ (r : Footprint). r.address) (is.same (own_writes does)) ∙ sym (ap (λ (r : Footprint). r.address) is.acts);
-      size = λ does. ap (λ (r : Footprint). r.size) (is.same (own_writes does)) ∙ sym (ap (λ (r : Footprint). r.size) is.acts);
-    }
-  where
-    own_writes : theirs.footprint.writes ≡ true → (own faults regions q).writes ≡ true
-    own_writes does = sym (ap (λ (r : Footprint). r.writes) is.acts) ∙ does
+becomes_within faults regions coming q theirs is = grind (arith, is)
 
 -- what has begun gives nothing where it may not write
 pub none_given : (faults : Faults) (regions : List Region) (coming : Footprint) (q : WholeRequest) (theirs : InFlight) (x : ℕ) → IsComing faults regions coming q theirs
@@ -251,8 +217,7 @@ module _ (board : Board) (shadow : Shadow) (ahead : IsAhead board shadow) where
 
       by_shadow : (o : Option InFlight) → flight_at shadow.clients i ≡ o → test (footprint_in (flight_at shadow.clients i)) ≡ false
       by_shadow None is = ap (λ (o : Option InFlight). test (footprint_in o)) is ∙ nobody
-      by_shadow (Some other) is =
-          ap (λ (o : Option InFlight). test (footprint_in o)) is ∙ own_or_coming other (flight_at board.clients i) is refl
+      by_shadow (Some other) is = grind (arith, is, own_or_coming other (flight_at board.clients i) is refl)
 
   -- what nobody may write
   pub shadow_writes : (x : ℕ) → list_any (λ r. may_write r x) (footprints_of board.clients) ≡ false → (i : Place) → may_write (footprint_at shadow.clients i) x ≡ false

@@ -1,23 +1,18 @@
 -- Requests on a board and on its shadow, beside one that joins both: they stand beside each other as before.
-use Rattle.std.proofs.Common.{◌≡◌, ℕ, Bool, true, false, ◌&&◌, not, List, drop, Option, Some, None, refl, ap, arith}
+use Rattle.std.proofs.Common.{◌≡◌, ℕ, Bool, true, List, drop, Option, Some, None, refl, ap, arith}
 use Rattle.std.specs.Prelude.{option_map}
-use Rattle.std.proofs.lemmas.Bool.{and_from, and_parts}
 use Rattle.tl_messages.specs.Requests.{WholeRequest}
 use Rattle.tl_messages.specs.declared.DBeat.{DBeat}
 use Rattle.burst_plan.specs.declared.Region.{Region}
 use Rattle.subordinate.specs.Faults.{Faults}
 use Rattle.scoreboard.specs.Flights.{Footprint, InFlight}
-use Rattle.scoreboard.specs.Races.{beside, flight_beside, may_write}
-use Rattle.scoreboard.proofs.real_time.Ahead.{IsBehind, IsComing, IsWithin, within_writes}
+use Rattle.scoreboard.specs.Races.{beside, flight_beside}
+use Rattle.scoreboard.proofs.real_time.Ahead.{IsBehind, IsComing, IsWithin}
 use Rattle.scoreboard.proofs.real_time.AlikeBeats.{Alike, LeftAlike, Same, Words}
 
 -- beats that are alike are so where less is determined
 alike_beside : (footprint other : Footprint) (k : ℕ) (beat its : DBeat) → Alike footprint k beat its → Alike (beside footprint other) k beat its
-alike_beside footprint other k beat its alike =
-    record {
-      rest = alike.rest;
-      payload = λ lane below determined. alike.payload lane below (and_parts _ _ determined).0;
-    }
+alike_beside footprint other k beat its alike = grind (arith, alike)
 
 left_beside : (footprint other : Footprint) (mine theirs : List DBeat) → LeftAlike footprint mine theirs → LeftAlike (beside footprint other) mine theirs
 left_beside footprint other mine theirs (Same same) = Same same
@@ -28,10 +23,7 @@ module _ (joined joined_there : Footprint) (within : IsWithin joined_there joine
   -- what is determined beside both
   less_beside : (mine theirs : Footprint) (x : ℕ) → (mine.determined x ≡ true → theirs.determined x ≡ true) → (beside mine joined).determined x ≡ true
       → (beside theirs joined_there).determined x ≡ true
-  less_beside mine theirs x less determined =
-      let parts = and_parts (mine.determined x) (not (may_write joined x)) determined in
-      let none : may_write joined_there x ≡ false = within_writes joined_there joined x within (grind (arith, parts.1)) in
-      and_from (theirs.determined x) (not (may_write joined_there x)) (less parts.0) (rw none refl)
+  less_beside mine theirs x less determined = grind (arith, less, determined, within)
 
   pub behind_beside : (fated : Bool) (mine theirs : InFlight) → IsBehind fated mine theirs
       → IsBehind fated (flight_beside joined mine) (flight_beside joined_there theirs)
@@ -48,17 +40,7 @@ module _ (joined joined_there : Footprint) (within : IsWithin joined_there joine
 
   pub coming_beside_it : (faults : Faults) (regions : List Region) (coming : Footprint) (q : WholeRequest) (theirs : InFlight) → IsComing faults regions coming q theirs
       → IsComing faults regions (beside coming joined) q (flight_beside joined_there theirs)
-  coming_beside_it faults regions coming q theirs is =
-      record {
-        source = is.source;
-        well = is.well;
-        silent = is.silent;
-        same = λ writes. ap (λ (r : Footprint). record r { determined = (beside coming joined).determined }) (is.same writes);
-        acts = ap (λ (r : Footprint). record r { determined = (beside theirs.footprint joined_there).determined }) is.acts;
-        less = λ x writes determined. less_beside coming theirs.footprint x (is.less x writes) determined;
-        beats = is.beats;
-        broken = λ x failed. ap (λ (b : Bool). b && not (may_write joined x)) (is.broken x failed);
-      }
+  coming_beside_it faults regions coming q theirs is = grind (arith, is)
 
 -- a request that is in flight beside another was so before
 pub was_beside : (footprint : Footprint) (o : Option InFlight) (now : InFlight) → option_map (flight_beside footprint) o ≡ Some now
@@ -67,5 +49,4 @@ was_beside footprint None now is = absurd (cc (is))
 was_beside footprint (Some was) now is = (was, refl, cc (is))
 
 pub none_beside : (footprint : Footprint) (o : Option InFlight) → option_map (flight_beside footprint) o ≡ None → o ≡ None
-none_beside footprint None is = refl
-none_beside footprint (Some was) is = absurd (cc (is))
+none_beside footprint o is = grind (arith, is)

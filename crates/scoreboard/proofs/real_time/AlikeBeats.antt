@@ -138,9 +138,7 @@ module _ (faults : Faults) (regions : List Region) (q : WholeRequest) (footprint
           count = ap (beats_of q.size) tells.carries
 
           left : (k : Bytes) → left_with k ≡ word k ∷ rest k
-          left k =
-              ap (λ (r : Reply). drop came (shown q r)) (tells.reply k)
-              ∙ word_left q (reply_of tells.hidden k tells.place q) came tells.carries (omega (arith, below, count))
+          left k = grind (arith, below, word_left q (reply_of tells.hidden k tells.place q) came tells.carries (omega (arith, below, count)))
 
           address : footprint.address ≡ tells.place
           address = ap (λ (r : Footprint). r.address) acting ∙ ap (λ (o : Option ℕ). unwrap_or o 0) tells.acts

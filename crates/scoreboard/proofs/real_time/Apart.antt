@@ -3,7 +3,7 @@
 use Rattle.std.proofs.Common.{◌≡◌, ℕ, ◌+◌, ◌-◌, ◌<◌, ◌^◌, Bool, true, false, ◌&&◌, not, List, Option, ◌⊎◌, inl, inr, refl, sym, ◌∙◌, ap, subst, arith}
 use Rattle.std.specs.Prelude.{is_some}
 use Rattle.std.specs.List.{list_all, list_any, range_with_len}
-use Rattle.std.proofs.lemmas.Bool.{and_parts, and_from, not-true}
+use Rattle.std.proofs.lemmas.Bool.{and_from}
 use Rattle.std.proofs.lemmas.Bool.Decides.{nat_tests}
 use Rattle.bus_words.specs.Lanes.{given_at}
 use Rattle.bus_words.proofs.Ranges.{all_pass, passes_at}
@@ -51,31 +51,14 @@ pub record AreJoined (footprints joined : Place → Footprint) (place : Place) (
 
 pub joined_apart : (footprints joined : Place → Footprint) (place : Place) (footprint : Footprint) (indeterminate : ℕ → Bool) (bytes : List (Option ℕ))
     → AreJoined footprints joined place footprint → AreApart footprints → IsJoining indeterminate footprints footprint bytes → AreApart joined
-joined_apart footprints joined place footprint indeterminate bytes with_it old joining =
-    record { apart = λ i j x differ determined. by_places i j x differ determined (cases_place i place) (cases_place j place) }
-  where
-    was : (i : Place) (x : ℕ) → (i ≡ place → ⊥) → (joined i).determined x ≡ true → ((footprints i).determined x ≡ true) × (not (may_write footprint x) ≡ true)
-    was i x other determined =
-        and_parts ((footprints i).determined x) (not (may_write footprint x)) (sym (ap (λ (r : Footprint). r.determined x) (with_it.others i other)) ∙ determined)
-
-    by_places : (i j : Place) (x : ℕ) → (i ≡ j → ⊥) → (joined i).determined x ≡ true → (i ≡ place) ⊎ (i ≡ place → ⊥) → (j ≡ place) ⊎ (j ≡ place → ⊥)
-        → may_write (joined j) x ≡ false
-    by_places i j x differ determined (inl a) (inl b) = absurd (differ (a ∙ sym b))
-    by_places i j x differ determined (inl a) (inr b) =
-        ap (λ (r : Footprint). may_write r x) (with_it.others j b)
-        ∙ joining.alone j x (sym (ap (λ (r : Footprint). r.determined x) (ap joined a ∙ with_it.own)) ∙ determined)
-    by_places i j x differ determined (inr a) (inl b) =
-        ap (λ (r : Footprint). may_write r x) (ap joined b ∙ with_it.own) ∙ not-true (may_write footprint x) (was i x a determined).1
-    by_places i j x differ determined (inr a) (inr b) =
-        ap (λ (r : Footprint). may_write r x) (with_it.others j b) ∙ old.apart i j x differ (was i x a determined).0
+joined_apart footprints joined place footprint indeterminate bytes with_it old joining = grind (arith, with_it, old, joining)
 
 -- ---- what is indeterminate then
 
 -- what those write that depend on it is indeterminate
 beside_doubt : (indeterminate : ℕ → Bool) (footprints : Place → Footprint) (all : List Footprint) (footprint : Footprint) (i : Place) (x : ℕ) → AreAll footprints all
     → depends_on (footprints i) footprint ≡ true → covers (footprints i) x ≡ true → beside_dependent indeterminate footprint all x ≡ true
-beside_doubt indeterminate footprints all footprint i x are depends covered =
-    grind (arith, depends, covered, are.each (λ r. depends_on r footprint && covers r x) refl)
+beside_doubt indeterminate footprints all footprint i x are depends covered = grind (arith, are, depends, covered)
 
 -- a byte that nobody writes who depends on it isn't
 not_beside : (indeterminate : ℕ → Bool) (footprints : Place → Footprint) (all : List Footprint) (footprint : Footprint) (x : ℕ) → AreAll footprints all
@@ -131,8 +114,7 @@ module _ (indeterminate : ℕ → Bool) (footprints : Place → Footprint) (all 
       given x covered = and_from footprint.writes (is_some (given_at bytes footprint.address x)) writes (joining.full reads writes x covered)
 
       by_fixed : (fixed : Bool) → is_fixed footprint ≡ fixed → IsDoubtful now_indeterminate footprint ⊎ IsSettled now_indeterminate footprint
-      by_fixed false is =
-          inl (λ x covered. stays_indeterminate x (rw (given x covered) (grind (arith, is))))
+      by_fixed false is = grind (arith, is)
       by_fixed true is =
           inr (λ x covered.
           let determined = fixed_determined footprint x is reads covered in
@@ -171,11 +153,7 @@ module _ (indeterminate : ℕ → Bool) (footprints : Place → Footprint) (all 
               none_given x covered = grind (arith, unwritten x covered, gives_writes x)
 
               nobody : (x : ℕ) → covers (footprints i) x ≡ true → (j : Place) → (depends_on (footprints j) footprint && covers (footprints j) x) ≡ false
-              nobody x covered j =
-                  elim (cases_place i j) [
-                    | inl same ↦ rw (ap (λ k. depends_on (footprints k) footprint) (sym same) ∙ depends) refl
-                    | inr differ ↦ depends_writes (footprints j) footprint x (apart.apart i j x differ (settled x covered).0)
-                  ]
+              nobody x covered j = grind (arith, covered)
 
               undoubted : (x : ℕ) → covers (footprints i) x ≡ true → now_indeterminate x ≡ false
               undoubted x covered =

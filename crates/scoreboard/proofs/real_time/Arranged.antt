@@ -1,5 +1,5 @@
 -- Orders that keep real time arise as requests are put in with their first beats, one after another, each as what it becomes.
-use Rattle.std.proofs.Common.{◌≡◌, ◌≢◌, ℕ, zero, suc, ◌+◌, ◌<◌, ◌≤◌, ◌==◌, Bool, true, false, ◌&&◌, ◌||◌, not, List, [], ◌∷◌, ◌++◌, map, filter, length, Option, Some, None, Result, Ok, Err, inl, inr, if◌then◌else◌, nat_lt, refl, sym, ◌∙◌, ap, ap₂, subst, arith}
+use Rattle.std.proofs.Common.{◌≡◌, ◌≢◌, ℕ, zero, suc, ◌+◌, ◌<◌, ◌≤◌, ◌==◌, Bool, true, false, ◌&&◌, ◌||◌, List, [], ◌∷◌, ◌++◌, map, filter, length, Option, Some, None, Result, Ok, Err, inl, inr, if◌then◌else◌, nat_lt, refl, sym, ◌∙◌, ap, ap₂, subst, arith}
 use Rattle.std.specs.Prelude.{slice_get}
 use Rattle.std.specs.List.{AllByRecursion, list_any, range_with_len}
 use Rattle.std.proofs.lemmas.Bool.{both_ways, cases_eq, cases_Bool, false_from_ne_true, lt-ltb, ltb-true, or_right}
@@ -16,13 +16,13 @@ use Rattle.tl_checker.specs.declared.Progress.{Progress}
 use Rattle.tl_checker.specs.declared.Progress.TheVariants.{More, Whole}
 use Rattle.tl_checker.specs.declared.TlRule.{TlRule}
 use Rattle.scoreboard.specs.Boards.{Beginning, Board, ClientBoard, after_all, after_seen, answer_to, is_spoiled, opening_from}
-use Rattle.scoreboard.specs.FailedBursts.{Span, failed_span, shares}
+use Rattle.scoreboard.specs.FailedBursts.{Span, failed_span}
 use Rattle.scoreboard.specs.declared.Errors.{Errors}
 use Rattle.scoreboard.specs.declared.Policy.TheVariants as policy
 use Rattle.scoreboard.specs.declared.ObservedBeat.{ObservedBeat}
 use Rattle.scoreboard.specs.declared.ObservedBeat.TheVariants.{A, D, Axi as OnAxi, Drained}
-use Rattle.scoreboard.specs.Orders.{Entry, Order, after_beat, awaits, begun_to, begun_to_other, board_after, counted, cut_short, ended_early, has_ended, is_due, is_over, reply_beats, with_beat, with_counted}
-use Rattle.scoreboard.specs.RealTime.{EndedBefore, IsOrderOf, KeepsRealTime, MayBecome, MayBecomeAll, acting_footprint, arranged, as_begun, becoming, begun_in, begun_next, completed, heard, numbered, struck, with_answered, with_failed, with_progress, with_request}
+use Rattle.scoreboard.specs.Orders.{Entry, Order, after_beat, awaits, begun_to, begun_to_other, board_after, cut_short, ended_early, has_ended, is_over, reply_beats, with_beat, with_counted}
+use Rattle.scoreboard.specs.RealTime.{EndedBefore, IsOrderOf, KeepsRealTime, MayBecome, MayBecomeAll, arranged, as_begun, becoming, begun_in, begun_next, completed, heard, numbered, struck, with_answered, with_failed, with_progress, with_request}
 use Rattle.serial_memory.specs.SerialMemory.{Memory}
 use Rattle.scoreboard.proofs.MappedLists.{any_map}
 use Rattle.scoreboard.proofs.real_time.RequestActs.{well_bytes}
@@ -164,32 +164,12 @@ begun_kept client entry q fields = ap (λ (r : WholeRequest). begun_to client (r
 -- an error response
 struck_kept : (memory : Memory) (span : Span) (entry : Entry) (q : WholeRequest) → HasFields entry q
     → record (struck memory span entry) { request = q } ≡ struck memory span (record entry { request = q })
-struck_kept memory span entry q fields =
-    elim (cases_Bool (not (has_ended entry) && shares span (acting_footprint memory entry.request))) [
-      | inl is ↦ let other = same ∙ is in rw (is, other) refl
-      | inr is ↦ let other = same ∙ is in rw (is, other) refl
-    ]
-  where
-    same : (not (has_ended (record entry { request = q })) && shares span (acting_footprint memory q))
-        ≡ (not (has_ended entry) && shares span (acting_footprint memory entry.request))
-    same = ap (λ (r : WholeRequest). not (has_ended (record entry { request = r })) && shares span (acting_footprint memory r)) fields
+struck_kept memory span entry q fields = grind (arith, fields)
 
 -- a beat of its reply
 beat_kept : (begun : Bool) (client source : ℕ) (entry : Entry) (q : WholeRequest) → HasFields entry q
     → with_beat begun client source (record entry { request = q }) ≡ record (with_beat begun client source entry) { request = q }
-beat_kept begun client source entry q fields =
-    elim (cases_Bool (is_due begun client source entry && entry.request.source == source)) [
-      | inl is ↦ let other = same ∙ is in rw (is, other) (by_whole entry.whole)
-      | inr is ↦ let other = same ∙ is in rw (is, other) refl
-    ]
-  where
-    same : (is_due begun client source (record entry { request = q }) && q.source == source)
-        ≡ (is_due begun client source entry && entry.request.source == source)
-    same = ap (λ (r : WholeRequest). is_due begun client source (record entry { request = r }) && r.source == source) fields
-
-    by_whole : (whole : Bool) → counted whole (record entry { request = q }) ≡ record (counted whole entry) { request = q }
-    by_whole true = refl
-    by_whole false = refl
+beat_kept begun client source entry q fields = grind (arith, fields)
 
 -- a reply that is over
 other_kept : (client source : ℕ) → IsKept (begun_to_other client source)
@@ -199,22 +179,11 @@ waits_kept : (client source : ℕ) → IsKept (awaits client source)
 waits_kept client source entry q fields = ap (λ (r : WholeRequest). awaits client source (record entry { request = r })) fields
 
 early_request : (over : Bool) (client : ℕ) (entry : Entry) → (ended_early over client entry).request ≡ entry.request
-early_request over client entry =
-    elim (cases_Bool (over && begun_to client entry)) [
-      | inl is ↦ rw is refl
-      | inr is ↦ rw is refl
-    ]
+early_request over client entry = grind arith
 
 early_kept : (over : Bool) (client : ℕ) (entry : Entry) (q : WholeRequest) → HasFields entry q
     → ended_early over client (record entry { request = q }) ≡ record (ended_early over client entry) { request = q }
-early_kept over client entry q fields =
-    elim (cases_Bool (over && begun_to client entry)) [
-      | inl is ↦ let other = same ∙ is in rw (is, other) (ap (λ (r : WholeRequest). record entry { request = q; came = reply_beats r }) fields)
-      | inr is ↦ let other = same ∙ is in rw (is, other) refl
-    ]
-  where
-    same : (over && begun_to client (record entry { request = q })) ≡ (over && begun_to client entry)
-    same = ap (λ (b : Bool). over && b) (begun_kept client entry q fields)
+early_kept over client entry q fields = grind (arith, fields)
 
 -- and whether one has begun then
 early_begun_kept : (over : Bool) (client : ℕ) → IsKept (λ entry. begun_to client (ended_early over client entry))
@@ -226,11 +195,7 @@ early_begun_kept over client entry q fields =
 -- its last beat
 finish_kept : (errors : Errors) (client : ℕ) (q r : WholeRequest) (entry : Entry) → (is_coming client entry ≡ true → reply_beats q ≡ reply_beats r)
     → record (completed errors client q entry) { request = r } ≡ finished errors client q (record entry { request = r })
-finish_kept errors client q r entry beats =
-    elim (cases_Bool (is_coming client entry)) [
-      | inl is ↦ let long = beats is in rw (is, long) refl
-      | inr is ↦ rw is refl
-    ]
+finish_kept errors client q r entry beats = grind (arith, beats)
 
 -- one that a request may be, be it spoiled later
 fated_same : (fate : ℕ → Bool) (errors : Errors) (client : ℕ) (q r : WholeRequest) (whole : Bool) (number : ℕ)
@@ -450,11 +415,7 @@ module _ (errors : Errors) (setup : Beginning) (beats : List ObservedBeat) (requ
         change = heard errors_now client q
 
         by_open : (entry : Entry) (r : WholeRequest) → record (change entry) { request = r } ≡ change (record entry { request = r })
-        by_open entry r =
-            elim (cases_Bool (is_coming client entry)) [
-              | inl is ↦ rw is refl
-              | inr is ↦ rw is refl
-            ]
+        by_open entry r = grind arith
 
         each : (k : ℕ) → k < length (begun done) → record (change (numbered (begun done) k)) { request = requests k } ≡ change (becoming (begun done) requests k)
         each k small = by_open (numbered (begun done) k) (requests k)

@@ -13,12 +13,12 @@ use Rattle.tl_checker.specs.declared.Progress.{Progress}
 use Rattle.tl_checker.specs.declared.Progress.TheVariants.{More, Whole}
 use Rattle.tl_checker.specs.declared.TlRule.{TlRule}
 use Rattle.scoreboard.specs.AxiPorts.{port_after}
-use Rattle.scoreboard.specs.Boards.{Beginning, Board, ClientBoard, after_a, after_all, after_seen, answer_to, answered_on, hit_on, is_spoiled, opening_from}
+use Rattle.scoreboard.specs.Boards.{Beginning, Board, ClientBoard, after_a, after_all, after_seen, answer_to, answered_on, is_spoiled, opening_from}
 use Rattle.scoreboard.specs.FailedBursts.{Span, failed_span, shares}
 use Rattle.scoreboard.specs.Flights.{is_busy}
 use Rattle.scoreboard.specs.InsideBoards.{front_after}
-use Rattle.scoreboard.specs.Orders.{Entry, Order, begun_to, board_after, counted, cut_short, ended_early, has_ended, is_due, is_over, reply_beats, with_beat}
-use Rattle.scoreboard.specs.RealTime.{GivesBytes, MayBecome, acting_footprint, begun_from, begun_in, begun_next, completed, entry_of, heard, numbered, struck, with_answered, with_failed, with_progress, with_request}
+use Rattle.scoreboard.specs.Orders.{Entry, Order, begun_to, board_after, counted, cut_short, ended_early, has_ended, is_due, is_over, with_beat}
+use Rattle.scoreboard.specs.RealTime.{MayBecome, acting_footprint, begun_from, begun_in, begun_next, completed, entry_of, heard, numbered, struck, with_answered, with_failed, with_progress, with_request}
 use Rattle.serial_memory.specs.SerialMemory.{Memory}
 use Rattle.scoreboard.specs.declared.Errors.{Errors}
 use Rattle.scoreboard.specs.declared.Errors.TheVariants.{Strict}
@@ -27,7 +27,7 @@ use Rattle.scoreboard.specs.declared.ObservedBeat.TheVariants.{A, D, Axi as OnAx
 use Rattle.scoreboard.specs.declared.Policy.TheVariants.{RealTime}
 use Rattle.scoreboard.proofs.real_time.CheckedRequests.{first_well, sound_well, whole_sound}
 use Rattle.scoreboard.proofs.real_time.Fronts.{AreFronts, front_answered, front_at, front_hit, front_of, front_replied, fronts_next, fronts_opening}
-use Rattle.scoreboard.proofs.real_time.RequestActs.{IsWell, well_bytes}
+use Rattle.scoreboard.proofs.real_time.RequestActs.{IsWell}
 
 -- ---- what is held of a request
 
@@ -53,32 +53,9 @@ held_more errors front request spoiled beat h =
       well = h.well;
     }
 
--- whatever is spoiled by an error response
-held_struck : (errors : Errors) (front : Option HeldMessage) (request : WholeRequest) (spoiled : Bool) → IsHeld errors front request spoiled
-    → IsHeld errors front request true
-held_struck errors front request spoiled h =
-    record { held = h.held; told = λ is. refl; is = h.is; fields = h.fields; corrupt = h.corrupt; well = h.well }
-
 -- an entry as one that was spoiled, or wasn't
 abbrev pub as_fated : Bool → Entry → Entry
 as_fated fated entry = record entry { spoiled = fated }
-
--- what it may become once it is whole, as what is held, it may become before
-held_becomes : (errors : Errors) (next : Option HeldMessage) (entry : Entry) (q r : WholeRequest) (spoiled fated : Bool)
-    (h : IsHeld errors next entry.request spoiled) → entry.whole ≡ false
-    → q ≡ request_of h.held → IsWell q → MayBecome (as_fated fated (record entry { request = q; whole = true })) r → MayBecome (as_fated fated entry) r
-held_becomes errors next entry q r spoiled fated h unwhole is well may =
-    record {
-      same = λ whole. absurd (cc (unwhole, whole));
-      fields = may.fields ∙ ap (λ (x : WholeRequest). record x { bytes = r.bytes; corrupt = r.corrupt }) (is ∙ h.fields);
-      corrupt = λ sound corrupt. may.corrupt sound (ap (λ (x : WholeRequest). x.corrupt) is ∙ h.corrupt corrupt);
-      bytes = λ not_whole. by_fated fated refl;
-      left = λ whole. absurd (cc (unwhole, whole));
-    }
-  where
-    by_fated : (b : Bool) → fated ≡ b → GivesBytes r
-    by_fated false sound = subst GivesBytes (sym (may.same refl sound)) (well_bytes q well)
-    by_fated true spoils = (may.left refl spoils).bytes
 
 -- ---- each entry of an order, by its number
 
@@ -125,16 +102,12 @@ AreHeld errors fronts now = EachIn (IsHeldBy errors fronts) now
 -- where its client's front stays
 held_still : (errors : Errors) (fronts next : ℕ → Option HeldMessage) (entry : Entry) → (entry.whole ≡ false → next entry.client ≡ fronts entry.client)
     → IsHeldBy errors fronts entry → IsHeldBy errors next entry
-held_still errors fronts next entry same held = (
-  λ unwhole. subst (λ (front : Option HeldMessage). IsHeld errors front entry.request entry.spoiled) (sym (same unwhole)) (held.0 unwhole),
-  held.1,
-)
+held_still errors fronts next entry same held = grind (arith, same, held)
 
 -- of a client that has begun nothing, nothing is held
 of_others : (errors : Errors) (fronts : ℕ → Option HeldMessage) (entry : Entry) (number : ℕ) → fronts number ≡ None → IsHeldBy errors fronts entry
     → entry.whole ≡ false → entry.client ≡ number → ⊥
-of_others errors fronts entry number none held unwhole same =
-    let is = (held.0 unwhole).is in cc (sym none ∙ sym (ap fronts same) ∙ is)
+of_others errors fronts entry number none held unwhole same = grind (arith, none, held, unwhole, same)
 
 -- what isn't completed isn't the client's, or is whole
 still_others : (entry : Entry) (number : ℕ) → (entry.client == number && not entry.whole) ≡ false → entry.whole ≡ false → entry.client ≡ number → ⊥
@@ -248,13 +221,7 @@ module _ (errors : Errors) (limits : TlPortLimits) (beat : ABeat) (busy : Bool) 
     where
       by_test : (fated : Bool) (entry : Entry) (r : WholeRequest) → MayBecome (as_fated fated (heard errors number (request_of (with_more held beat)) entry)) r
           → MayBecome (as_fated fated entry) r
-      by_test fated entry r becomes =
-          let same : as_fated fated (heard errors number (request_of (with_more held beat)) entry) ≡ as_fated fated entry =
-          elim (cases_Bool (entry.client == number && not entry.whole)) [
-            | inl is ↦ rw is refl
-            | inr is ↦ rw is refl
-          ] in
-          subst (λ (e : Entry). MayBecome e r) same becomes
+      by_test fated entry r becomes = grind (arith, becomes)
   may_progress fate (Some held) Whole requests own well are may k small =
       may_change fate change now requests (λ i below. by_test (fate i) (numbered now i) (requests i) (are i below)) may k small
     where
@@ -264,26 +231,7 @@ module _ (errors : Errors) (limits : TlPortLimits) (beat : ABeat) (busy : Bool) 
       by_test : (fated : Bool) (entry : Entry) (r : WholeRequest) → IsHeldBy errors fronts entry → MayBecome (as_fated fated (change entry)) r
           → MayBecome (as_fated fated entry) r
       by_test fated entry r was becomes =
-          elim (cases_Bool (entry.client == number && not entry.whole)) [
-            | inl is ↦ own_request is
-            | inr is ↦ let still : change entry ≡ entry = rw is refl in subst (λ (e : Entry). MayBecome (as_fated fated e) r) still becomes
-          ]
-        where
-          own_request : (entry.client == number && not entry.whole) ≡ true → MayBecome (as_fated fated entry) r
-          own_request is =
-              let parts = and_parts (entry.client == number) (not entry.whole) is in
-              let unwhole = not-true entry.whole parts.1 in
-              let h = was.0 unwhole in
-              let q = request_of (with_more held beat) in
-              let this : held ≡ h.held = cc (sym own ∙ sym (ap fronts (eqb-true entry.client number parts.0)) ∙ h.is) in
-              let done : as_fated fated (change entry)
-              ≡ as_fated fated (record entry { request = q; whole = true; early = false; came = if entry.replied then reply_beats q else entry.came }) = rw is refl in
-              let may_then = subst (λ (e : Entry). MayBecome e r) done becomes in
-              held_becomes errors (Some (with_more h.held beat)) entry q r
-              (entry.spoiled || is_spoiled errors (request_of (with_more h.held beat))) fated
-              (held_more errors (fronts entry.client) entry.request entry.spoiled beat h) unwhole
-              (ap (λ (m : HeldMessage). request_of (with_more m beat)) this) (well held refl refl)
-              (record { same = may_then.same; fields = may_then.fields; corrupt = may_then.corrupt; bytes = may_then.bytes; left = may_then.left })
+          grind (arith, was, becomes, change entry, well held refl refl)
 
 -- ---- along lists of beats
 
@@ -309,11 +257,7 @@ held_beat errors fronts next begun client source entry same was =
 -- nor does a reply that is over
 held_early : (errors : Errors) (fronts : ℕ → Option HeldMessage) (over : Bool) (client : ℕ) (entry : Entry) → IsHeldBy errors fronts entry
     → IsHeldBy errors fronts (ended_early over client entry)
-held_early errors fronts over client entry was =
-    elim (cases_Bool (over && begun_to client entry)) [
-      | inl is ↦ rw is was
-      | inr is ↦ rw is was
-    ]
+held_early errors fronts over client entry was = grind (arith, was)
 
 held_request : (board : Board) (number : ℕ) (beat : ABeat) (now : Order) → AreFronts board.clients → AreHeld board.errors (front_at board.clients) now
     → AreHeld board.errors (front_at (after_a RealTime board number (slice_get board.clients number) beat).clients)
@@ -339,14 +283,7 @@ held_request board number beat now fronts are = by_client (slice_get board.clien
 
 -- how errors may be told stays
 pub errors_kept : (board : Board) (seen : ObservedBeat) → (after_seen RealTime board seen).errors ≡ board.errors
-errors_kept board (A number beat) = grind arith
-errors_kept board (D number beat) = grind arith
-errors_kept board (OnAxi beat) = by_span (failed_span board.errors board.axi beat) (record board { axi = port_after RealTime board.axi beat })
-  where
-    by_span : (span : Option Span) (old : Board) → (hit_on span old).errors ≡ old.errors
-    by_span None old = refl
-    by_span (Some span) old = refl
-errors_kept board Drained = refl
+errors_kept board seen = grind arith
 
 -- an error response spoils those that haven't ended
 held_failed : (errors : Errors) (memory : Memory) (fronts next : ℕ → Option HeldMessage) (span : Option Span) (now : Order)
@@ -356,12 +293,7 @@ held_failed errors memory fronts next (Some span) now same are k small =
     each_map (IsHeldBy errors fronts) (IsHeldBy errors next) (struck memory span) now by_test are k small
   where
     by_test : (entry : Entry) → IsHeldBy errors fronts entry → IsHeldBy errors next (struck memory span entry)
-    by_test entry was =
-        let still = held_still errors fronts next entry (λ unwhole. same entry.client) was in
-        elim (cases_Bool (not (has_ended entry) && shares span (acting_footprint memory entry.request))) [
-          | inl is ↦ rw is ((λ unwhole. held_struck errors (next entry.client) entry.request entry.spoiled (still.0 unwhole)), still.1)
-          | inr is ↦ rw is still
-        ]
+    by_test entry was = grind (arith, was)
 
 -- with any beat
 pub followed_next : (board : Board) (seen : ObservedBeat) (now : Order) → IsFollowed board now
@@ -407,23 +339,11 @@ followed errors setup beats = followed_from beats (opening_from errors setup) []
 
 may_beat : (begun : Bool) (client source : ℕ) (entry : Entry) (fated : Bool) (q : WholeRequest) → MayBecome (as_fated fated (with_beat begun client source entry)) q
     → MayBecome (as_fated fated entry) q
-may_beat begun client source entry fated q =
-    elim (cases_Bool (is_due begun client source entry && entry.request.source == source)) [
-      | inl is ↦ rw is (by_whole entry.whole)
-      | inr is ↦ rw is (λ may. may)
-    ]
-  where
-    by_whole : (whole : Bool) → MayBecome (as_fated fated (counted whole entry)) q → MayBecome (as_fated fated entry) q
-    by_whole true may = record { same = may.same; fields = may.fields; corrupt = may.corrupt; bytes = may.bytes; left = may.left }
-    by_whole false may = record { same = may.same; fields = may.fields; corrupt = may.corrupt; bytes = may.bytes; left = may.left }
+may_beat begun client source entry fated q = grind arith
 
 may_early : (over : Bool) (client : ℕ) (entry : Entry) (fated : Bool) (q : WholeRequest) → MayBecome (as_fated fated (ended_early over client entry)) q
     → MayBecome (as_fated fated entry) q
-may_early over client entry fated q =
-    elim (cases_Bool (over && begun_to client entry)) [
-      | inl is ↦ rw is (λ may. record { same = may.same; fields = may.fields; corrupt = may.corrupt; bytes = may.bytes; left = may.left })
-      | inr is ↦ rw is (λ may. may)
-    ]
+may_early over client entry fated q = grind arith
 
 may_failed : (fate : ℕ → Bool) (memory : Memory) (span : Option Span) (now : Order) (requests : ℕ → WholeRequest)
     → MayBecomeFated fate (with_failed memory span now) requests → MayBecomeFated fate now requests
@@ -432,13 +352,7 @@ may_failed fate memory (Some span) now requests may k small =
     may_change fate (struck memory span) now requests (λ i below. by_test (fate i) (numbered now i) (requests i)) may k small
   where
     by_test : (fated : Bool) (entry : Entry) (r : WholeRequest) → MayBecome (as_fated fated (struck memory span entry)) r → MayBecome (as_fated fated entry) r
-    by_test fated entry r becomes =
-        let same : as_fated fated (struck memory span entry) ≡ as_fated fated entry =
-        elim (cases_Bool (not (has_ended entry) && shares span (acting_footprint memory entry.request))) [
-          | inl is ↦ rw is refl
-          | inr is ↦ rw is refl
-        ] in
-        subst (λ (e : Entry). MayBecome e r) same becomes
+    by_test fated entry r becomes = grind (arith, becomes, cases_Bool (not (has_ended entry) && shares span (acting_footprint memory entry.request)))
 
 may_request : (fate : ℕ → Bool) (board : Board) (number : ℕ) (beat : ABeat) (now : Order) (requests : ℕ → WholeRequest) → IsFollowed board now
     → MayBecomeFated fate (with_request board.errors number (slice_get board.clients number) beat now) requests → MayBecomeFated fate now requests
@@ -455,9 +369,7 @@ may_request fate board number beat now requests follows = by_client (slice_get b
       where
         well : (held : HeldMessage) → client.front ≡ Some held → progress ≡ Whole → IsWell (request_of (with_more held beat))
         well held front whole =
-            subst (λ (f : Option HeldMessage). IsWell (request_of (joined client.limits f beat))) front
-            (sound_well client.limits (joined client.limits client.front beat)
-            (whole_sound client beat (follows.fronts number client there) (is ∙ ap (λ (p : Progress). Ok p) whole)))
+            grind (arith, front, whole, sound_well client.limits (joined client.limits client.front beat), whole_sound client beat (follows.fronts number client there))
 
     by_client : (found : Option ClientBoard) → slice_get board.clients number ≡ found
         → MayBecomeFated fate (with_request board.errors number found beat now) requests → MayBecomeFated fate now requests

@@ -2,7 +2,7 @@
 use Rattle.std.proofs.Common.{◌≡◌, ℕ, Bool, true, false, ◌||◌, not, List, [], map, set, Option, Some, None, ◌⊎◌, inl, inr, refl, sym, ◌∙◌, ap, subst, arith}
 use Rattle.std.specs.Prelude.{option_map, slice_get}
 use Rattle.std.specs.List.{list_any}
-use Rattle.std.proofs.lemmas.Bool.{and_parts, both_ways, cases_eq, false_from_ne_true, or_parts, or_right}
+use Rattle.std.proofs.lemmas.Bool.{and_parts, cases_eq, or_parts, or_right}
 use Rattle.std.proofs.lemmas.List.{length-map, length-set}
 use Rattle.std.proofs.lemmas.Option.{slice_get-map, slice_get_within}
 use Rattle.bus_words.proofs.StoredPlaces.{get_set}
@@ -24,14 +24,14 @@ use Rattle.scoreboard.proofs.real_time.Apart.{AreAll}
 use Rattle.scoreboard.proofs.real_time.Comings.{comes_beside, comes_other, comes_same, early_at, early_beside, early_other, early_same, footprints_front}
 use Rattle.scoreboard.proofs.real_time.Entries.{carry}
 use Rattle.scoreboard.proofs.real_time.Explained.{Explains, sources_with}
-use Rattle.scoreboard.proofs.real_time.Failures.{corrupt_as, fails_flag, fails_keeps, fails_less, same_acting, same_place}
+use Rattle.scoreboard.proofs.real_time.Failures.{corrupt_as, fails_flag, fails_keeps, fails_less, same_place}
 use Rattle.scoreboard.proofs.real_time.FirstBeats.{no_data_back}
 use Rattle.scoreboard.proofs.real_time.FlightLists.{HaveAllSources, are_all, sources_kept}
 use Rattle.scoreboard.proofs.real_time.FlightPlaces.{at_beside, coming_beside, coming_other, coming_same}
 use Rattle.scoreboard.proofs.real_time.Places.{Place, cases_place, coming_at, due_at, flight_at, flight_in, flights_kept, footprint_at}
 use Rattle.scoreboard.proofs.real_time.RequestActs.{IsWell, acts, own}
 use Rattle.scoreboard.proofs.real_time.ShadowJoins.{bytes_kept, certain_there, given_kept, given_there, still_certain, untouched_there}
-use Rattle.scoreboard.proofs.real_time.ShadowPlaces.{finals_other, finals_own, finals_with, free_there, none_here, none_there, nothing_begun, reply_same}
+use Rattle.scoreboard.proofs.real_time.ShadowPlaces.{finals_other, finals_own, finals_with, free_there, none_here, none_there, reply_same}
 use Rattle.scoreboard.proofs.real_time.StepOrders.{first_of}
 
 module _ {start : Bytes} (board : Board) (shadow : Shadow) (order : Order) (explains : Explains start (shadow_of board shadow) order) (ahead : IsAhead board shadow)
@@ -106,17 +106,10 @@ module _ {start : Bytes} (board : Board) (shadow : Shadow) (order : Order) (expl
   corrupt = corrupt_as board.errors first q fated any may.corrupt
 
   acts_there : (own faults regions q).writes ≡ true → mine ≡ record (own faults regions q) { failed = mine.failed; determined = mine.determined }
-  acts_there does =
-      mine_acts ∙ same_acting faults regions board.errors first q may.fields corrupt mine.failed mine.determined
-      (or_right (own faults regions q).reads (own faults regions q).writes does)
+  acts_there does = grind (arith, does)
 
   within : IsWithin theirs mine
-  within =
-      record {
-        writes = λ does. ap (λ (f : Footprint). f.writes) (acts_there does) ∙ does;
-        address = λ does. ap (λ (f : Footprint). f.address) (acts_there does);
-        size = λ does. ap (λ (f : Footprint). f.size) (acts_there does);
-      }
+  within = grind arith
 
   same_footprints : footprints_of hearing.clients ≡ footprints_of board.clients
   same_footprints = footprints_front board.clients number client (Some message) there
@@ -142,9 +135,7 @@ module _ {start : Bytes} (board : Board) (shadow : Shadow) (order : Order) (expl
 
   -- where it has failed nothing of it is determined
   broken : (x : ℕ) → mine.failed ≡ true → mine.determined x ≡ false
-  broken x has =
-      false_from_ne_true (mine.determined x) (λ determined.
-      both_ways failed (fails_less failed beginning x determined).1 (sym mine_failed ∙ has))
+  broken x has = grind (arith, has)
 
   becomes : IsComing faults regions mine q flight
   becomes =
@@ -203,9 +194,7 @@ module _ {start : Bytes} (board : Board) (shadow : Shadow) (order : Order) (expl
 
   -- one that came before is another's
   pub came_before : (c : ℕ) → comes board.clients c ≡ true → c ≡ number → ⊥
-  came_before c begun same =
-      let none = nothing_begun board shadow ahead number message.source client there front free in
-      absurd (cc (sym none ∙ ap (comes board.clients) (sym same) ∙ begun))
+  came_before c begun same = grind (arith, begun, same, ahead, there, front, free)
 
   none_yet : flight_at shadow.clients own_place ≡ None
   none_yet = none_there board shadow ahead number message.source client there front free

@@ -5,7 +5,7 @@ use Rattle.std.specs.Option.{option_flatten, option_or}
 use Rattle.std.proofs.lemmas.List.{drop-map}
 use Rattle.std.specs.List.{AllByRecursion, list_any}
 use Rattle.std.proofs.lemmas.Bool.Decides.{nat_tests}
-use Rattle.std.proofs.lemmas.Bool.{both_ways, false_from_ne_true, leb-false, or_parts}
+use Rattle.std.proofs.lemmas.Bool.{both_ways, false_from_ne_true, leb-false}
 use Rattle.bus_words.proofs.PlaceChanges.{all-map}
 use Rattle.tl_messages.specs.Requests.{WholeRequest, no_message, request_of}
 use Rattle.tl_messages.specs.declared.DBeat.{DBeat}
@@ -15,12 +15,11 @@ use Rattle.tl_messages.specs.Operations.{reply_has_data}
 use Rattle.subordinate.specs.Faults.{Faults}
 use Rattle.meaning.specs.Meaning.{Bytes, acknowledged, bytes_after_all, meaning}
 use Rattle.setups.specs.Setups.{SetupLists, faults_of}
-use Rattle.scoreboard.specs.AxiPorts.{PortBoard}
+use Rattle.scoreboard.specs.AxiPorts.{PortBoard, port_after}
 use Rattle.scoreboard.specs.Boards.{Beginning, Board, ClientBoard, IsReached, MayBegin, after_all, after_seen, d_wrong, due_beat, early_flight, failed_beat, hit_on, next_to, opening_board, opening_from, told_to, wrong_at, wrong_beat, wrong_by, wrong_reply, wrong_told}
-use Rattle.scoreboard.specs.AxiPorts.{port_after}
 use Rattle.scoreboard.specs.FailedBursts.{Span, failed_span}
 use Rattle.scoreboard.specs.Flights.{Footprint, InFlight, next_reply}
-use Rattle.scoreboard.specs.Orders.{Asked, Entry, IsWrongAs, IsWrongIn, Order, access_fails, begun_to, board_after, due_beats, has_ended, has_failed, is_due, is_due_in, known_request, left_of, meaning_on, reply_beats, shown_to}
+use Rattle.scoreboard.specs.Orders.{Asked, Entry, IsWrongAs, IsWrongIn, Order, begun_to, board_after, due_beats, has_ended, has_failed, is_due, is_due_in, known_request, left_of, meaning_on, reply_beats, shown_to}
 use Rattle.scoreboard.specs.RealTime.{asked_on}
 use Rattle.scoreboard.specs.declared.Errors.{Errors}
 use Rattle.scoreboard.specs.declared.Errors.TheVariants.{Any, Strict}
@@ -34,12 +33,11 @@ use Rattle.scoreboard.specs.declared.Wrong.{Wrong}
 use Rattle.scoreboard.specs.declared.Wrong.TheVariants.{Axi, NoClient, Place as WrongPlace, Reply, Request, UnknownAxi, UnknownRequest}
 use Rattle.scoreboard.proofs.real_time.Ahead.{HasBeside, NoneFated, Shadow, comes, front_in, none_given, shadow_of}
 use Rattle.scoreboard.proofs.real_time.AlikeBeats.{left_alike}
-use Rattle.scoreboard.proofs.real_time.Entries.{Each, IsLive, Stands, carry, run}
+use Rattle.scoreboard.proofs.real_time.Entries.{Each, IsLive, Stands, carry, run, place_of}
 use Rattle.scoreboard.proofs.real_time.Explained.{explains_as, explains_opening, opening_at, opening_flights}
-use Rattle.scoreboard.proofs.real_time.Failures.{failed_any, failed_at, fails_at, same_shapes, shape_of, silent_known, silent_shown}
+use Rattle.scoreboard.proofs.real_time.Failures.{failed_at, fails_at, same_shapes, shape_of, silent_known, silent_shown}
 use Rattle.scoreboard.proofs.real_time.FirstBeats.{no_data_back}
 use Rattle.scoreboard.proofs.MappedLists.{any_map}
-use Rattle.scoreboard.proofs.real_time.Entries.{place_of}
 use Rattle.scoreboard.proofs.real_time.Lengths.{some_beats}
 use Rattle.scoreboard.proofs.real_time.ReplyMoves.{waits_for}
 use Rattle.scoreboard.proofs.real_time.Follows.{Follows, IsFailing, IsFated, IsFollowed, IsMarked, IsOpen, begun_here, begun_settled, follows_as, run_settled, settle, settled, some_passes}
@@ -121,8 +119,7 @@ any_settled test (entry ∷ order) same = rw (same.0, any_settled test order sam
 
 -- whether an entry has failed, as the order has it
 failed_as : (errors : Errors) (setup : SetupLists) (entry : Entry) → failed_at errors (faults_of setup) setup.regions entry ≡ has_failed errors setup entry
-failed_as Strict setup entry = refl
-failed_as Any setup entry = refl
+failed_as errors setup entry = grind arith
 
 -- ---- a board that is followed, when all beats have come
 
@@ -151,9 +148,7 @@ module _ {start : Bytes} (board : Board) (shadow : Shadow) (order : Order) (foll
   fated_fails : (entry : Entry) → Known board shadow entry → entry.whole ≡ true → has_ended entry ≡ false → (flight : InFlight)
       → flight_at board.clients (place_of entry) ≡ Some flight → shadow.fates (place_of entry) ≡ true → flight.footprint.failed ≡ true
   fated_fails entry known whole alive flight there fated =
-      let fate = sym (known.fated whole alive) ∙ fated in
-      (known.failing whole alive flight there).0
-      ∙ failed_any board.errors board.memory.faults board.memory.regions entry (follows.any_fated entry.number fate) (known.spoiled fate)
+      grind (arith, known, whole, alive, there, fated, board.errors, board.memory.faults, board.memory.regions, follows.any_fated)
 
   -- each in flight is in the order
   in_order : AllByRecursion (Known board shadow) order → (place : Place) (flight : InFlight) → flight_at board.clients place ≡ Some flight
@@ -412,8 +407,7 @@ module _ {start : Bytes} (start_small : AreBytes start) (setup : SetupLists) (bo
               early_any = it.any
 
               sound_early : board.errors ≡ Any → has_failed board.errors setup found.entry ≡ false → fails_at (faults_of setup) setup.regions found.entry.request ≡ false
-              sound_early any sound =
-                  (or_parts found.entry.spoiled (access_fails setup found.entry.request) (sym (ap (λ (e : Errors). has_failed e setup found.entry) any) ∙ sound)).1
+              sound_early any sound = grind (arith, any, sound, found.entry.spoiled, found.entry.request, found.entry)
 
       early_broken : (broken : ReplyRule) (told : Option DBeat) → wrong_told client.coming asked.told (due ∷ []) beat ≡ Some (Reply broken told)
           → IsBroken (due_beats setup start order asked) beat broken

@@ -88,8 +88,7 @@ joined_free client beat told right is = by_front client.front right.free is
 held_answer : (client : ClientBoard) (beat : ABeat) (beats : List ABeat) (told : Progress) → held_of client.limits.client beats ≡ client.front
     → answer_to RealTime client beat ≡ Ok told
     → judged client.limits (held_of client.limits.client beats) beat (is_busy RealTime client.flights beat.source) ≡ Ok told
-held_answer client beat beats told held is =
-    ap (λ (front : Option HeldMessage). judged client.limits front beat (is_busy RealTime client.flights beat.source)) held ∙ is
+held_answer client beat beats told held is = grind (arith, held, is)
 
 -- with one more beat
 pub front_next : (client : ClientBoard) (beat : ABeat) → IsFrontRight client → answer_to RealTime client beat ≡ Ok More

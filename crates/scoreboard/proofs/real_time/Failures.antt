@@ -1,33 +1,29 @@
 -- Requests of which a beat was corrupt, or whose access fails: what they may leave, where they act, and that they tell an error on any bytes alike.
-use Rattle.std.proofs.Common.{◌≡◌, ℕ, zero, suc, ◌-◌, ◌^◌, ◌<◌, Bool, true, false, ◌||◌, List, [], ◌∷◌, map, Option, Some, None, if◌then◌else◌, inl, inr, ◌⊎◌, refl, sym, ◌∙◌, ap, subst, arith}
+use Rattle.std.proofs.Common.{◌≡◌, ℕ, ◌-◌, Bool, true, false, ◌||◌, List, [], ◌∷◌, map, if◌then◌else◌, inl, inr, ◌⊎◌, refl, sym, ◌∙◌, ap, arith}
 use Rattle.std.specs.Prelude.{is_none, is_some}
 use Rattle.std.specs.List.{list_any, range_with_len}
 use Rattle.std.proofs.Math.Bool.{or-true}
-use Rattle.std.proofs.lemmas.Bool.{and_from, and_parts, cases_Bool, or_parts}
-use Rattle.std.proofs.lemmas.Bool.Decides.{nat_tests}
+use Rattle.std.proofs.lemmas.Bool.{cases_Bool}
 use Rattle.std.proofs.lemmas.Simd.{map-map}
 use Rattle.bus_words.specs.Lanes.{given_at, payload_of}
 use Rattle.bus_words.proofs.MappedPlaces.{map_same}
 use Rattle.tl_messages.specs.Operations.{beats_of, reply_has_data, reply_opcode}
 use Rattle.tl_messages.specs.Requests.{WholeRequest}
 use Rattle.tl_messages.specs.declared.DBeat.{DBeat}
-use Rattle.tl_messages.specs.declared.Operation.{Operation}
-use Rattle.tl_messages.specs.declared.Operation.TheVariants.{Atomic, Get, Intent, PutFull, PutPartial}
 use Rattle.burst_plan.specs.PageMap.{address_of}
 use Rattle.burst_plan.specs.declared.Region.{Region}
 use Rattle.responses.specs.Shown.{Reply, address_in_word, beat_of_word, beat_without_data, lacks_a_byte, shown}
-use Rattle.subordinate.specs.Faults.{Faults, IsAbsent, IsGood, IsSlaveError, Standing, is_bad, standing_at}
-use Rattle.meaning.specs.Meaning.{Bytes, Effect, acknowledged, denied, effect, meaning, zeros}
+use Rattle.subordinate.specs.Faults.{Faults}
+use Rattle.meaning.specs.Meaning.{Bytes, acknowledged, denied, meaning, zeros}
 use Rattle.scoreboard.specs.Boards.{acting, fails, is_spoiled, tells_error}
 use Rattle.scoreboard.specs.Flights.{Footprint}
 use Rattle.scoreboard.specs.Orders.{Entry}
 use Rattle.scoreboard.specs.Races.{alone, unless_failed}
 use Rattle.scoreboard.specs.RealTime.{MayBecome}
-use Rattle.serial_memory.specs.SerialMemory.{Memory, on_good_page, place_in}
+use Rattle.serial_memory.specs.SerialMemory.{Memory, on_good_page}
 use Rattle.scoreboard.specs.declared.Errors.{Errors}
 use Rattle.scoreboard.specs.declared.Errors.TheVariants.{Any, Strict}
 use Rattle.scoreboard.proofs.MappedLists.{any_map}
-use Rattle.scoreboard.proofs.acceptance_order.Meanings.{meaning_none, meaning_some}
 use Rattle.scoreboard.proofs.real_time.AlikeBeats.{lacks_same, reply_of}
 use Rattle.scoreboard.proofs.real_time.ReplyBytes.{Fixed, Kind, Told, Tells, kind}
 use Rattle.scoreboard.proofs.real_time.StepOrders.{first_of}
@@ -41,30 +37,12 @@ FatedOf errors client q number fated = record (first_of errors client q true num
 
 -- it is well
 pub well_as : (errors : Errors) (client : ℕ) (q r : WholeRequest) (number : ℕ) (fated : Bool) → MayBecome (FatedOf errors client q number fated) r → IsWell q → IsWell r
-well_as errors client q r number fated may well = by_spoiled (is_spoiled errors q || fated) refl
-  where
-    by_spoiled : (b : Bool) → (is_spoiled errors q || fated) ≡ b → IsWell r
-    by_spoiled false sound = subst IsWell (sym (may.same refl sound)) well
-    by_spoiled true spoiled =
-        let left = may.left refl spoiled in
-        let same_size : r.size ≡ q.size = ap (λ (x : WholeRequest). x.size) may.fields in
-        record {
-          count = left.bytes.count;
-          small = left.bytes.small;
-          full = λ op is i below.
-              left.full op (sym (ap (λ (x : WholeRequest). x.operation) may.fields) ∙ is) i (subst (λ (s : ℕ). i < 2 ^ s) same_size below);
-        }
+well_as errors client q r number fated may well = grind (arith, may, well)
 
 -- it gives no byte that the request doesn't
 pub gives_less : (errors : Errors) (client : ℕ) (q r : WholeRequest) (number : ℕ) (fated : Bool) → MayBecome (FatedOf errors client q number fated) r → (a x : ℕ)
     → is_some (given_at r.bytes a x) ≡ true → is_some (given_at q.bytes a x) ≡ true
-gives_less errors client q r number fated may a x some = by_spoiled (is_spoiled errors q || fated) refl
-  where
-    by_spoiled : (b : Bool) → (is_spoiled errors q || fated) ≡ b → is_some (given_at q.bytes a x) ≡ true
-    by_spoiled false sound = sym (ap (λ (y : WholeRequest). is_some (given_at y.bytes a x)) (may.same refl sound)) ∙ some
-    by_spoiled true spoiled =
-        let within = (may.left refl spoiled).within (x - a) in
-        grind (arith, nat_tests, some, within)
+gives_less errors client q r number fated may a x some = grind (arith, may, some)
 
 -- it is what it is, where it isn't fated and wasn't spoiled
 pub same_as : (errors : Errors) (client : ℕ) (q r : WholeRequest) (number : ℕ) (fated : Bool) → MayBecome (FatedOf errors client q number fated) r → fated ≡ false
@@ -74,15 +52,7 @@ same_as errors client q r number fated may none sound = may.same refl (rw (none,
 -- and corrupt where it was, unless that may be told in any way
 pub corrupt_as : (errors : Errors) (q r : WholeRequest) (fated : Bool) → (fated ≡ true → errors ≡ Any)
     → ((is_spoiled errors q || fated) ≡ false → q.corrupt ≡ true → r.corrupt ≡ true) → is_spoiled errors q ≡ false → q.corrupt ≡ true → r.corrupt ≡ true
-corrupt_as errors q r fated any corrupt sound is = by_errors errors refl
-  where
-    by_errors : (e : Errors) → errors ≡ e → r.corrupt ≡ true
-    by_errors Any same = absurd (cc (sym sound ∙ ap (λ (x : Errors). is_spoiled x q) same ∙ is))
-    by_errors Strict same = by_fated (cases_Bool fated)
-      where
-        by_fated : (fated ≡ true) ⊎ (fated ≡ false) → r.corrupt ≡ true
-        by_fated (inl fails) = let both = sym same ∙ any fails in absurd (cc (both))
-        by_fated (inr none) = corrupt (rw (sound, none) refl) is
+corrupt_as errors q r fated any corrupt sound is = grind (arith, any, corrupt, sound, is)
 
 -- ---- where it acts
 
@@ -90,25 +60,11 @@ module _ (faults : Faults) (regions : List Region) (errors : Errors) (q r : Whol
     (corrupt : is_spoiled errors q ≡ false → q.corrupt ≡ true → r.corrupt ≡ true) where
   -- one that acts isn't corrupt
   acts_sound : ((own faults regions r).reads || (own faults regions r).writes) ≡ true → r.corrupt ≡ false
-  acts_sound does = by_corrupt (cases_Bool r.corrupt)
-    where
-      by_corrupt : (r.corrupt ≡ true) ⊎ (r.corrupt ≡ false) → r.corrupt ≡ false
-      by_corrupt (inr is) = is
-      by_corrupt (inl is) = absurd (grind (arith, is, does))
+  acts_sound does = grind (arith, does)
 
   -- where it isn't corrupt it acts where the request may act
   place_of_sound : r.corrupt ≡ false → address_of regions (acting errors q) ≡ address_of regions r
-  place_of_sound is = by_errors errors corrupt
-    where
-      by_errors : (e : Errors) → (is_spoiled e q ≡ false → q.corrupt ≡ true → r.corrupt ≡ true) → address_of regions (acting e q) ≡ address_of regions r
-      by_errors Any keeps =
-          ap (λ (c : Bool). address_of regions (record q { corrupt = c })) (sym is) ∙ ap (address_of regions) (sym fields)
-      by_errors Strict keeps = by_corrupt (cases_Bool q.corrupt)
-        where
-          by_corrupt : (q.corrupt ≡ true) ⊎ (q.corrupt ≡ false) → address_of regions q ≡ address_of regions r
-          by_corrupt (inl was) = absurd (cc (sym is ∙ keeps refl was))
-          by_corrupt (inr was) =
-              ap (λ (c : Bool). address_of regions (record q { corrupt = c })) (was ∙ sym is) ∙ ap (address_of regions) (sym fields)
+  place_of_sound is = grind (arith, is, corrupt, fields)
 
   pub same_place : ((own faults regions r).reads || (own faults regions r).writes) ≡ true
       → on_good_page faults (address_of regions (acting errors q)) ≡ on_good_page faults (address_of regions r)
@@ -118,26 +74,18 @@ module _ (faults : Faults) (regions : List Region) (errors : Errors) (q r : Whol
   pub same_acting : (failed : Bool) (determined : ℕ → Bool) → ((own faults regions r).reads || (own faults regions r).writes) ≡ true
       → record (alone (λ x. false) (on_good_page faults (address_of regions (acting errors q))) q) { failed = failed; determined = determined }
       ≡ record (own faults regions r) { failed = failed; determined = determined }
-  same_acting failed determined does =
-      ap (λ (place : Option ℕ). record (alone (λ x. false) place q) { failed = failed; determined = determined }) (same_place does)
-      ∙ ap (λ (x : WholeRequest). record (alone (λ y. false) (on_good_page faults (address_of regions r)) x) { failed = failed; determined = determined }) (sym fields)
+  same_acting failed determined does = grind (arith, does, fields)
 
   -- what it gives the request may give there
   pub gives_there : (footprint : Footprint)
       → footprint ≡ record (alone (λ x. false) (on_good_page faults (address_of regions (acting errors q))) q) { failed = footprint.failed; determined = footprint.determined }
       → ((a x : ℕ) → is_some (given_at r.bytes a x) ≡ true → is_some (given_at q.bytes a x) ≡ true)
       → (x : ℕ) → gives (own faults regions r) r.bytes x ≡ true → gives footprint q.bytes x ≡ true
-  gives_there footprint is less x given =
-      let parts = and_parts (own faults regions r).writes (is_some (given_at r.bytes (own faults regions r).address x)) given in
-      let does : ((own faults regions r).reads || (own faults regions r).writes) ≡ true = grind (arith, parts.0) in
-      let same = is ∙ same_acting footprint.failed footprint.determined does in
-      and_from footprint.writes (is_some (given_at q.bytes footprint.address x)) (ap (λ (f : Footprint). f.writes) same ∙ parts.0)
-      (ap (λ (f : Footprint). is_some (given_at q.bytes f.address x)) same ∙ less (own faults regions r).address x parts.1)
+  gives_there footprint is less x given = grind (arith, is, less, given)
 
 -- one that isn't spoiled acts as it is
 pub acting_same : (errors : Errors) (q : WholeRequest) → is_spoiled errors q ≡ false → acting errors q ≡ q
-acting_same Strict q sound = refl
-acting_same Any q sound = ap (λ (c : Bool). record q { corrupt = c }) (sym sound)
+acting_same errors q sound = grind (arith, sound)
 
 -- ---- where a footprint has failed
 
@@ -200,16 +148,7 @@ tells_same faults regions q m n = by_kind (kind faults regions q)
 
 -- one that is denied does
 tells_denied : (q : WholeRequest) → tells_error (shown q denied) ≡ true
-tells_denied q = by_data (reply_has_data q.operation) refl
-  where
-    some_word : (n : ℕ) → 0 < n → list_any (λ j. tells (beat_of_word q denied j)) (range_with_len 0 n) ≡ true
-    some_word zero none = absurd (omega (arith, none))
-    some_word (suc n) some = refl
-
-    by_data : (b : Bool) → reply_has_data q.operation ≡ b → tells_error (shown q denied) ≡ true
-    by_data false is = rw is refl
-    by_data true is =
-        rw is (any_map tells (beat_of_word q denied) (range_with_len 0 (beats_of q.size true)) ∙ some_word (beats_of q.size true) (grind arith))
+tells_denied q = grind arith
 
 -- one that is spoiled fails
 pub sound_spoils : (errors : Errors) (memory : Memory) (q : WholeRequest) → fails errors memory q ≡ false → is_spoiled errors q ≡ false
@@ -217,11 +156,7 @@ sound_spoils Strict memory q sound = refl
 sound_spoils Any memory q sound = by_corrupt (cases_Bool q.corrupt)
   where
     by_corrupt : (q.corrupt ≡ true) ⊎ (q.corrupt ≡ false) → q.corrupt ≡ false
-    by_corrupt (inr is) = is
-    by_corrupt (inl is) =
-        let none : address_of memory.regions q ≡ None = rw is refl in
-        let told = (or_parts (is_none (place_in memory (record q { corrupt = false }))) (tells_error (shown q (meaning memory.faults memory.regions q memory.bytes).reply)) sound).1 in
-        absurd (cc (sym told ∙ ap (λ (e : Effect). tells_error (shown q e.reply)) (meaning_none memory.faults memory.regions q memory.bytes none) ∙ tells_denied q))
+    by_corrupt is = grind (arith, is)
 
 -- whether a request would act on no good page, were it not corrupt
 abbrev pub lacks_place : Faults → List Region → WholeRequest → Bool
@@ -237,41 +172,10 @@ abbrev pub failed_at : Errors → Faults → List Region → Entry → Bool
 failed_at Strict faults regions entry = false
 failed_at Any faults regions entry = entry.spoiled || fails_at faults regions entry.request
 
--- whatever it gives
-effect_bytes : (faults : Faults) (q : WholeRequest) (bytes : List (Option ℕ)) (m : Bytes) (a : ℕ) (op : Operation) (standing : Standing) (bad : Bool)
-    → (effect faults q m a op standing bad).reply ≡ (effect faults (record q { bytes = bytes }) m a op standing bad).reply
-effect_bytes faults q bytes m a PutFull IsGood bad = refl
-effect_bytes faults q bytes m a PutFull IsSlaveError bad = refl
-effect_bytes faults q bytes m a PutFull IsAbsent bad = refl
-effect_bytes faults q bytes m a PutPartial IsGood bad = refl
-effect_bytes faults q bytes m a PutPartial IsSlaveError bad = refl
-effect_bytes faults q bytes m a PutPartial IsAbsent bad = refl
-effect_bytes faults q bytes m a (Intent write) standing bad = refl
-effect_bytes faults q bytes m a (Atomic op) IsGood true = refl
-effect_bytes faults q bytes m a (Atomic op) IsGood false = refl
-effect_bytes faults q bytes m a (Atomic op) IsSlaveError bad = refl
-effect_bytes faults q bytes m a (Atomic op) IsAbsent bad = refl
-effect_bytes faults q bytes m a Get IsGood bad = refl
-effect_bytes faults q bytes m a Get IsSlaveError bad = refl
-effect_bytes faults q bytes m a Get IsAbsent bad = refl
-
 -- as another with these fields does
 fails_fields : (faults : Faults) (regions : List Region) (q r : WholeRequest) → r ≡ record q { bytes = r.bytes; corrupt = r.corrupt }
     → fails_at faults regions q ≡ fails_at faults regions r
-fails_fields faults regions q r fields = by_address (address_of regions sound) refl ∙ sym (ap (fails_at faults regions) fields)
-  where
-    sound : WholeRequest
-    sound = record q { corrupt = false }
-
-    by_address : (o : Option ℕ) → address_of regions sound ≡ o → fails_at faults regions q ≡ fails_at faults regions (record q { bytes = r.bytes; corrupt = r.corrupt })
-    by_address None is =
-        ap (λ (e : Effect). lacks_place faults regions q || tells_error (shown sound e.reply)) (meaning_none faults regions sound zeros is
-        ∙ sym (meaning_none faults regions (record sound { bytes = r.bytes }) zeros is))
-    by_address (Some a) is =
-        ap (λ (reply : Reply). lacks_place faults regions q || tells_error (shown sound reply))
-        (ap (λ (e : Effect). e.reply) (meaning_some faults regions sound zeros a is)
-        ∙ effect_bytes faults sound r.bytes zeros a q.operation (standing_at faults a) (is_bad faults a)
-        ∙ sym (ap (λ (e : Effect). e.reply) (meaning_some faults regions (record sound { bytes = r.bytes }) zeros a is)))
+fails_fields faults regions q r fields = grind (arith, fields)
 
 -- a request fails as what it becomes
 pub fails_as : (errors : Errors) (client : ℕ) (memory : Memory) (q r : WholeRequest) (whole : Bool) (number : ℕ) → r ≡ record q { bytes = r.bytes; corrupt = r.corrupt }
@@ -282,12 +186,7 @@ fails_as Any client memory q r whole number fields = by_corrupt (cases_Bool q.co
     by_corrupt : (q.corrupt ≡ true) ⊎ (q.corrupt ≡ false)
         → (lacks_place memory.faults memory.regions q || tells_error (shown q (meaning memory.faults memory.regions q memory.bytes).reply))
         ≡ (q.corrupt || fails_at memory.faults memory.regions r)
-    by_corrupt (inl is) =
-        let none : address_of memory.regions q ≡ None = rw is refl in
-        ap (λ (b : Bool). lacks_place memory.faults memory.regions q || b)
-        (ap (λ (e : Effect). tells_error (shown q e.reply)) (meaning_none memory.faults memory.regions q memory.bytes none) ∙ tells_denied q)
-        ∙ or-true (lacks_place memory.faults memory.regions q)
-        ∙ sym (ap (λ (c : Bool). c || fails_at memory.faults memory.regions r) is)
+    by_corrupt (inl is) = grind (arith, tells_denied q, or-true (lacks_place memory.faults memory.regions q))
     by_corrupt (inr is) =
         let sound : record q { corrupt = false } ≡ q = ap (λ (c : Bool). record q { corrupt = c }) (sym is) in
         ap (λ (b : Bool). lacks_place memory.faults memory.regions q || b)
@@ -331,9 +230,7 @@ same_shapes q r reply other fields =
 -- entries that agree in what they ask and in what was corrupt have failed alike
 pub failed_by : (errors : Errors) (faults : Faults) (regions : List Region) (one other : Entry) → one.spoiled ≡ other.spoiled → one.request ≡ other.request
     → failed_at errors faults regions one ≡ failed_at errors faults regions other
-failed_by Strict faults regions one other spoiled same = refl
-failed_by Any faults regions one other spoiled same =
-    ap (λ (b : Bool). b || fails_at faults regions one.request) spoiled ∙ ap (λ (x : WholeRequest). other.spoiled || fails_at faults regions x) same
+failed_by errors faults regions one other spoiled same = grind (arith, spoiled, same)
 
 -- ---- a request whose reply has no data
 
@@ -341,58 +238,11 @@ failed_by Any faults regions one other spoiled same =
 pub silent_shown : (q : WholeRequest) (reply : Reply) → reply_has_data q.operation ≡ false → shown q reply ≡ beat_without_data q reply ∷ []
 silent_shown q reply silent = rw silent refl
 
-silent_tells : (q : WholeRequest) (reply : Reply) → reply_has_data q.operation ≡ false → tells_error (shown q reply) ≡ reply.denied
-silent_tells q reply silent = ap tells_error (silent_shown q reply silent) ∙ by_denied reply.denied
-  where
-    by_denied : (b : Bool) → ((b || false) || false) ≡ b
-    by_denied true = refl
-    by_denied false = refl
-
--- whatever it gives
-effect_reply : (faults : Faults) (q r : WholeRequest) (m n : Bytes) (a : ℕ) (op : Operation) (standing : Standing) (bad : Bool) → reply_has_data op ≡ false
-    → (effect faults q m a op standing bad).reply ≡ (effect faults r n a op standing bad).reply
-effect_reply faults q r m n a PutFull IsGood bad silent = refl
-effect_reply faults q r m n a PutFull IsSlaveError bad silent = refl
-effect_reply faults q r m n a PutFull IsAbsent bad silent = refl
-effect_reply faults q r m n a PutPartial IsGood bad silent = refl
-effect_reply faults q r m n a PutPartial IsSlaveError bad silent = refl
-effect_reply faults q r m n a PutPartial IsAbsent bad silent = refl
-effect_reply faults q r m n a (Intent write) standing bad silent = refl
-effect_reply faults q r m n a (Atomic op) standing bad silent = absurd (cc (silent))
-effect_reply faults q r m n a Get standing bad silent = absurd (cc (silent))
-
-silent_reply : (faults : Faults) (regions : List Region) (q r : WholeRequest) (m n : Bytes) → reply_has_data q.operation ≡ false → r ≡ record q { bytes = r.bytes; corrupt = r.corrupt }
-    → q.corrupt ≡ r.corrupt → (meaning faults regions q m).reply ≡ (meaning faults regions r n).reply
-silent_reply faults regions q r m n silent fields corrupt = by_address (address_of regions q) refl
-  where
-    same_address : address_of regions q ≡ address_of regions r
-    same_address = ap (λ (c : Bool). address_of regions (record q { corrupt = c })) corrupt ∙ ap (address_of regions) (sym fields)
-
-    operation : r.operation ≡ q.operation
-    operation = ap (λ (x : WholeRequest). x.operation) fields
-
-    by_address : (o : Option ℕ) → address_of regions q ≡ o → (meaning faults regions q m).reply ≡ (meaning faults regions r n).reply
-    by_address None is =
-        ap (λ (e : Effect). e.reply) (meaning_none faults regions q m is) ∙ sym (ap (λ (e : Effect). e.reply) (meaning_none faults regions r n (sym same_address ∙ is)))
-    by_address (Some a) is =
-        ap (λ (e : Effect). e.reply) (meaning_some faults regions q m a is)
-        ∙ effect_reply faults q r m n a q.operation (standing_at faults a) (is_bad faults a) silent
-        ∙ ap (λ (op : Operation). (effect faults r n a op (standing_at faults a) (is_bad faults a)).reply) (sym operation)
-        ∙ sym (ap (λ (e : Effect). e.reply) (meaning_some faults regions r n a (sym same_address ∙ is)))
-
 -- where the access of such a request doesn't fail its reply is an acknowledgement, on any bytes
 pub silent_known : (faults : Faults) (regions : List Region) (r : WholeRequest) (m : Bytes) → reply_has_data r.operation ≡ false → fails_at faults regions r ≡ false
     → shown r (meaning faults regions (record r { corrupt = false }) m).reply ≡ beat_without_data r acknowledged ∷ []
-silent_known faults regions r m silent sound =
-    let q : WholeRequest = record r { corrupt = false } in
-    let granted : (meaning faults regions q m).reply.denied ≡ false =
-    ap (λ (reply : Reply). reply.denied) (silent_reply faults regions q q m zeros silent refl refl)
-    ∙ sym (silent_tells q (meaning faults regions q zeros).reply silent)
-    ∙ (or_parts (lacks_place faults regions r) (tells_error (shown q (meaning faults regions q zeros).reply)) sound).1 in
-    silent_shown r (meaning faults regions q m).reply silent
-    ∙ ap (λ (b : Bool). record { opcode = reply_opcode r.operation; param = 0; size = r.size; source = r.source; denied = b; payload = 0; corrupt = false } ∷ []) granted
+silent_known faults regions r m silent sound = grind (arith, silent, sound)
 
 -- one that is spoiled has failed, where that may be told in any way
 pub failed_any : (errors : Errors) (faults : Faults) (regions : List Region) (entry : Entry) → errors ≡ Any → entry.spoiled ≡ true → failed_at errors faults regions entry ≡ true
-failed_any Any faults regions entry any spoiled = ap (λ (b : Bool). b || fails_at faults regions entry.request) spoiled
-failed_any Strict faults regions entry any spoiled = absurd (cc (any))
+failed_any errors faults regions entry any spoiled = grind (arith, any, spoiled)

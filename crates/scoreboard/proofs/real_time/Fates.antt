@@ -3,8 +3,7 @@
 use Rattle.std.proofs.Common.{◌≡◌, ℕ, ◌+◌, ◌<◌, ◌≤◌, ◌==◌, Bool, true, false, ◌&&◌, ◌||◌, not, List, [], ◌∷◌, ◌++◌, map, length, Option, Some, None, Result, Ok, Err, inl, inr, refl, sym, ◌∙◌, ap, subst, arith}
 use Rattle.std.specs.Prelude.{slice_get}
 use Rattle.std.specs.List.{list_any}
-use Rattle.std.proofs.lemmas.Bool.{and_parts, cases_Bool, cases_eq, cases_lt, le-leb, leb-true, not-true, or_cases, or_left}
-use Rattle.std.proofs.lemmas.Bool.Decides.{nat_tests}
+use Rattle.std.proofs.lemmas.Bool.{and_parts, cases_Bool, cases_eq, cases_lt, le-leb, not-true, or_left}
 use Rattle.std.proofs.lemmas.List.{get_or_past, length-append, length-map}
 use Rattle.tl_messages.specs.Requests.{HeldMessage, WholeRequest, request_of}
 use Rattle.tl_checker.specs.Ports.{joined}
@@ -19,12 +18,11 @@ use Rattle.scoreboard.specs.Orders.{Entry, Order, after_beat, begun_to, board_af
 use Rattle.scoreboard.specs.RealTime.{acting_footprint, begun_from, begun_in, begun_next, completed, entry_of, heard, is_open, numbered, struck, with_answered, with_failed, with_progress, with_request}
 use Rattle.serial_memory.specs.SerialMemory.{Memory}
 use Rattle.scoreboard.specs.declared.Errors.{Errors}
-use Rattle.scoreboard.specs.declared.Errors.TheVariants.{Any, Strict}
+use Rattle.scoreboard.specs.declared.Errors.TheVariants.{Any}
 use Rattle.scoreboard.specs.declared.ObservedBeat.{ObservedBeat}
 use Rattle.scoreboard.specs.declared.ObservedBeat.TheVariants.{A, D, Axi as OnAxi, Drained}
 use Rattle.scoreboard.specs.declared.Policy.TheVariants.{RealTime}
 use Rattle.scoreboard.proofs.real_time.Becoming.{EachIn, each_last, each_map, errors_kept, no_entry, numbered_first, numbered_last, numbered_map}
-use Rattle.scoreboard.proofs.real_time.Lengths.{some_beats}
 
 -- ---- one entry
 
@@ -38,15 +36,6 @@ pub record Grows (old new : Entry) : Type 0 where
 grows_same : (entry : Entry) → Grows entry entry
 grows_same entry = record { number = refl; spoiled = λ is. is; ended = λ is. is; still = λ ended is. is }
 
-grows_then : (one two three : Entry) → Grows one two → Grows two three → Grows one three
-grows_then one two three first rest =
-    record {
-      number = rest.number ∙ first.number;
-      spoiled = λ is. rest.spoiled (first.spoiled is);
-      ended = λ is. rest.ended (first.ended is);
-      still = λ ended is. first.still ended (rest.still (first.ended ended) is);
-    }
-
 -- no beat came of a reply to one that isn't whole, and one is spoiled only where errors are told in any way
 pub record IsRecorded (errors : Errors) (entry : Entry) : Type 0 where
   pub starts : entry.whole ≡ false → entry.came ≡ 0
@@ -54,23 +43,17 @@ pub record IsRecorded (errors : Errors) (entry : Entry) : Type 0 where
 
 -- so it hasn't ended
 not_ended : (errors : Errors) (entry : Entry) → IsRecorded errors entry → entry.whole ≡ false → has_ended entry ≡ true → ⊥
-not_ended errors entry is unwhole ended =
-    omega (arith, some_beats entry.request, leb-true (reply_beats entry.request) entry.came ended, is.starts unwhole)
+not_ended errors entry is unwhole ended = grind (arith, is, unwhole, ended)
 
 spoils_any : (errors : Errors) (q : WholeRequest) → is_spoiled errors q ≡ true → errors ≡ Any
-spoils_any Strict q is = absurd (cc (is))
-spoils_any Any q is = refl
+spoils_any errors q is = grind (arith, is)
 
 -- a change of an entry
 abbrev Keeps : Errors → (Entry → Entry) → Type 0
 Keeps errors change = (entry : Entry) → IsRecorded errors entry → Grows entry (change entry) × IsRecorded errors (change entry)
 
 told_more : (errors : Errors) (q : WholeRequest) (entry : Entry) → IsRecorded errors entry → (entry.spoiled || is_spoiled errors q) ≡ true → errors ≡ Any
-told_more errors q entry is spoiled =
-    elim (or_cases entry.spoiled (is_spoiled errors q) spoiled) [
-      | inl was ↦ is.told was
-      | inr now ↦ spoils_any errors q now
-    ]
+told_more errors q entry is spoiled = grind (arith, is, spoiled)
 
 heard_keeps : (errors : Errors) (client : ℕ) (q : WholeRequest) → Keeps errors (heard errors client q)
 heard_keeps errors client q entry is =
@@ -126,19 +109,8 @@ beat_keeps errors begun client source entry is =
     ]
   where
     by_whole : (whole : Bool) → entry.whole ≡ whole → Grows entry (counted whole entry) × IsRecorded errors (counted whole entry)
-    by_whole true whole = (
-      record {
-        number = refl;
-        spoiled = λ was. was;
-        ended = λ over. le-leb (reply_beats entry.request) (entry.came + 1) (omega (arith, leb-true (reply_beats entry.request) entry.came over));
-        still = λ over now. now;
-      },
-      record { starts = λ unwhole. absurd (cc (sym unwhole ∙ whole)); told = is.told },
-    )
-    by_whole false unwhole = (
-      record { number = refl; spoiled = λ was. was; ended = λ over. over; still = λ over now. now },
-      record { starts = is.starts; told = is.told },
-    )
+    by_whole true whole = grind (arith, whole, le-leb (reply_beats entry.request) (entry.came + 1))
+    by_whole false unwhole = grind (arith, unwhole)
 
 early_keeps : (errors : Errors) (over : Bool) (client : ℕ) → Keeps errors (ended_early over client)
 early_keeps errors over client entry is =
@@ -148,10 +120,7 @@ early_keeps errors over client entry is =
     ]
   where
     turned : begun_to client entry ≡ true → Grows entry (record entry { came = reply_beats entry.request }) × IsRecorded errors (record entry { came = reply_beats entry.request })
-    turned has = (
-      record { number = refl; spoiled = λ was. was; ended = λ was. le-leb (reply_beats entry.request) (reply_beats entry.request) (omega arith); still = λ was now. now },
-      record { starts = λ unwhole. absurd (let none = is.starts unwhole in grind (arith, nat_tests, has, none)); told = is.told },
-    )
+    turned has = grind (arith, has, le-leb (reply_beats entry.request) (reply_beats entry.request) (omega arith))
 
 -- ---- all that have begun
 
@@ -202,13 +171,7 @@ goes_last errors now entry own number is =
     }
 
 goes_then : (errors : Errors) (one two three : Order) → GrowsTo errors one two → GrowsTo errors two three → GrowsTo errors one three
-goes_then errors one two three first rest =
-    record {
-      longer = omega (arith, first.longer, rest.longer);
-      grows = λ k small.
-          grows_then (numbered one k) (numbered two k) (numbered three k) (first.grows k small) (rest.grows k (omega (arith, small, first.longer)));
-      counted = rest.counted;
-    }
+goes_then errors one two three first rest = grind (arith, first, rest)
 
 -- ---- a beat
 
@@ -232,8 +195,7 @@ goes_failed errors memory (Some span) now any is = goes_map errors (struck memor
 
 -- errors are told in any way where a response tells of one
 pub told_any : (errors : Errors) (port : PortBoard) (beat : AxiBeat) (span : Span) → failed_span errors port beat ≡ Some span → errors ≡ Any
-told_any Strict port beat span is = absurd (cc (is))
-told_any Any port beat span is = refl
+told_any errors port beat span is = grind (arith, is)
 
 pub goes_next : (board : Board) (seen : ObservedBeat) (now : Order) → IsCounted board.errors now → GrowsTo board.errors now (begun_next board seen now)
 goes_next board (A number beat) now is = by_client (slice_get board.clients number)
@@ -279,9 +241,7 @@ from_parts (seen ∷ first) rest board now = from_parts first rest (after_seen R
 
 -- since the start
 pub counted_in : (errors : Errors) (setup : Beginning) (beats : List ObservedBeat) → IsCounted errors (begun_in errors setup beats)
-counted_in errors setup beats =
-    (goes_from beats (opening_from errors setup) []
-    (record { each = λ k small. absurd (omega (arith, small)); numbers = λ k small. absurd (omega (arith, small)) })).counted
+counted_in errors setup beats = grind (arith, goes_from beats (opening_from errors setup))
 
 -- from a first part of the beats to all of them
 pub goes_since : (errors : Errors) (setup : Beginning) (done rest : List ObservedBeat)

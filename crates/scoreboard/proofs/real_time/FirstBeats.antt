@@ -7,9 +7,8 @@ use Rattle.tl_messages.specs.Operations.{atomic_opcode, beats_of, has_data, opco
 use Rattle.tl_messages.specs.Requests.{begun, is_whole}
 use Rattle.tl_messages.specs.declared.ABeat.{ABeat}
 use Rattle.tl_messages.specs.declared.AtomicOp.{AtomicOp}
-use Rattle.tl_messages.specs.declared.AtomicOp.TheVariants.{Min}
 use Rattle.tl_messages.specs.declared.Operation.{Operation}
-use Rattle.tl_messages.specs.declared.Operation.TheVariants.{PutFull, PutPartial, Atomic, Get, Intent}
+use Rattle.tl_messages.specs.declared.Operation.TheVariants.{Atomic}
 use Rattle.tl_checker.specs.Ports.{judged, progress_of}
 use Rattle.tl_checker.specs.RequestRules.{TlPortLimits, first_fault}
 use Rattle.tl_checker.specs.declared.Progress.TheVariants.{More, Whole}
@@ -37,8 +36,7 @@ more_beats limits beat busy is =
     has_more beat.size (has_data (begun limits.client beat).operation) (is_more (is_whole (begun limits.client beat)) told)
 
 atomic_opcodes : (op : AtomicOp) → (atomic_opcode op == 2 || atomic_opcode op == 3) ≡ true
-atomic_opcodes Min = refl
-atomic_opcodes _ = refl
+atomic_opcodes op = grind arith
 
 -- it is no atomic
 pub more_put : (limits : TlPortLimits) (beat : ABeat) (busy : Bool) → judged limits None beat busy ≡ Ok More
@@ -52,11 +50,7 @@ more_put limits beat busy is op atomic =
     grind (arith, nat_tests, test, large, right.atomic_size)
 
 reads_none : (operation : Operation) → has_data operation ≡ true → ((op : AtomicOp) → operation ≡ Atomic op → ⊥) → may_read operation ≡ false
-reads_none PutFull has other = refl
-reads_none PutPartial has other = refl
-reads_none (Atomic op) has other = absurd (other op refl)
-reads_none Get has other = absurd (cc (has))
-reads_none (Intent write) has other = absurd (cc (has))
+reads_none operation has other = grind (arith, has, other)
 
 -- one that reads nothing tells nothing
 pub no_data_back : (operation : Operation) → may_read operation ≡ false → reply_has_data operation ≡ false

@@ -14,7 +14,7 @@ use Rattle.scoreboard.specs.Flights.{Flights, Footprint, InFlight, each_flight, 
 use Rattle.scoreboard.specs.Races.{flight_beside}
 use Rattle.scoreboard.proofs.MappedLists.{find_map}
 use Rattle.scoreboard.proofs.real_time.Apart.{AreAll}
-use Rattle.scoreboard.proofs.real_time.Places.{HaveSources, NothingComes, begun_at, coming_at, coming_in, flight_in, flights_at, flights_in, footprint_at, footprint_in}
+use Rattle.scoreboard.proofs.real_time.Places.{HaveSources, NothingComes, begun_at, coming_at, flight_in, flights_at, flights_in, footprint_at, footprint_in}
 
 abbrev source_of : InFlight → ℕ
 source_of flight = flight.source
@@ -134,11 +134,7 @@ module _ (test : Footprint → Bool) (nobody : test no_footprint ≡ false) wher
 
 -- what nobody has begun
 pub none_coming : (clients : List ClientBoard) → NothingComes clients → (number : ℕ) → coming_at clients number ≡ no_footprint
-none_coming clients nothing number = by_client (slice_get clients number) refl
-  where
-    by_client : (o : Option ClientBoard) → slice_get clients number ≡ o → coming_at clients number ≡ no_footprint
-    by_client None is = ap coming_in is
-    by_client (Some client) is = ap coming_in is ∙ nothing number client is
+none_coming clients nothing number = grind (arith, nothing)
 
 -- the footprints of some clients are those at all places, where nothing of several beats has begun
 pub are_all : (clients : List ClientBoard) → HaveAllSources clients → NothingComes clients → AreAll (footprint_at clients) (footprints_of clients)

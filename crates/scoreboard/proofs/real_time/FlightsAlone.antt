@@ -1,13 +1,13 @@
 -- Boards without their footprints: requests in flight are found, join and end as with them.
 use Rattle.std.proofs.Common.{◌≡◌, ℕ, Bool, true, false, ◌&&◌, List, [], ◌∷◌, map, Option, None, Some, if◌then◌else◌, refl, sym, ◌∙◌, ap, ap₂, arith}
-use Rattle.std.specs.Prelude.{is_some, slice_set, unwrap_or}
+use Rattle.std.specs.Prelude.{slice_set}
 use Rattle.tl_messages.specs.declared.DBeat.{DBeat}
 use Rattle.std.specs.Option.{option_map}
 use Rattle.std.proofs.lemmas.List.{map-append, map-set, set-set}
 use Rattle.std.proofs.lemmas.Simd.{map-map}
 use Rattle.bus_words.proofs.MappedPlaces.{map_same}
 use Rattle.tl_messages.specs.Requests.{WholeRequest}
-use Rattle.scoreboard.specs.Boards.{Board, ClientBoard, after_d, begun_on, client_after, client_beside, client_cut, early_after, early_left, flight_for, given_on, has_replied, hit_client, hit_on, joined_on, told_to, with_accepted, with_client, with_taken, with_whole}
+use Rattle.scoreboard.specs.Boards.{Board, ClientBoard, after_d, begun_on, client_after, client_beside, client_cut, early_left, flight_for, given_on, has_replied, hit_client, hit_on, joined_on, with_accepted, with_client, with_taken, with_whole}
 use Rattle.scoreboard.specs.FailedBursts.{Span, hit_flight}
 use Rattle.scoreboard.specs.Flights.{Flights, Footprint, InFlight, begun_is_other, cut_short, each_flight, flights_after, is_busy, is_of_source, is_over, next_reply, no_footprint}
 use Rattle.scoreboard.specs.Races.{flight_beside}
@@ -38,8 +38,7 @@ cut_alone flights source =
     (by_over (is_over flights source) flights.begun ∙ ap (λ (over : Bool). if over then None else option_map flight_alone flights.begun) (sym same))
   where
     other_same : (begun : Option InFlight) → begun_is_other source (option_map flight_alone begun) ≡ begun_is_other source begun
-    other_same None = refl
-    other_same (Some flight) = refl
+    other_same begun = grind arith
 
     same : is_over (each_flight flight_alone flights) source ≡ is_over flights source
     same = ap₂ (λ (other due : Bool). other && due) (other_same flights.begun) (any_map (is_of_source source) flight_alone flights.due)
@@ -48,25 +47,13 @@ cut_alone flights source =
     by_over true begun = refl
     by_over false begun = refl
 
--- what was told
-pub told_alone : (client : ClientBoard) → told_to client ≡ told_to (client_alone client)
-told_alone client = by_begun client.flights.begun
-  where
-    by_begun : (begun : Option InFlight) → option_map (λ flight. client.told) begun ≡ option_map (λ flight. client.told) (option_map flight_alone begun)
-    by_begun None = refl
-    by_begun (Some flight) = refl
-
 -- ---- a client
 
 beside_alone : (footprint : Footprint) (client : ClientBoard) → client_alone (client_beside footprint client) ≡ client_alone client
-beside_alone footprint client =
-    ap₂ {C = ClientBoard} (λ (due : List InFlight) (begun : Option InFlight). record client { flights = record { due = due; begun = begun }; coming = no_footprint; early = None })
-    (map-map flight_alone (flight_beside footprint) client.flights.due) (grind arith)
+beside_alone footprint client = grind (arith, map-map flight_alone (flight_beside footprint) client.flights.due)
 
 accepted_alone : (flight : InFlight) (client : ClientBoard) → client_alone (with_accepted flight client) ≡ with_accepted (flight_alone flight) (client_alone client)
-accepted_alone flight client =
-    ap {B = ClientBoard} (λ (due : List InFlight). record client { front = None; flights = record (each_flight flight_alone client.flights) { due = due }; coming = no_footprint; early = None })
-    (map-append flight_alone client.flights.due (flight ∷ []))
+accepted_alone flight client = grind (arith, map-append flight_alone client.flights.due (flight ∷ []))
 
 -- ---- a board
 
@@ -130,13 +117,7 @@ further_alone board number client coming =
 
 -- with an error response
 hit_client_alone : (span : Span) (client : ClientBoard) → client_alone (hit_client span client) ≡ client_alone client
-hit_client_alone span client =
-    ap₂ {C = ClientBoard} (λ (due : List InFlight) (begun : Option InFlight). record client { flights = record { due = due; begun = begun }; coming = no_footprint; early = None })
-    (map-map flight_alone (hit_flight span) client.flights.due) (by_begun client.flights.begun)
-  where
-    by_begun : (begun : Option InFlight) → option_map flight_alone (option_map (hit_flight span) begun) ≡ option_map flight_alone begun
-    by_begun None = refl
-    by_begun (Some flight) = refl
+hit_client_alone span client = grind (arith, map-map flight_alone (hit_flight span) client.flights.due)
 
 pub hit_alone : (span : Option Span) (board : Board) → board_alone (hit_on span board) ≡ board_alone board
 hit_alone None board = refl
@@ -149,28 +130,15 @@ pub none_left : (b : Bool) (source : ℕ) → (if b then None else early_left No
 none_left true source = refl
 none_left false source = refl
 
--- nothing may come early there
-pub early_alone : (client : ClientBoard) (source : ℕ) → early_after (client_alone client) source ≡ None
-early_alone client source = none_left (is_some (next_reply (client_alone client).flights source)) source
-
 -- ---- a beat on channel D
 
 told_after : (old : Board) (number : ℕ) (client : ClientBoard) (beat : DBeat)
     → board_alone (with_client number (client_after beat client) old) ≡ with_client number (client_after beat (client_alone client)) (board_alone old)
 told_after old number client beat =
-    client_changed_alone old number (client_after beat client)
-    ∙ ap₂ (λ (flights : Flights) (told : Bool). with_client number (record (client_alone client) { flights = flights; told = told }) (board_alone old))
-    (flights_alone client.flights beat.source) (ap (λ (o : Option Bool). unwrap_or o beat.denied) (told_alone client))
-    ∙ ap (λ (early : Option DBeat). with_client number (record (client_alone client) {
-      flights = flights_after (client_alone client).flights beat.source;
-      early = early;
-      told = unwrap_or (told_to (client_alone client)) beat.denied;
-    }) (board_alone old)) (sym (early_alone client beat.source))
+    grind (arith, client_changed_alone old number (client_after beat client), flights_alone client.flights beat.source)
 
 pub reply_alone : (old : Board) (number : ℕ) (found : Option ClientBoard) (beat : DBeat)
     → board_alone (after_d old number found beat) ≡ after_d (board_alone old) number (option_map client_alone found) beat
 reply_alone old number None beat = refl
 reply_alone old number (Some client) beat =
-    told_after old number (client_cut beat.source client) beat
-    ∙ ap (λ (flights : Flights). with_client number (client_after beat (record (client_alone client) { flights = flights })) (board_alone old))
-    (cut_alone client.flights beat.source)
+    grind (arith, told_after old number (client_cut beat.source client) beat, cut_alone client.flights beat.source)

@@ -12,7 +12,7 @@ use Rattle.scoreboard.specs.Boards.{Board, ClientBoard, begun_on, early_due, is_
 use Rattle.scoreboard.specs.Flights.{Footprint, InFlight, is_of_source}
 use Rattle.scoreboard.specs.Orders.{Entry, Order, has_ended}
 use Rattle.scoreboard.specs.RealTime.{MayBecome, may_reply}
-use Rattle.scoreboard.specs.declared.Errors.TheVariants.{Any, Strict}
+use Rattle.scoreboard.specs.declared.Errors.TheVariants.{Any}
 use Rattle.scoreboard.specs.Races.{beside, may_read}
 use Rattle.responses.specs.Shown.{beat_without_data}
 use Rattle.meaning.specs.Meaning.{Bytes, acknowledged}
@@ -96,8 +96,7 @@ module _ {start : Bytes} (board : Board) (shadow : Shadow) (order : Order) (foll
           begins.comes_others board shadow (settle order) follows.explains follows.ahead number client other message bytes spoiled n fated there there_too.1 front free may any silent well
 
       came_before : (c : ℕ) → comes board.clients c ≡ true → c ≡ number → ⊥
-      came_before =
-          begins.came_before board shadow (settle order) follows.explains follows.ahead number client other message bytes spoiled n fated there there_too.1 front free may any silent well
+      came_before c is holds = grind (arith, is, holds, follows.explains, follows.ahead, there, front, free, any, silent, well)
 
       early_others : (c : ℕ) → (c ≡ number → ⊥) → early_at now.clients c ≡ early_at board.clients c
       early_others =
@@ -130,16 +129,13 @@ module _ {start : Bytes} (board : Board) (shadow : Shadow) (order : Order) (foll
           }
         where
           any_early : (e : Errors) → may_reply e false ≡ true → e ≡ Any
-          any_early Any is = refl
-          any_early Strict is = absurd (cc (is))
+          any_early e is = grind (arith, is)
 
           its_early : (e : Errors) → early_due e (request_of message) ≡ (if may_reply e false then Some (beat_without_data q acknowledged) else None)
-          its_early Strict = refl
-          its_early Any = refl
+          its_early e = grind arith
 
           its_reply : (e : Errors) → false ≡ replied_by e (early_due e (request_of message))
-          its_reply Strict = refl
-          its_reply Any = refl
+          its_reply e = grind arith
 
       still_open : (one : Entry) → IsOpen board shadow one → IsOpen now now_shadow one
       still_open one was =
@@ -238,8 +234,7 @@ module _ {start : Bytes} (board : Board) (shadow : Shadow) (order : Order) (foll
 
       once_free : list_any (is_of_source r.source) once_other.flights.due ≡ false
       once_free =
-          subst (λ source. list_any (is_of_source source) once_other.flights.due ≡ false) once_source
-          (free_there board shadow follows.ahead number q.source client there front free once_other there_too.1)
+          grind (arith, follows.ahead, there, front, free, free_there board shadow follows.ahead number q.source client there front free once_other there_too.1)
 
       once_comes : (c : ℕ) → (c ≡ number → ⊥) → comes once_now.clients c ≡ comes board.clients c
       once_comes = joins.comes_others board shadow (settle order) follows.explains follows.ahead number client once_other q r n (shadow.fate n) there there_too.1 front free well may any_fated

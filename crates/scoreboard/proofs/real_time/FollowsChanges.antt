@@ -7,7 +7,6 @@ use Rattle.std.proofs.lemmas.Bool.{cases_eq, or_right}
 use Rattle.std.proofs.lemmas.Bool.Decides.{nat_tests}
 use Rattle.std.proofs.lemmas.List.{length-set}
 use Rattle.std.proofs.lemmas.Simd.{map-map}
-use Rattle.bus_words.proofs.MappedPlaces.{map_same}
 use Rattle.bus_words.proofs.StoredPlaces.{there_is}
 use Rattle.std.proofs.lemmas.Option.{slice_get_within}
 use Rattle.tl_messages.specs.Requests.{HeldMessage, WholeRequest}
@@ -16,7 +15,7 @@ use Rattle.scoreboard.specs.Boards.{Board, ClientBoard, is_spoiled, with_client}
 use Rattle.scoreboard.specs.Flights.{Flights, Footprint, InFlight}
 use Rattle.scoreboard.specs.Orders.{Entry, Order}
 use Rattle.scoreboard.specs.RealTime.{heard}
-use Rattle.scoreboard.specs.declared.Errors.TheVariants.{Any, Strict}
+use Rattle.scoreboard.specs.declared.Errors.TheVariants.{Any}
 use Rattle.scoreboard.specs.Races.{unless_failed}
 use Rattle.scoreboard.specs.declared.Errors.{Errors}
 use Rattle.scoreboard.proofs.MappedLists.{any_map}
@@ -64,19 +63,11 @@ pub heard_not : (errors : Errors) (client : ℕ) (q : WholeRequest) (entry : Ent
 heard_not errors client q entry is = rw is refl
 
 pub settle_heard : (errors : Errors) (client : ℕ) (q : WholeRequest) (order : Order) → settle (map (heard errors client q) order) ≡ settle order
-settle_heard errors client q order = map-map settled (heard errors client q) order ∙ map_same (λ entry. settled (heard errors client q entry)) settled order each
-  where
-    each : (entry : Entry) → settled (heard errors client q entry) ≡ settled entry
-    each entry = by_coming (is_coming client entry) refl
-      where
-        by_coming : (b : Bool) → is_coming client entry ≡ b → settled (heard errors client q entry) ≡ settled entry
-        by_coming true is = ap settled (heard_is errors client q entry is)
-        by_coming false is = ap settled (heard_not errors client q entry is)
+settle_heard errors client q order = grind (arith, map-map settled (heard errors client q) order)
 
 -- errors are told in any way where one is
 pub spoiled_any : (errors : Errors) (q : WholeRequest) → is_spoiled errors q ≡ true → errors ≡ Any
-spoiled_any Any q is = refl
-spoiled_any Strict q is = absurd (cc (is))
+spoiled_any errors q is = grind (arith, is)
 
 module _ {start : Bytes} (board : Board) (shadow : Shadow) (order : Order) (follows : Follows start board shadow order) (number : ℕ) (client : ClientBoard)
     (there : slice_get board.clients number ≡ Some client) where
@@ -253,11 +244,7 @@ module _ {start : Bytes} (board : Board) (shadow : Shadow) (order : Order) (foll
               (λ whole alive flight there_now. was whole alive flight (sym (flights (place_of entry)) ∙ there_now))
 
       fated : (entry : Entry) → IsFated shadow entry → IsFated shadow (heard board.errors number q entry)
-      fated entry was = by_coming (is_coming number entry) refl
-        where
-          by_coming : (b : Bool) → is_coming number entry ≡ b → IsFated shadow (heard board.errors number q entry)
-          by_coming true own = subst (IsFated shadow) (sym (heard_is board.errors number q entry own)) was
-          by_coming false own = subst (IsFated shadow) (sym (heard_not board.errors number q entry own)) was
+      fated entry was = grind (arith, was)
 
       -- it acts where it did
       acting : (c : ℕ) (q : WholeRequest) → ActsAs board q (coming_at board.clients c) → ActsAs board q (coming_at (set board.clients number changed) c)

@@ -1,9 +1,9 @@
 -- A reply that ended early is over with the first beat of another: the board, its shadow and an order go on together, with that and with any beat on
 -- channel D.
-use Rattle.std.proofs.Common.{◌≡◌, ℕ, ◌+◌, ◌==◌, Bool, true, false, ◌&&◌, not, List, [], ◌∷◌, map, set, Option, Some, None, if◌then◌else◌, refl, sym, ◌∙◌, ap, ap₂, subst, arith}
+use Rattle.std.proofs.Common.{◌≡◌, ℕ, ◌==◌, Bool, true, false, ◌&&◌, not, List, [], ◌∷◌, map, set, Option, Some, None, if◌then◌else◌, refl, sym, ◌∙◌, ap, ap₂, subst, arith}
 use Rattle.std.specs.Prelude.{is_some, slice_get}
 use Rattle.std.specs.List.{AllByRecursion, list_any}
-use Rattle.std.proofs.lemmas.Bool.{and_parts, false_from_ne_true, le-leb, leb-true}
+use Rattle.std.proofs.lemmas.Bool.{and_parts, false_from_ne_true}
 use Rattle.std.proofs.lemmas.Bool.Decides.{nat_tests}
 use Rattle.std.proofs.lemmas.List.{set-set}
 use Rattle.std.proofs.lemmas.Option.{slice_get_within}
@@ -13,7 +13,7 @@ use Rattle.meaning.specs.Meaning.{Bytes}
 use Rattle.scoreboard.specs.Boards.{Board, ClientBoard, after_d, client_after, client_cut, with_client}
 use Rattle.scoreboard.specs.Flights.{InFlight, begun_is_other, is_of_source, is_over}
 use Rattle.scoreboard.specs.Orders as orders
-use Rattle.scoreboard.specs.Orders.{Entry, Order, after_beat, awaits, begun_to, begun_to_other, counted, cut_short, ended_early, has_ended, is_due, reply_beats, with_beat, with_counted}
+use Rattle.scoreboard.specs.Orders.{Entry, Order, after_beat, awaits, begun_to, begun_to_other, counted, cut_short, ended_early, has_ended, reply_beats, with_beat}
 use Rattle.scoreboard.proofs.MappedLists.{any_map}
 use Rattle.scoreboard.proofs.acceptance_order.DueLists.{any_found}
 use Rattle.scoreboard.proofs.real_time.Ahead.{Shadow}
@@ -55,18 +55,7 @@ uncut_none order number source none =
 -- ---- one that has ended, before a beat is counted
 
 fate_before : (fate : ℕ → Bool) (begun : Bool) (number source : ℕ) (entry : Entry) → HasFate fate (with_beat begun number source entry) → HasFate fate entry
-fate_before fate begun number source entry = by_due (is_due begun number source entry && entry.request.source == source) refl
-  where
-    by_whole : (b : Bool) → HasFate fate (counted b entry) → HasFate fate entry
-    by_whole true after over fated =
-        after (le-leb (reply_beats entry.request) (entry.came + 1) (omega (arith, leb-true (reply_beats entry.request) entry.came over))) fated
-    by_whole false after over fated = after over fated
-
-    by_due : (b : Bool) → (is_due begun number source entry && entry.request.source == source) ≡ b → HasFate fate (with_beat begun number source entry)
-        → HasFate fate entry
-    by_due false none after = let still : with_beat begun number source entry ≡ entry = rw none refl in subst (HasFate fate) still after
-    by_due true is after =
-        let turned : with_beat begun number source entry ≡ counted entry.whole entry = rw is refl in by_whole entry.whole (subst (HasFate fate) turned after)
+fate_before fate begun number source entry is = grind (arith, is)
 
 fates_before : (fate : ℕ → Bool) (begun : Bool) (number source : ℕ) (order : Order) → AllByRecursion (HasFate fate) (map (with_beat begun number source) order)
     → AllByRecursion (HasFate fate) order
@@ -130,9 +119,7 @@ module _ {start : Bytes} (board : Board) (shadow : Shadow) (order : Order) (foll
   waits_same = due_is ∙ by_some (is_some (flight_at board.clients (due_at number source))) refl
     where
       place : (entry : Entry) → waits_for number source entry ≡ true → (has_ended entry ≡ false) × (place_of entry ≡ due_at number source)
-      place entry waits =
-          let due : is_due false number source (settled entry) ≡ true = grind (arith, nat_tests, waits) in
-          let at = due_place false number source (settled entry) due in (at.live, at.there)
+      place entry waits = grind (arith, waits)
 
       by_some : (b : Bool) → is_some (flight_at board.clients (due_at number source)) ≡ b → b ≡ list_any (awaits number source) order
       by_some true some =

@@ -5,7 +5,7 @@ use Rattle.responses.specs.Shown.{beat_without_data}
 use Rattle.scoreboard.specs.declared.Errors.{Errors}
 use Rattle.std.specs.List.{AllByRecursion, list_any}
 use Rattle.std.proofs.Math.Path.{fun_ext}
-use Rattle.std.proofs.lemmas.Bool.{cases_eq, eq-eqb, false_from_ne_true}
+use Rattle.std.proofs.lemmas.Bool.{cases_eq, eq-eqb}
 use Rattle.std.proofs.lemmas.List.{set-set}
 use Rattle.std.proofs.lemmas.Option.{slice_get_within}
 use Rattle.std.proofs.lemmas.Bool.Decides.{nat_tests}
@@ -22,12 +22,12 @@ use Rattle.scoreboard.proofs.real_time.Explained.{Explains}
 use Rattle.scoreboard.proofs.real_time.Follows.{ActsAs, Follows, IsFailing, IsFated, IsFollowed, IsMarked, IsOpen, begun_here, replied_by, settle, settled}
 use Rattle.scoreboard.proofs.real_time.FollowsChanges.{client_ahead, client_follows, coming_changed, comes_changed}
 use Rattle.scoreboard.proofs.real_time.Comings.{early_at, early_in, early_other, early_same}
-use Rattle.scoreboard.proofs.real_time.Places.{Place, begun_at, coming_at, flight_at, flight_in, flights_kept}
+use Rattle.scoreboard.proofs.real_time.Places.{Place, coming_at, flight_at, flight_in, flights_kept}
 use Rattle.scoreboard.proofs.real_time.ReplySeen.{next_is}
 use Rattle.scoreboard.proofs.real_time.Failures.{failed_by}
 use Rattle.scoreboard.proofs.real_time.ReplySteps.{next_at, none_due as none_at}
 use Rattle.scoreboard.proofs.real_time.StepOrders.{HasFate, is_coming}
-use Rattle.scoreboard.proofs.real_time.FollowsReplies.{EarlyDue, WholeDue, due_cases, early_there, flights_none, none_due, none_replied, replied}
+use Rattle.scoreboard.proofs.real_time.FollowsReplies.{flights_none, none_due, none_replied, replied}
 
 module _ {start : Bytes} (board : Board) (shadow : Shadow) (order : Order) (follows : Follows start board shadow order) (number source : ℕ) where
   abbrev begun : Bool
@@ -58,30 +58,15 @@ module _ {start : Bytes} (board : Board) (shadow : Shadow) (order : Order) (foll
       early_is = ap early_in there ∙ is_early
 
       none_begun : begun ≡ false
-      none_begun = begun_here board shadow order follows number ∙ by_begun begun refl
-        where
-          by_begun : (b : Bool) → begun ≡ b → is_some (flight_at board.clients (begun_at number)) ≡ false
-          by_begun true has = ap (λ (b : Bool). is_some (flight_at board.clients (next_at b number source))) (sym has) ∙ ap (λ (o : Option InFlight). is_some o) nowhere
-          by_begun false has = sym (begun_here board shadow order follows number) ∙ has
+      none_begun = grind (arith, follows, begun_here board shadow order follows number)
 
       -- one that is whole hasn't it
       whole_still : (entry : Entry) → IsMarked board.clients entry → (entry.whole ≡ false → IsOpen board shadow entry) → entry.whole ≡ true → turn entry ≡ entry
-      whole_still entry marked opened whole = by_due (is_due begun number source entry) refl
-        where
-          by_due : (b : Bool) → is_due begun number source entry ≡ b → turn entry ≡ entry
-          by_due false is = rw is refl
-          by_due true is =
-              elim (due_cases board shadow order follows number source entry marked opened is) [
-                | WholeDue its some ↦ absurd (cc (sym (ap (λ (o : Option InFlight). is_some o) nowhere) ∙ some))
-                | EarlyDue unwhole its has its_client its_source ↦ absurd (cc (sym unwhole ∙ whole))
-              ]
+      whole_still entry marked opened whole = grind (arith, marked, opened, whole, follows)
 
       -- of those that aren't, the client's has it
       open_other : (entry : Entry) → (entry.client ≡ number → ⊥) → turn entry ≡ entry
-      open_other entry differ =
-          let none : is_due begun number source entry ≡ false =
-          false_from_ne_true (is_due begun number source entry) (λ is. differ (grind (arith, nat_tests, is))) in
-          rw none refl
+      open_other entry differ = grind (arith, differ)
 
       open_own : (entry : Entry) → IsOpen board shadow entry → entry.whole ≡ false → entry.client ≡ number → (turn entry ≡ counted false entry) × (entry.early ≡ true)
       open_own entry it unwhole client_is = (turned, may_come)
@@ -90,18 +75,10 @@ module _ {start : Bytes} (board : Board) (shadow : Shadow) (order : Order) (foll
           here = ap (early_at board.clients) (sym client_is) ∙ it.early
 
           may_come : entry.early ≡ true
-          may_come = by_early entry.early refl
-            where
-              by_early : (b : Bool) → entry.early ≡ b → entry.early ≡ true
-              by_early true is = is
-              by_early false is =
-                  absurd (cc (sym early_is ∙ here ∙ ap (λ (b : Bool). if b then Some (beat_without_data entry.request acknowledged) else None) is))
+          may_come = grind arith
 
           its_source : (entry.request.source == source) ≡ true
-          its_source =
-              let one : Some early ≡ Some (beat_without_data entry.request acknowledged) = sym early_is ∙ early_there board shadow order follows number source entry it may_come client_is in
-              let same : early ≡ beat_without_data entry.request acknowledged = cc (one) in
-              sym (ap (λ (d : DBeat). d.source == source) same) ∙ own
+          its_source = grind (arith, follows, own)
 
           due : (is_due begun number source entry && entry.request.source == source) ≡ true
           due =
@@ -212,17 +189,8 @@ module _ {start : Bytes} (board : Board) (shadow : Shadow) (order : Order) (foll
           → AllByRecursion (λ entry. entry.whole ≡ false → IsOpen board shadow entry) some_order → AllByRecursion (IsFated shadow) some_order
           → AllByRecursion (IsFated shadow) (map turn some_order)
       fated_turned [] marked opened fated = tt
-      fated_turned (entry ∷ rest) marked opened fated = (by_whole entry.whole refl, fated_turned rest marked.1 opened.1 fated.1)
-        where
-          by_due : entry.whole ≡ false → (b : Bool) → (is_due begun number source entry && entry.request.source == source) ≡ b → IsFated shadow (turn entry)
-          by_due unwhole false is = rw is (fated.0)
-          by_due unwhole true is =
-              let turned : turn entry ≡ counted false entry = rw (is, unwhole) refl in
-              subst (IsFated shadow) (sym turned) (λ whole. absurd (cc (sym unwhole ∙ whole)))
-
-          by_whole : (b : Bool) → entry.whole ≡ b → IsFated shadow (turn entry)
-          by_whole true whole = subst (IsFated shadow) (sym (whole_still entry marked.0 opened.0 whole)) (fated.0)
-          by_whole false unwhole = by_due unwhole (is_due begun number source entry && entry.request.source == source) refl
+      fated_turned (entry ∷ rest) marked opened fated =
+          grind (arith, marked, opened, fated, fated_turned rest marked.1 opened.1 fated.1)
 
       pub early_replied : IsFollowed start shadow.fate (with_client number (record client { early = None }) board) (with_counted order number source)
       early_replied = (
@@ -250,15 +218,7 @@ module _ {start : Bytes} (board : Board) (shadow : Shadow) (order : Order) (foll
       )
         where
           coming_same : (c : ℕ) (entry : Entry) → is_coming c (turn entry) ≡ is_coming c entry
-          coming_same c entry = by_due (is_due begun number source entry && entry.request.source == source) refl
-            where
-              by_whole : (b : Bool) → is_coming c (counted b entry) ≡ is_coming c entry
-              by_whole true = refl
-              by_whole false = refl
-
-              by_due : (b : Bool) → (is_due begun number source entry && entry.request.source == source) ≡ b → is_coming c (turn entry) ≡ is_coming c entry
-              by_due false is = rw is refl
-              by_due true is = rw is (by_whole entry.whole)
+          coming_same c entry = grind arith
 
 -- a board after a beat on channel D with which no reply is over
 abbrev pub after_uncut : Board → ℕ → Option ClientBoard → DBeat → Board

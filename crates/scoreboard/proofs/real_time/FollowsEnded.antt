@@ -1,5 +1,5 @@
 -- A request that has ended though beats of its reply are missing, or came before it was whole: the board, its shadow and the order go on together.
-use Rattle.std.proofs.Common.{◌≡◌, ℕ, Bool, true, false, map, Option, None, Some, refl, sym, ◌∙◌, ap, subst, arith}
+use Rattle.std.proofs.Common.{◌≡◌, ℕ, Bool, true, false, map, Option, Some, refl, sym, ◌∙◌, ap, subst, arith}
 use Rattle.std.specs.Prelude.{is_some, slice_get}
 use Rattle.std.specs.List.{list_any}
 use Rattle.std.proofs.Math.Path.{fun_ext}
@@ -17,7 +17,7 @@ use Rattle.scoreboard.proofs.real_time.Explained.{Explains}
 use Rattle.scoreboard.proofs.real_time.Follows.{ActsAs, Follows, IsFailing, IsFated, IsFollowed, IsMarked, IsOpen, all_mapped, replied_by, settle, settled}
 use Rattle.scoreboard.proofs.real_time.FollowsChanges as changes
 use Rattle.scoreboard.proofs.real_time.Places.{Place, coming_at, due_at, flight_at}
-use Rattle.scoreboard.proofs.real_time.Removed.{Ends, Over, Still, away_from, coming_less, comes_less, early_less, ended, ended_ahead, ends, explains_ended, kept_at, place_at, stands_at, stands_there, without}
+use Rattle.scoreboard.proofs.real_time.Removed.{Ends, Over, Still, away_from, coming_less, comes_less, early_less, ended, ended_ahead, ends, explains_ended, kept_at, place_at, stands_there, without}
 use Rattle.scoreboard.proofs.real_time.StepOrders.{is_coming}
 
 module _ {start : Bytes} (board : Board) (shadow : Shadow) (order : Order) (follows : Follows start board shadow order) (number : ℕ) (source : Option ℕ) (client : ClientBoard)
@@ -37,15 +37,7 @@ module _ {start : Bytes} (board : Board) (shadow : Shadow) (order : Order) (foll
   now_shadow = record shadow { clients = (with_client number (without source other) (shadow_of board shadow)).clients }
 
   settled_ended : (entry : Entry) → settled (ended number source entry) ≡ ended number source (settled entry)
-  settled_ended entry = by_ends (ends number source entry)
-    where
-      same : (s : Option ℕ) → stands_at number s (settled entry) ≡ stands_at number s entry
-      same None = refl
-      same (Some s) = refl
-
-      by_ends : Ends number source entry → settled (ended number source entry) ≡ ended number source (settled entry)
-      by_ends (Over stands is) = let here : stands_at number source (settled entry) ≡ true = same source ∙ stands in ap settled is ∙ rw here refl
-      by_ends (Still none is) = let away : stands_at number source (settled entry) ≡ false = same source ∙ none in ap settled is ∙ rw away refl
+  settled_ended entry = grind arith
 
   settle_ended : settle (map (ended number source) order) ≡ map (ended number source) (settle order)
   settle_ended =
@@ -133,8 +125,4 @@ module _ {start : Bytes} (board : Board) (shadow : Shadow) (order : Order) (foll
   )
     where
       coming_kept : (c : ℕ) (entry : Entry) → is_coming c (ended number source entry) ≡ is_coming c entry
-      coming_kept c entry = by_ends (ends number source entry)
-        where
-          by_ends : Ends number source entry → is_coming c (ended number source entry) ≡ is_coming c entry
-          by_ends (Over stands is) = ap (is_coming c) is
-          by_ends (Still still is) = ap (is_coming c) is
+      coming_kept c entry = grind arith

@@ -25,7 +25,6 @@ use Rattle.scoreboard.proofs.real_time.Ahead.{HasBeside, IsAhead, IsBehind, IsCo
 use Rattle.scoreboard.proofs.real_time.Comings.{early_at}
 use Rattle.scoreboard.proofs.real_time.Entries.{place_of}
 use Rattle.scoreboard.proofs.real_time.Explained.{Explains}
-use Rattle.scoreboard.proofs.real_time.Failures.{failed_any}
 use Rattle.scoreboard.proofs.real_time.Fates.{told_any}
 use Rattle.scoreboard.proofs.real_time.FlightLists.{each_of}
 use Rattle.scoreboard.proofs.real_time.Follows.{ActsAs, Follows, IsFailing, IsFated, IsFollowed, IsMarked, IsOpen, Knows, all_mapped, replied_by, settle, settled}
@@ -78,8 +77,7 @@ was_hit span None flight is = absurd (cc (is))
 was_hit span (Some was) flight is = record { was = was; there = refl; is = cc (is) }
 
 none_hit : (span : Span) (before : Option InFlight) → option_map (hit_flight span) before ≡ None → before ≡ None
-none_hit span None is = refl
-none_hit span (Some was) is = absurd (cc (is))
+none_hit span before is = grind (arith, is)
 
 -- ---- a footprint
 
@@ -89,11 +87,7 @@ shares_same span one other same = ap (shares span) same
 
 -- one that is hit isn't determined
 hit_less : (span : Span) (footprint : Footprint) (x : ℕ) → (hit span footprint).determined x ≡ true → (footprint.determined x ≡ true) × (shares span footprint ≡ false)
-hit_less span footprint x determined = by_shares (shares span footprint) refl
-  where
-    by_shares : (b : Bool) → shares span footprint ≡ b → (footprint.determined x ≡ true) × (shares span footprint ≡ false)
-    by_shares true is = absurd (let at : (unless_failed true footprint).determined x ≡ true = rw is at determined in cc (at))
-    by_shares false is = (rw is at determined, is)
+hit_less span footprint x determined = grind (arith, determined)
 
 -- a request in flight that is hit is behind as before
 behind_hit : (span : Span) (fated : Bool) (mine theirs : InFlight) → IsBehind fated mine theirs → IsBehind fated (hit_flight span mine) theirs
@@ -207,11 +201,7 @@ module _ {start : Bytes} (board : Board) (shadow : Shadow) (order : Order) (foll
     Spares : is_struck entry ≡ false → strike entry ≡ entry → Strikes entry
 
   strikes : (entry : Entry) → Strikes entry
-  strikes entry = by_test (is_struck entry) refl
-    where
-      by_test : (b : Bool) → is_struck entry ≡ b → Strikes entry
-      by_test true is = Spoils is (rw is refl)
-      by_test false is = Spares is (rw is refl)
+  strikes entry = grind arith
 
   settled_struck : (entry : Entry) → settled (strike entry) ≡ settled entry
   settled_struck entry = elim (strikes entry) [ Spoils is same ↦ ap settled same | Spares is same ↦ ap settled same ]
@@ -228,18 +218,13 @@ module _ {start : Bytes} (board : Board) (shadow : Shadow) (order : Order) (foll
       ]
     where
       by_flight : (o : Option InFlight) → is_some o ≡ is_some (option_map (hit_flight span) o)
-      by_flight None = refl
-      by_flight (Some flight) = refl
+      by_flight o = grind arith
 
       still : is_some (flight_at board.clients (place_of entry)) ≡ is_some (flight_at clients (place_of entry))
       still = by_flight (flight_at board.clients (place_of entry)) ∙ sym (ap (λ (o : Option InFlight). is_some o) (flight_hit span board.clients (place_of entry)))
 
   fated : (entry : Entry) → IsFated shadow entry → IsFated shadow (strike entry)
-  fated entry was =
-      elim (strikes entry) [
-        | Spoils is same ↦ subst (IsFated shadow) (sym same) was
-        | Spares is same ↦ subst (IsFated shadow) (sym same) was
-      ]
+  fated entry was = grind (arith, was)
 
   coming_struck : (c : ℕ) (entry : Entry) → is_coming c (strike entry) ≡ is_coming c entry
   coming_struck c entry = elim (strikes entry) [ Spoils is same ↦ ap (is_coming c) same | Spares is same ↦ ap (is_coming c) same ]
@@ -255,14 +240,8 @@ module _ {start : Bytes} (board : Board) (shadow : Shadow) (order : Order) (foll
       its_test = ap (λ (b : Bool). not b && shares span (acting_footprint board.memory entry.request)) alive ∙ sym same_place
 
       by_test : (b : Bool) → shares span footprint ≡ b → Strikes entry → Knows now (strike entry) (hit span footprint)
-      by_test true shared (Spoils is same) =
-          subst (λ (b : Bool). Knows now (strike entry) (unless_failed b footprint)) (sym shared)
-          (subst (λ (e : Entry). Knows now e (unless_failed true footprint)) (sym same) (
-            sym (failed_any board.errors board.memory.faults board.memory.regions (record entry { spoiled = true }) any refl),
-            λ is_any. ap (λ (r : Footprint). record r { failed = true; determined = λ x. false }) (knows.1 is_any),
-          ))
-      by_test false apart (Spares is same) =
-          subst (λ (b : Bool). Knows now (strike entry) (unless_failed b footprint)) (sym apart) (subst (λ (e : Entry). Knows now e footprint) (sym same) knows)
+      by_test true shared (Spoils is same) = grind (arith, shared, any)
+      by_test false apart (Spares is same) = grind (arith, apart)
       by_test true shared (Spares is same) = absurd (cc (sym is ∙ its_test ∙ shared))
       by_test false apart (Spoils is same) = absurd (cc (sym is ∙ its_test ∙ apart))
 
@@ -275,11 +254,7 @@ module _ {start : Bytes} (board : Board) (shadow : Shadow) (order : Order) (foll
       (hit_knows entry it.was.footprint (sym same.2 ∙ alive) (was (sym same.0 ∙ whole) (sym same.2 ∙ alive) it.was it.there))
     where
       alike : (one : Entry) → ((strike one).whole ≡ one.whole) × (place_of (strike one) ≡ place_of one) × (has_ended (strike one) ≡ has_ended one)
-      alike one =
-          elim (strikes one) [
-            | Spoils is same ↦ (ap (λ (e : Entry). e.whole) same, ap place_of same, ap has_ended same)
-            | Spares is same ↦ (ap (λ (e : Entry). e.whole) same, ap place_of same, ap has_ended same)
-          ]
+      alike one = grind arith
 
   opened : (entry : Entry) → (entry.whole ≡ false → IsOpen board shadow entry) → (strike entry).whole ≡ false → IsOpen now shadow (strike entry)
   opened entry was unwhole = by_strikes (strikes entry)
@@ -303,11 +278,7 @@ module _ {start : Bytes} (board : Board) (shadow : Shadow) (order : Order) (foll
           }
         where
           spoiled_alone : strike entry ≡ record entry { spoiled = (strike entry).spoiled }
-          spoiled_alone =
-              elim (strikes entry) [
-                | Spoils is same ↦ same ∙ ap (λ (b : Bool). record entry { spoiled = b }) (sym (ap (λ (e : Entry). e.spoiled) same))
-                | Spares is same ↦ same ∙ ap (λ (b : Bool). record entry { spoiled = b }) (sym (ap (λ (e : Entry). e.spoiled) same))
-              ]
+          spoiled_alone = grind arith
 
       by_strikes : Strikes entry → IsOpen now shadow (strike entry)
       by_strikes (Spoils is same) =
@@ -347,6 +318,4 @@ follows_failed {start} fate board port order beat followed = by_span (failed_spa
     by_span : (span : Option Span) → failed_span board.errors board.axi beat ≡ span
         → IsFollowed start fate (hit_on span (record board { axi = port })) (with_failed board.memory span order)
     by_span None is = followed
-    by_span (Some span) is =
-        subst (λ (f : ℕ → Bool). IsFollowed start f (hit_on (Some span) (record board { axi = port })) (map (struck board.memory span) order)) followed.2
-        (hit_follows (record board { axi = port }) followed.0 order followed.1 span (told_any board.errors board.axi beat span is))
+    by_span (Some span) is = grind (arith, is, hit_follows (record board { axi = port }) followed.0 order followed.1 span (told_any board.errors board.axi beat span is))

@@ -1,5 +1,5 @@
 -- A beat on channel D of a request in flight: the board, its shadow and an order go on together.
-use Rattle.std.proofs.Common.{◌≡◌, ℕ, ◌==◌, Bool, true, false, ◌&&◌, List, [], ◌∷◌, drop, map, set, Option, Some, None, ◌⊎◌, inl, inr, if◌then◌else◌, refl, sym, ◌∙◌, ap, ap₂, subst, arith}
+use Rattle.std.proofs.Common.{◌≡◌, ℕ, ◌==◌, Bool, true, false, ◌&&◌, List, [], ◌∷◌, map, set, Option, Some, None, ◌⊎◌, inl, inr, if◌then◌else◌, refl, sym, ◌∙◌, ap, subst, arith}
 use Rattle.std.specs.Prelude.{is_some, slice_get}
 use Rattle.tl_messages.specs.Requests.{WholeRequest}
 use Rattle.responses.specs.Shown.{beat_without_data}
@@ -12,7 +12,7 @@ use Rattle.bus_words.proofs.StoredPlaces.{set_back}
 use Rattle.tl_messages.specs.declared.DBeat.{DBeat}
 use Rattle.meaning.specs.Meaning.{Bytes, acknowledged}
 use Rattle.scoreboard.specs.Boards.{Board, ClientBoard, with_client}
-use Rattle.scoreboard.specs.Flights.{Flights, Footprint, InFlight, begun_after, flights_after, is_of_source, next_reply, with_left}
+use Rattle.scoreboard.specs.Flights.{Flights, Footprint, InFlight, begun_after, flights_after, is_of_source, next_reply}
 use Rattle.scoreboard.specs.Orders.{Entry, Order, with_counted, begun_to, counted, has_ended, is_due, with_beat}
 use Rattle.scoreboard.proofs.MappedLists.{any_map}
 use Rattle.scoreboard.proofs.real_time.Ahead.{IsAhead, IsFinal, Shadow, comes, fates_other, fates_own, fates_with, shadow_of}
@@ -76,27 +76,12 @@ module _ {start : Bytes} (board : Board) (shadow : Shadow) (order : Order) (foll
 
   pub due_cases : (entry : Entry) → IsMarked board.clients entry → (entry.whole ≡ false → IsOpen board shadow entry)
       → is_due (list_any (begun_to number) order) number source entry ≡ true → IsDueTo entry
-  due_cases entry marked opened is = by_whole entry.whole refl
-    where
-      by_begun : (b : Bool) → begun ≡ b → entry.whole ≡ false → entry.came ≡ 0 → IsDueTo entry
-      by_begun true has unwhole none = absurd (let due : is_due true number source entry ≡ true = ap (λ (b : Bool). is_due b number source entry) (sym has) ∙ is in
-          grind (arith, nat_tests, due, none))
-      by_begun false has unwhole none =
-          let due : is_due false number source entry ≡ true = ap (λ (b : Bool). is_due b number source entry) (sym has) ∙ is in
-          EarlyDue unwhole (grind (arith, nat_tests, due, unwhole)) has (grind (arith, nat_tests, due)) (grind (arith, nat_tests, due))
-
-      by_whole : (b : Bool) → entry.whole ≡ b → IsDueTo entry
-      by_whole true whole =
-          let at = due_place begun number source entry is in
-          WholeDue whole (ap (λ (p : Place). is_some (flight_at board.clients p)) (sym at.there) ∙ sym (marked at.live) ∙ whole)
-      by_whole false unwhole = by_begun begun refl unwhole (opened unwhole).none_came
+  due_cases entry marked opened is = grind (arith, marked, opened, is)
 
   -- what may come early to the client of one that isn't whole
   pub early_there : (entry : Entry) → IsOpen board shadow entry → entry.early ≡ true → entry.client ≡ number
       → early_at board.clients number ≡ Some (beat_without_data entry.request acknowledged)
-  early_there entry it early client =
-      ap (early_at board.clients) (sym client) ∙ it.early
-      ∙ ap (λ (b : Bool). if b then Some (beat_without_data entry.request acknowledged) else None) early
+  early_there entry it early client = grind (arith, it, early, client)
 
   -- what may come early is due in the order, where nothing in flight has it
   pub early_due_in : flight_at board.clients (next_at (list_any (begun_to number) order) number source) ≡ None → (due : DBeat)
@@ -142,20 +127,13 @@ module _ {start : Bytes} (board : Board) (shadow : Shadow) (order : Order) (foll
   -- where a request in flight has its next beat none has it early
   not_early : (due : InFlight) → flight_at board.clients from ≡ Some due → (entry : Entry) → IsOpen board shadow entry → begun ≡ false → entry.client ≡ number
       → entry.request.source ≡ source → ⊥
-  not_early due here entry it has client its_source =
-      let place : due_at entry.client (shadow.finals entry.client).source ≡ from =
-      ap₂ due_at client (sym (ap (λ (x : WholeRequest). x.source) it.final) ∙ its_source) ∙ ap (λ (b : Bool). next_at b number source) (sym has) in
-      absurd (cc (sym (follows.ahead.waits entry.client it.begun) ∙ ap (flight_at board.clients) place ∙ here))
+  not_early due here entry it has client its_source = grind (arith, here, it, has, client, its_source, follows.ahead.waits)
 
   -- there it is whole
   pub due_whole : (due : InFlight) → flight_at board.clients (next_at (list_any (begun_to number) order) number source) ≡ Some due → (entry : Entry)
       → IsMarked board.clients entry → (entry.whole ≡ false → IsOpen board shadow entry)
       → is_due (list_any (begun_to number) order) number source entry ≡ true → entry.whole ≡ true
-  due_whole due here entry marked opened is =
-      elim (due_cases entry marked opened is) [
-        | WholeDue whole some ↦ whole
-        | EarlyDue unwhole early has client its_source ↦ absurd (not_early due here entry (opened unwhole) has client its_source)
-      ]
+  due_whole due here entry marked opened is = grind (arith, here, marked, opened, is)
 
   -- nothing may come early that is of the source
   abbrev pub NoneEarly : Type 0
@@ -183,19 +161,7 @@ module _ {start : Bytes} (board : Board) (shadow : Shadow) (order : Order) (foll
   pub due_settled : (due : InFlight) → flight_at board.clients (next_at (list_any (begun_to number) order) number source) ≡ Some due
       → (entry : Entry) → IsMarked board.clients entry → (entry.whole ≡ false → IsOpen board shadow entry)
       → is_due (list_any (begun_to number) order) number source (settled entry) ≡ is_due (list_any (begun_to number) order) number source entry
-  due_settled due here entry marked opened = by_due (is_due begun number source (settled entry)) refl
-    where
-      by_due : (b : Bool) → is_due begun number source (settled entry) ≡ b → is_due begun number source (settled entry) ≡ is_due begun number source entry
-      by_due true is =
-          let at = due_place begun number source (settled entry) is in
-          let whole : entry.whole ≡ true =
-          marked at.live ∙ ap (λ (p : Place). is_some (flight_at board.clients p)) at.there ∙ ap (λ (o : Option InFlight). is_some o) here in
-          grind (arith, whole)
-      by_due false is =
-          sym (false_from_ne_true (is_due begun number source entry) (λ other.
-          let whole = due_whole due here entry marked opened other in
-          let same : is_due begun number source (settled entry) ≡ is_due begun number source entry = grind (arith, whole) in
-          absurd (cc (sym is ∙ same ∙ other))) ∙ sym is)
+  due_settled due here entry marked opened = grind (arith, here, marked, opened)
 
   -- ---- the client is there
 
@@ -259,22 +225,7 @@ module _ {start : Bytes} (board : Board) (shadow : Shadow) (order : Order) (foll
       -- on the shadow it counts for the same
       beat_same : (entry : Entry) → IsMarked board.clients entry → (entry.whole ≡ false → IsOpen board shadow entry)
           → settled (with_beat begun number source entry) ≡ with_beat begun number source (settled entry)
-      beat_same entry marked opened = by_due (is_due begun number source entry && entry.request.source == source) refl
-        where
-          same : is_due begun number source (settled entry) ≡ is_due begun number source entry
-          same = due_settled due is_due_here entry marked opened
-
-          by_due : (b : Bool) → (is_due begun number source entry && entry.request.source == source) ≡ b
-              → settled (with_beat begun number source entry) ≡ with_beat begun number source (settled entry)
-          by_due true counts =
-              let whole = due_whole due is_due_here entry marked opened (and_parts (is_due begun number source entry) (entry.request.source == source) counts).0 in
-              let its : (is_due begun number source (settled entry) && entry.request.source == source) ≡ true =
-              ap (λ (b : Bool). b && entry.request.source == source) same ∙ counts in
-              ap settled (goes_on begun number source entry whole counts) ∙ sym (goes_on begun number source (settled entry) refl its)
-          by_due false none =
-              let its : (is_due begun number source (settled entry) && entry.request.source == source) ≡ false =
-              ap (λ (b : Bool). b && entry.request.source == source) same ∙ none in
-              rw (none, its) refl
+      beat_same entry marked opened = grind (arith, marked, opened, is_due_here)
 
       settle_beat : (some_order : Order) → AllByRecursion (IsMarked board.clients) some_order
           → AllByRecursion (λ entry. entry.whole ≡ false → IsOpen board shadow entry) some_order
@@ -298,24 +249,10 @@ module _ {start : Bytes} (board : Board) (shadow : Shadow) (order : Order) (foll
 
       -- one that isn't whole gets none
       step_whole : (entry : Entry) → (step entry).whole ≡ entry.whole
-      step_whole entry = by_due (is_due begun number source entry && entry.request.source == source) refl
-        where
-          by_whole : (b : Bool) → (counted b entry).whole ≡ entry.whole
-          by_whole true = refl
-          by_whole false = refl
-
-          by_due : (b : Bool) → (is_due begun number source entry && entry.request.source == source) ≡ b → (step entry).whole ≡ entry.whole
-          by_due false is = rw is refl
-          by_due true is = rw is (by_whole entry.whole)
+      step_whole entry = grind arith
 
       open_still : (entry : Entry) → IsMarked board.clients entry → (entry.whole ≡ false → IsOpen board shadow entry) → (step entry).whole ≡ false → step entry ≡ entry
-      open_still entry marked opened unwhole = by_due (is_due begun number source entry) refl
-        where
-          by_due : (b : Bool) → is_due begun number source entry ≡ b → step entry ≡ entry
-          by_due false is = rw is refl
-          by_due true is =
-              let whole = due_whole due is_due_here entry marked opened is in
-              absurd (cc (sym unwhole ∙ step_whole entry ∙ whole))
+      open_still entry marked opened unwhole = grind (arith, marked, opened, unwhole, is_due_here)
 
       now_open : (entry : Entry) → IsMarked board.clients entry → (entry.whole ≡ false → IsOpen board shadow entry) → (step entry).whole ≡ false
           → IsOpen now now_shadow (step entry)
@@ -356,13 +293,7 @@ module _ {start : Bytes} (board : Board) (shadow : Shadow) (order : Order) (foll
                   let source_is : (place_of (step entry)).source ≡ None =
                   ap (λ (p : Place). p.source) (place_next begun number source entry (due_whole due is_due_here entry marked opened is) counted) in
                   let other_is = ap (λ (p : Place). p.source) place in absurd (cc (sym source_is ∙ other_is))
-              by_due before place false counted =
-                  let still : step entry ≡ entry = rw counted refl in
-                  let waits = follows.ahead.waits (step entry).client before in
-                  let at_entry : flight_at board.clients (place_of entry) ≡ None =
-                  ap (λ (e : Entry). flight_at board.clients (place_of e)) (sym still) ∙ ap (flight_at board.clients) place ∙ waits in
-                  let unwhole = marked (sym (ap (λ (e : Entry). has_ended e) still) ∙ alive) ∙ ap (λ (o : Option InFlight). is_some o) at_entry in
-                  absurd (cc (sym whole ∙ whole_same ∙ unwhole))
+              by_due before place false counted = grind (arith, before, place, counted, follows.ahead.waits, flight_at board.clients (place_of entry))
 
           by_whole : (b : Bool) → (step entry).whole ≡ b → b ≡ is_some (flight_at now.clients (place_of (step entry)))
           by_whole true whole = sym (by_flight whole (flight_at now.clients (place_of (step entry))) refl)
@@ -394,24 +325,12 @@ module _ {start : Bytes} (board : Board) (shadow : Shadow) (order : Order) (foll
 
       -- the footprint of one in flight to which the beat is due is what it was
       begun_kept : (flight after : InFlight) → begun_after (Some flight) source ≡ Some after → after.footprint ≡ flight.footprint
-      begun_kept flight after is = by_source (flight.source == source) refl
-        where
-          by_left : (beats : List DBeat) → with_left flight beats ≡ Some after → after.footprint ≡ flight.footprint
-          by_left [] none = absurd (cc (none))
-          by_left (first ∷ rest) some = let same : record flight { beats = first ∷ rest } ≡ after = cc (some) in ap (λ (f : InFlight). f.footprint) (sym same)
-
-          by_source : (b : Bool) → (flight.source == source) ≡ b → after.footprint ≡ flight.footprint
-          by_source true own = by_left (drop 1 flight.beats) (rw own at is)
-          by_source false other_source = let same : Some flight ≡ Some after = rw other_source at is in
-              let it : flight ≡ after = cc (same) in ap (λ (f : InFlight). f.footprint) (sym it)
+      begun_kept flight after is = grind (arith, is)
 
       -- one that has begun is the one to which the beat is due
       begun_from : (entry : Entry) → IsMarked board.clients entry → entry.whole ≡ true → has_ended entry ≡ false → place_of entry ≡ begun_at number → begun_at number ≡ from
       begun_from entry marked was_whole live_before here =
-          let has : begun ≡ true =
-          begun_here board shadow order follows number
-          ∙ ap (λ (p : Place). is_some (flight_at board.clients p)) (sym here) ∙ sym (marked live_before) ∙ was_whole in
-          ap (λ (b : Bool). next_at b number source) (sym has)
+          grind (arith, marked, was_whole, live_before, here, follows, begun_here board shadow order follows number)
 
       -- whether one has failed stays
       now_failing : (entry : Entry) → IsMarked board.clients entry → (entry.whole ≡ false → IsOpen board shadow entry) → IsFailing board entry → IsFailing now (step entry)
@@ -461,9 +380,7 @@ module _ {start : Bytes} (board : Board) (shadow : Shadow) (order : Order) (foll
                 where
                   by_from : step entry ≡ entry → has_ended entry ≡ false → entry.whole ≡ true → place_of entry ≡ from → is_due begun number source entry ≡ true
                       → (from ≡ begun_at number) ⊎ (from ≡ begun_at number → ⊥) → Knows board (step entry) flight.footprint
-                  by_from same_entry lives is_whole place due_so (inr away) =
-                      absurd (cc (sym (are.gone away) ∙ ap (flight_at now.clients) (sym place)
-                      ∙ ap (λ (e : Entry). flight_at now.clients (place_of e)) (sym same_entry) ∙ there_now))
+                  by_from same_entry lives is_whole place due_so (inr away) = grind (arith, same_entry, lives, is_whole, place, due_so)
                   by_from same_entry lives is_whole place due_so (inl here) =
                       let after : begun_after (Some due) source ≡ Some flight =
                       ap (λ (o : Option InFlight). begun_after o source) (sym is_due_here) ∙ sym are.next ∙ ap (flight_at now.clients) (sym (place ∙ here))
@@ -523,10 +440,8 @@ module _ {start : Bytes} (board : Board) (shadow : Shadow) (order : Order) (foll
           → AllByRecursion (IsFailing board) some_order → AllByRecursion (IsFated shadow) some_order → AllByRecursion (IsMarked now.clients) (map step some_order)
           → AllByRecursion (HasFate shadow.fate) (map step some_order) → AllByRecursion IsKnown some_order
       all_known [] marked opened failing fated later ending = tt
-      all_known (entry ∷ rest) marked opened failing fated later ending = (
-        record { marked = marked.0; opened = opened.0; failing = failing.0; fated = fated.0; marked_then = later.0; ends_then = ending.0 },
-        all_known rest marked.1 opened.1 failing.1 fated.1 later.1 ending.1,
-      )
+      all_known (entry ∷ rest) marked opened failing fated later ending =
+          grind (arith, marked, opened, failing, fated, later, ending, all_known rest marked.1 opened.1 failing.1 fated.1 later.1 ending.1)
 
       -- it is in the order
       due_there : list_any (λ (entry : Entry). is_due begun number source (settled entry)) order ≡ true
@@ -568,26 +483,10 @@ module _ {start : Bytes} (board : Board) (shadow : Shadow) (order : Order) (foll
               fate = sym (known.fated whole at.live) ∙ ap shadow.fates at.there ∙ fated
 
               same_number : (step entry).number ≡ entry.number
-              same_number = by_due (is_due begun number source entry && entry.request.source == source) refl
-                where
-                  by_whole : (b : Bool) → (counted b entry).number ≡ entry.number
-                  by_whole true = refl
-                  by_whole false = refl
-
-                  by_due : (b : Bool) → (is_due begun number source entry && entry.request.source == source) ≡ b → (step entry).number ≡ entry.number
-                  by_due false none = rw none refl
-                  by_due true counts = rw counts (by_whole entry.whole)
+              same_number = grind arith
 
               same_spoiled : (step entry).spoiled ≡ entry.spoiled
-              same_spoiled = by_due (is_due begun number source entry && entry.request.source == source) refl
-                where
-                  by_whole : (b : Bool) → (counted b entry).spoiled ≡ entry.spoiled
-                  by_whole true = refl
-                  by_whole false = refl
-
-                  by_due : (b : Bool) → (is_due begun number source entry && entry.request.source == source) ≡ b → (step entry).spoiled ≡ entry.spoiled
-                  by_due false none = rw none refl
-                  by_due true counts = rw counts (by_whole entry.whole)
+              same_spoiled = grind arith
 
               -- nothing of it is in flight any more
               nowhere : flight_at now.clients (place_of (step entry)) ≡ None
@@ -645,15 +544,7 @@ module _ {start : Bytes} (board : Board) (shadow : Shadow) (order : Order) (foll
       )
         where
           coming_same : (c : ℕ) (entry : Entry) → is_coming c (step entry) ≡ is_coming c entry
-          coming_same c entry = by_due (is_due begun number source entry && entry.request.source == source) refl
-            where
-              by_whole : (b : Bool) → is_coming c (counted b entry) ≡ is_coming c entry
-              by_whole true = refl
-              by_whole false = refl
-
-              by_due : (b : Bool) → (is_due begun number source entry && entry.request.source == source) ≡ b → is_coming c (step entry) ≡ is_coming c entry
-              by_due false is = rw is refl
-              by_due true is = rw is (by_whole entry.whole)
+          coming_same c entry = grind arith
 
     -- one in flight has it
     pub replied : (due : InFlight) → next_reply client.flights source ≡ Some due

@@ -17,16 +17,16 @@ use Rattle.scoreboard.specs.Flights.{Flights, Footprint, InFlight, no_footprint,
 use Rattle.scoreboard.specs.Orders.{Entry, Order, has_ended, reply_beats}
 use Rattle.scoreboard.specs.RealTime.{MayBecome}
 use Rattle.serial_memory.specs.SerialMemory.{carried_out}
-use Rattle.scoreboard.specs.declared.Errors.TheVariants.{Any, Strict}
+use Rattle.scoreboard.specs.declared.Errors.TheVariants.{Any}
 use Rattle.scoreboard.specs.Races.{after_given}
 use Rattle.bus_words.specs.Places.{without_first}
 use Rattle.scoreboard.specs.declared.Errors.{Errors}
 use Rattle.scoreboard.proofs.MappedLists.{any_map}
 use Rattle.scoreboard.proofs.real_time.Ahead.{Shadow, comes, fates_other, fates_own, fates_with, front_in, shadow_of}
-use Rattle.scoreboard.proofs.real_time.Comings.{comes_same, early_at, early_in, early_same}
+use Rattle.scoreboard.proofs.real_time.Comings.{comes_same, early_at, early_same}
 use Rattle.scoreboard.proofs.real_time.Entries.{AreDistinct, Differ, place_of}
 use Rattle.scoreboard.proofs.real_time.Explained.{Explains}
-use Rattle.scoreboard.proofs.real_time.Failures.{FatedOf, failed_any, failed_at, fails_as, fails_at}
+use Rattle.scoreboard.proofs.real_time.Failures.{FatedOf, failed_any, failed_at, fails_as}
 use Rattle.scoreboard.proofs.real_time.FlightLists.{none_found}
 use Rattle.scoreboard.proofs.real_time.Follows.{ActsAs, Follows, IsFailing, IsFated, IsFollowed, acts_as, IsMarked, IsOpen, all_both, all_mapped, replied_by, settle, settled, some_passes}
 use Rattle.scoreboard.proofs.real_time.FollowsChanges as changes
@@ -56,11 +56,7 @@ made_not errors client q entry is = rw is refl
 
 -- on the shadow it is whole already
 settled_made : (errors : Errors) (client : ℕ) (q : WholeRequest) (entry : Entry) → settled (made_whole errors client q entry) ≡ settled entry
-settled_made errors client q entry = by_coming (is_coming client entry) refl
-  where
-    by_coming : (b : Bool) → is_coming client entry ≡ b → settled (made_whole errors client q entry) ≡ settled entry
-    by_coming true is = ap settled (made_is errors client q entry is)
-    by_coming false is = ap settled (made_not errors client q entry is)
+settled_made errors client q entry = grind arith
 
 settle_made : (errors : Errors) (client : ℕ) (q : WholeRequest) (order : Order) → settle (map (made_whole errors client q) order) ≡ settle order
 settle_made errors client q order =
@@ -76,15 +72,7 @@ coming_made errors client other q entry differ = grind (arith, nat_tests, differ
 both_failed : (errors : Errors) (faults : Faults) (regions : List Region) (one : Entry) (q : WholeRequest) (client number : ℕ)
     → (failed_at errors faults regions one || failed_at errors faults regions (record (first_of errors client q true number) { request = one.request }))
     ≡ failed_at errors faults regions (record one { whole = true; spoiled = one.spoiled || is_spoiled errors q; early = false })
-both_failed Strict faults regions one q client number = refl
-both_failed Any faults regions one q client number = three one.spoiled (fails_at faults regions one.request) q.corrupt
-  where
-    three : (a b c : Bool) → ((a || b) || (c || b)) ≡ ((a || c) || b)
-    three true b c = refl
-    three false true true = refl
-    three false true false = refl
-    three false false true = refl
-    three false false false = refl
+both_failed errors faults regions one q client number = grind arith
 
 -- where an entry isn't whole, in the place of all such, it is the only one
 one_more : (number : ℕ) (place : Place) (entry : Entry) (order : Order) → AllByRecursion (Differ (settled entry)) (settle order)
@@ -154,11 +142,7 @@ module _ {start : Bytes} (board : Board) (shadow : Shadow) (order : Order) (foll
     coming_there : (entry : Entry) → (entry.whole ≡ false → IsOpen board shadow entry)
         → (is_coming number entry ≡ true → MayBecome (fated_of shadow.fate board.errors number q true entry.number) entry.request) → is_coming number entry ≡ true
         → (has_ended entry ≡ false) × (place_of entry ≡ due_at number q.source)
-    coming_there entry opened becoming is =
-        let parts = coming_parts number entry is in
-        let came = (opened parts.1).none_came in
-        let source = ap (λ (x : WholeRequest). x.source) (becoming is).fields in
-        (grind (arith, nat_tests, came, some_beats entry.request), grind (arith, nat_tests, parts.0, came, source))
+    coming_there entry opened becoming is = grind (arith, opened, becoming, is)
 
     -- there is one, and no other
     numbers : (n : ℕ) × AllByRecursion (λ entry. is_coming number entry ≡ true → entry.number ≡ n) order
@@ -225,11 +209,7 @@ module _ {start : Bytes} (board : Board) (shadow : Shadow) (order : Order) (foll
     given_marked entry was open_one becoming = by_coming (is_coming number entry) refl
       where
         its_place : is_coming number entry ≡ true → place_of entry ≡ due_at number q.source
-        its_place is =
-            let parts = coming_parts number entry is in
-            let came = (open_one parts.1).none_came in
-            let source = ap (λ (x : WholeRequest). x.source) (becoming is).fields in
-            grind (arith, nat_tests, parts.0, came, source)
+        its_place is = grind (arith, is)
 
         by_place : is_coming number entry ≡ false → has_ended entry ≡ false
             → (place_of entry ≡ due_at number q.source) ⊎ (place_of entry ≡ due_at number q.source → ⊥)
@@ -381,18 +361,11 @@ module _ {start : Bytes} (board : Board) (shadow : Shadow) (order : Order) (foll
     -- ---- it has ended, where its reply came before
 
     replied_as : has_replied board.errors client ≡ replied_by board.errors client.early
-    replied_as = by_errors board.errors
-      where
-        by_errors : (e : Errors) → has_replied e client ≡ replied_by e client.early
-        by_errors Strict = refl
-        by_errors Any = refl
+    replied_as = grind arith
 
     -- whether it came before the order tells too
     own_replied : (entry : Entry) → (entry.whole ≡ false → IsOpen board shadow entry) → is_coming number entry ≡ true → entry.replied ≡ has_replied board.errors client
-    own_replied entry opened is =
-        let parts = coming_parts number entry is in
-        (opened parts.1).replied ∙ ap (λ c. replied_by board.errors (early_at board.clients c)) parts.0
-        ∙ ap (λ (o : Option ClientBoard). replied_by board.errors (early_in o)) there ∙ sym replied_as
+    own_replied entry opened is = grind (arith, opened, is, there)
 
     abbrev flight_now : InFlight
     flight_now = flight_for board.memory (coming_on board q client.coming) q

@@ -12,7 +12,7 @@ use Rattle.subordinate.specs.Faults.{Faults}
 use Rattle.meaning.specs.Meaning.{Bytes, meaning}
 use Rattle.scoreboard.specs.Orders.{Entry, Order, has_ended}
 use Rattle.scoreboard.specs.Flights.{Footprint, InFlight}
-use Rattle.scoreboard.specs.Races.{after_given, after_joining, beside, covers, depends_on, flight_beside, is_fixed, may_write}
+use Rattle.scoreboard.specs.Races.{after_given, after_joining, covers, depends_on, flight_beside, is_fixed, may_write}
 use Rattle.scoreboard.proofs.real_time.Entries.{AreDistinct, Differ, Each, IsElsewhere, Stands, all_parts, carry, distinct_after, each_joined, each_parts, none_ended, place_of, run, run-append}
 use Rattle.scoreboard.proofs.real_time.Places.{Place, footprint_in}
 use Rattle.scoreboard.proofs.real_time.RequestActs.{Acts, AreBytes, IsWell, acts, gives, own}
@@ -89,37 +89,17 @@ module _ (faults : Faults) (regions : List Region) (flights new_flights : Place 
     pub acts_so : now_footprints (place_of other) ≡ record (own faults regions other.request) { determined = (now_footprints (place_of other)).determined }
     pub elsewhere : place_of other ≡ place_of entry → ⊥
 
-  -- beside the one that joins it acts as before
-  acting_beside : (its was : Footprint) → its ≡ record was { determined = its.determined }
-      → beside its footprint ≡ record was { determined = (beside its footprint).determined }
-  acting_beside its was is = ap (λ (r : Footprint). record r { determined = (beside its footprint).determined }) is
-
-  beside_there : (other : Entry) (was : InFlight) → (place_of other ≡ place_of entry → ⊥) → flights (place_of other) ≡ Some was
-      → new_flights (place_of other) ≡ Some (flight_beside footprint was)
-  beside_there other was away is = others (place_of other) away ∙ ap (option_map (flight_beside footprint)) is
-
   in_flight : (m : Bytes) (order : Order) → Each faults regions Held m order → AllByRecursion (λ other. has_ended other ≡ false) order
       → AllByRecursion (IsElsewhere (place_of entry)) order
       → AllByRecursion IsInFlight order
   in_flight m [] each live elsewhere = tt
   in_flight m (other ∷ order) each live elsewhere =
-      let away : place_of other ≡ place_of entry → ⊥ = elsewhere.0 live.0 in
-      let was = each.0.live live.0 in (
-        record {
-          live = live.0;
-          fits = each.0.well;
-          acts_so = rw (beside_there other was.flight away was.there)
-              (acting_beside was.flight.footprint (own faults regions other.request) was.acting);
-          elsewhere = away;
-        },
-        in_flight (carry faults regions other.request m) order each.1 live.1 elsewhere.1,
-      )
+      grind (arith, each, live, elsewhere, place_of other, place_of entry, in_flight (carry faults regions other.request m) order each.1 live.1 elsewhere.1)
 
   -- what is determined of it the one that joins may not write
   unwritten : (other : Entry) (x : ℕ) → (place_of other ≡ place_of entry → ⊥) → (now_footprints (place_of other)).determined x ≡ true
       → may_write footprint x ≡ false
-  unwritten other x away determined =
-      sym (ap (λ (r : Footprint). may_write r x) with_it.own) ∙ now_apart.apart (place_of other) (place_of entry) x away determined
+  unwritten other x away determined = grind (arith, away, determined)
 
   -- what is determined of the one that joins they leave
   leaves_determined : (order : Order) (x : ℕ) → AllByRecursion IsInFlight order → footprint.determined x ≡ true → AllByRecursion (Leaves faults regions x) order
@@ -173,27 +153,7 @@ module _ (faults : Faults) (regions : List Region) (flights new_flights : Place 
   -- one that stood, with bytes that are the same where it is determined now
   stands_still : (other : Entry) (m n : Bytes) → IsElsewhere (place_of entry) other → Held other m
       → (has_ended other ≡ false → (x : ℕ) → (now_footprints (place_of other)).determined x ≡ true → m x ≡ n x) → HeldNow other n
-  stands_still other m n elsewhere held agree =
-      record {
-        well = held.well;
-        whole = held.whole;
-        live = λ alive.
-            let was = held.live alive in
-            let away : place_of other ≡ place_of entry → ⊥ = elsewhere alive in
-            let here = beside_there other was.flight away was.there in
-            record {
-              flight = flight_beside footprint was.flight;
-              there = here;
-              source = was.source;
-              acting = acting_beside was.flight.footprint (own faults regions other.request) was.acting;
-              made_of = was.made_of;
-              bytes = was.bytes;
-              left = was.left;
-              same = λ x reads determined.
-                  was.same x reads (and_parts (was.flight.footprint.determined x) (not (may_write footprint x)) determined).0
-                  ∙ agree alive x (ap (λ (o : Option InFlight). (footprint_in o).determined x) here ∙ determined);
-            };
-      }
+  stands_still other m n elsewhere held agree = grind (arith, elsewhere, held, agree, well, whole, there, acting, place_of other, place_of entry)
 
   each_stands : (order : Order) (m : Bytes) → AllByRecursion (IsElsewhere (place_of entry)) order → Each faults regions Held m order
       → Each faults regions HeldNow m order

@@ -1,5 +1,5 @@
 -- How many beats replies have, and what is left of them.
-use Rattle.std.proofs.Common.{◌≡◌, ◌+◌, ◌<◌, true, false, List, [], ◌∷◌, length, drop, Some, refl, arith}
+use Rattle.std.proofs.Common.{◌≡◌, ◌+◌, ◌<◌, true, false, List, length, drop, Some, arith}
 use Rattle.std.specs.Prelude.{is_some}
 use Rattle.std.proofs.lemmas.Bool.{leb-false, lt-leb}
 use Rattle.std.proofs.lemmas.List.{length-drop}
@@ -19,12 +19,10 @@ length-shown q reply = grind (arith, length-map-range_with_len (beat_of_word q r
 
 -- a request in flight of which beats are left
 pub some_left : (flight : InFlight) (beats : List DBeat) → 0 < length beats → with_left flight beats ≡ Some (record flight { beats = beats })
-some_left flight [] some = absurd (omega (arith, some))
-some_left flight (beat ∷ beats) some = refl
+some_left flight beats some = grind (arith, some)
 
 pub left_some : (flight : InFlight) (beats : List DBeat) → is_some (with_left flight beats) ≡ true → 0 < length beats
-left_some flight [] some = absurd (cc (some))
-left_some flight (beat ∷ beats) some = omega arith
+left_some flight beats some = grind (arith, some)
 
 -- a reply that hasn't ended has beats left
 pub live_left : (entry : Entry) (reply : Reply) → has_ended entry ≡ false → 0 < length (drop entry.came (shown entry.request reply))

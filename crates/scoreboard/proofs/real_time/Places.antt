@@ -1,5 +1,5 @@
 -- The requests in flight by their places: of each client one for each source, for the request whose reply is due, and one for that whose reply has begun.
-use Rattle.std.proofs.Common.{◌≡◌, ℕ, List, map, set, Option, Some, None, ◌⊎◌, inl, inr, refl, ap, ap₂, arith}
+use Rattle.std.proofs.Common.{◌≡◌, ℕ, List, map, set, Option, Some, None, ◌⊎◌, inl, inr, ap, arith}
 use Rattle.std.specs.Prelude.{slice_get}
 use Rattle.std.proofs.lemmas.Bool.{cases_eq}
 use Rattle.std.proofs.lemmas.Option.{slice_get_within}
@@ -64,19 +64,8 @@ HaveSources flights = AreDistinct (map (λ (flight : InFlight). flight.source) f
 
 -- ---- two places
 
-cases_source : (s t : Option ℕ) → (s ≡ t) ⊎ (s ≡ t → ⊥)
-cases_source None None = inl refl
-cases_source None (Some t) = inr (λ same. absurd (cc (same)))
-cases_source (Some s) None = inr (λ same. absurd (cc (same)))
-cases_source (Some s) (Some t) = elim (cases_eq s t) [ inl same ↦ inl (ap Some same) | inr differ ↦ inr (λ same. differ (cc (same))) ]
-
 pub cases_place : (p q : Place) → (p ≡ q) ⊎ (p ≡ q → ⊥)
-cases_place p q = by_both (cases_eq p.client q.client) (cases_source p.source q.source)
-  where
-    by_both : (p.client ≡ q.client) ⊎ (p.client ≡ q.client → ⊥) → (p.source ≡ q.source) ⊎ (p.source ≡ q.source → ⊥) → (p ≡ q) ⊎ (p ≡ q → ⊥)
-    by_both (inl same) (inl there) = inl (ap₂ (λ c s. record { client = c; source = s }) same there)
-    by_both (inr differ) other = inr (λ same. differ (ap (λ (r : Place). r.client) same))
-    by_both same (inr differ) = inr (λ is. differ (ap (λ (r : Place). r.source) is))
+cases_place p q = grind arith
 
 -- ---- one client changes
 

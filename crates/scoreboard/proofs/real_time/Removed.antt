@@ -5,7 +5,6 @@ use Rattle.std.specs.Prelude.{is_some, slice_get}
 use Rattle.std.specs.List.{AllByRecursion, list_any}
 use Rattle.std.proofs.Math.Path.{fun_ext}
 use Rattle.std.proofs.lemmas.Bool.{cases_eq}
-use Rattle.std.proofs.lemmas.Bool.Decides.{nat_tests}
 use Rattle.std.proofs.lemmas.List.{length-set}
 use Rattle.bus_words.specs.Places.{AreDistinct, without_first}
 use Rattle.bus_words.proofs.DistinctPlaces.{distinct-without_first}
@@ -23,7 +22,6 @@ use Rattle.scoreboard.proofs.real_time.Comings.{comes_other, comes_same, early_a
 use Rattle.scoreboard.proofs.real_time.Entries.{AreDistinct as AreApartEntries, Differ, Each, IsLive, Stands, carry, place_of, run}
 use Rattle.scoreboard.proofs.real_time.Explained.{Explains, nothing_with, sources_with}
 use Rattle.scoreboard.proofs.real_time.FlightPlaces.{coming_other, coming_same}
-use Rattle.scoreboard.proofs.real_time.Lengths.{some_beats}
 use Rattle.scoreboard.proofs.real_time.Places.{HaveSources, Place, begun_at, cases_place, coming_at, coming_in, due_at, flight_at, flight_in, flights_in, flights_other, flights_same, footprint_in}
 use Rattle.scoreboard.proofs.real_time.ReplyMoves.{waits_for}
 use Rattle.scoreboard.proofs.real_time.RequestActs.{IsWell}
@@ -107,10 +105,7 @@ module _ (clients : List ClientBoard) (number : ℕ) (source : Option ℕ) (clie
       by_both : (i j : Place) (x : ℕ) → (footprint_in (flight_at less i) ≡ no_footprint) ⊎ (footprint_in (flight_at less i) ≡ footprint_in (flight_at clients i))
           → (footprint_in (flight_at less j) ≡ no_footprint) ⊎ (footprint_in (flight_at less j) ≡ footprint_in (flight_at clients j))
           → (i ≡ j → ⊥) → (footprint_in (flight_at less i)).determined x ≡ true → may_write (footprint_in (flight_at less j)) x ≡ false
-      by_both i j x (inl none) other differ determined = absurd (cc (sym (ap (λ (f : Footprint). f.determined x) none) ∙ determined))
-      by_both i j x first (inl none) differ determined = ap (λ (f : Footprint). may_write f x) none
-      by_both i j x (inr is) (inr its) differ determined =
-          ap (λ (f : Footprint). may_write f x) its ∙ old.apart i j x differ (sym (ap (λ (f : Footprint). f.determined x) is) ∙ determined)
+      by_both i j x first other differ determined = grind (arith, first, other, differ, determined)
 
   pub either_less : (indeterminate : ℕ → Bool) → AreEither indeterminate (λ place. footprint_in (flight_at clients place))
       → AreEither indeterminate (λ place. footprint_in (flight_at (set clients number (without source client)) place))
@@ -129,18 +124,7 @@ module _ (number : ℕ) (source : Option ℕ) where
   step entry = ended number source entry
 
   pub stands_there : (entry : Entry) → stands_at number source entry ≡ true → place_of entry ≡ place_at number source
-  stands_there entry = by_source source
-    where
-      by_source : (s : Option ℕ) → stands_at number s entry ≡ true → place_of entry ≡ place_at number s
-      by_source None is = grind (arith, nat_tests, is)
-      by_source (Some s) is = grind (arith, nat_tests, is)
-
-  pub there_stands : (entry : Entry) → has_ended entry ≡ false → place_of entry ≡ place_at number source → stands_at number source entry ≡ true
-  there_stands entry live = by_source source
-    where
-      by_source : (s : Option ℕ) → place_of entry ≡ place_at number s → stands_at number s entry ≡ true
-      by_source None same = grind (arith, nat_tests, live, same)
-      by_source (Some s) same = grind (arith, nat_tests, same)
+  stands_there entry is = grind (arith, is)
 
   -- one that is there has ended, another is as it was
   pub data Ends (entry : Entry) : Type 0 where
@@ -148,44 +132,22 @@ module _ (number : ℕ) (source : Option ℕ) where
     Still : stands_at number source entry ≡ false → ended number source entry ≡ entry → Ends entry
 
   pub ends : (entry : Entry) → Ends entry
-  ends entry = by_test (stands_at number source entry) refl
-    where
-      by_test : (b : Bool) → stands_at number source entry ≡ b → Ends entry
-      by_test true is = Over is (rw is refl)
-      by_test false is = Still is (rw is refl)
-
-  over_ended : (entry : Entry) → step entry ≡ record entry { came = reply_beats entry.request } → has_ended (step entry) ≡ true
-  over_ended entry is = ap (λ (e : Entry). has_ended e) is ∙ grind (arith, nat_tests)
+  ends entry = grind arith
 
   -- one that is live still is elsewhere
   pub away_from : (entry : Entry) → has_ended (ended number source entry) ≡ false → Ends entry
       → (ended number source entry ≡ entry) × (place_of entry ≡ place_at number source → ⊥)
-  away_from entry live (Over stands is) = absurd (cc (sym live ∙ over_ended entry is))
-  away_from entry live (Still none is) =
-      (is, λ same. absurd (cc (sym none ∙ there_stands entry (sym (ap (λ (e : Entry). has_ended e) is) ∙ live) same)))
+  away_from entry live is = grind (arith, live, is)
 
   same_request : (entry : Entry) → (step entry).request ≡ entry.request
-  same_request entry = by_ends (ends entry)
-    where
-      by_ends : Ends entry → (step entry).request ≡ entry.request
-      by_ends (Over stands is) = ap (λ (e : Entry). e.request) is
-      by_ends (Still none is) = ap (λ (e : Entry). e.request) is
+  same_request entry = grind arith
 
   run_ended : (faults : Faults) (regions : List Region) (order : Order) (m : Bytes) → run faults regions m (map step order) ≡ run faults regions m order
   run_ended faults regions [] m = refl
   run_ended faults regions (entry ∷ order) m = rw (run, same_request entry) (run_ended faults regions order (carry faults regions entry.request m))
 
   pub ended_keeps : KeepsEnds (ended number source)
-  ended_keeps =
-      record {
-        number = λ entry. by_ends entry (ends entry);
-        request = same_request;
-        ends = λ entry live. sym (ap (λ (e : Entry). has_ended e) (away_from entry live (ends entry)).0) ∙ live;
-      }
-    where
-      by_ends : (entry : Entry) → Ends entry → (step entry).number ≡ entry.number
-      by_ends entry (Over stands is) = ap (λ (e : Entry). e.number) is
-      by_ends entry (Still none is) = ap (λ (e : Entry). e.number) is
+  ended_keeps = grind arith
 
   differ_ended : (entry other : Entry) → Differ entry other → Differ (step entry) (step other)
   differ_ended entry other differ live its_live same =
@@ -204,24 +166,10 @@ module _ (number : ℕ) (source : Option ℕ) where
 
   -- one that waits elsewhere still does, and one that has begun there too
   waits_still : (c s : ℕ) → (due_at c s ≡ place_at number source → ⊥) → (entry : Entry) → waits_for c s (step entry) ≡ waits_for c s entry
-  waits_still c s differ entry = by_ends (ends entry)
-    where
-      by_waits : (b : Bool) → waits_for c s entry ≡ b → stands_at number source entry ≡ true → waits_for c s (record entry { came = reply_beats entry.request }) ≡ b
-      by_waits true waits stands =
-          let its : place_of entry ≡ due_at c s = grind (arith, nat_tests, waits) in absurd (differ (sym its ∙ stands_there entry stands))
-      by_waits false none stands = grind (arith, nat_tests, some_beats entry.request)
-
-      by_ends : Ends entry → waits_for c s (step entry) ≡ waits_for c s entry
-      by_ends (Still none is) = ap (waits_for c s) is
-      by_ends (Over stands is) = ap (waits_for c s) is ∙ by_waits (waits_for c s entry) refl stands
+  waits_still c s differ entry = grind (arith, differ)
 
   begun_still : (c : ℕ) → (begun_at c ≡ place_at number source → ⊥) → (entry : Entry) → begun_to c entry ≡ true → begun_to c (step entry) ≡ true
-  begun_still c differ entry has = by_ends (ends entry)
-    where
-      by_ends : Ends entry → begun_to c (step entry) ≡ true
-      by_ends (Still none is) = ap (begun_to c) is ∙ has
-      by_ends (Over stands is) =
-          let its : place_of entry ≡ begun_at c = grind (arith, nat_tests, has) in absurd (differ (sym its ∙ stands_there entry stands))
+  begun_still c differ entry has = grind (arith, differ, has)
 
   any_begun : (c : ℕ) → (begun_at c ≡ place_at number source → ⊥) → (order : Order) → list_any (begun_to c) order ≡ true → list_any (begun_to c) (map step order) ≡ true
   any_begun c differ [] some = some
@@ -252,8 +200,7 @@ module _ {start : Bytes} (board : Board) (order : Order) (explains : Explains st
       }
     where
       by_whole : Ends number source entry → (ended number source entry).whole ≡ true
-      by_whole (Over waits is) = ap (λ (e : Entry). e.whole) is ∙ held.whole
-      by_whole (Still none is) = ap (λ (e : Entry). e.whole) is ∙ held.whole
+      by_whole is = grind (arith, is)
 
       by_live : has_ended (ended number source entry) ≡ false → (ended number source entry ≡ entry) × (place_of entry ≡ place_at number source → ⊥)
           → IsLive faults regions (flight_at now) (ended number source entry) m

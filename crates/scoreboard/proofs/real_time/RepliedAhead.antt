@@ -46,36 +46,14 @@ left_beside : (fated : Bool) (mine theirs after : InFlight) (beats others : List
     → IsBehind fated (record mine { beats = beats }) (record theirs { beats = others }) → LeftBeside fated theirs (with_left theirs others) after
 left_beside fated mine theirs after [] others is long behind = absurd (cc (is))
 left_beside fated mine theirs after (beat ∷ beats) [] is long behind = absurd (cc (long))
-left_beside fated mine theirs after (beat ∷ beats) (other ∷ others) is long behind =
-    record {
-      other = record theirs { beats = other ∷ others };
-      is = refl;
-      behind =
-          let same : record mine { beats = beat ∷ beats } ≡ after = cc (is) in
-          subst (λ (f : InFlight). IsBehind fated f (record theirs { beats = other ∷ others })) same behind;
-    }
+left_beside fated mine theirs after (beat ∷ beats) (other ∷ others) is long behind = grind (arith, is, long, behind)
 
 -- where nothing is left of one nothing is left of the other
 none_left : (mine theirs : InFlight) (beats others : List DBeat) → with_left mine beats ≡ None → length beats ≡ length others → with_left theirs others ≡ None
-none_left mine theirs [] [] is long = refl
-none_left mine theirs [] (other ∷ others) is long = absurd (cc (long))
-none_left mine theirs (beat ∷ beats) others is long = absurd (cc (is))
-
--- a beat fewer is left of the same request
-same_left : (flight after : InFlight) (beats : List DBeat) → with_left flight beats ≡ Some after → after.footprint ≡ flight.footprint
-same_left flight after [] is = absurd (cc (is))
-same_left flight after (beat ∷ beats) is =
-    let same : record flight { beats = beat ∷ beats } ≡ after = cc (is) in sym (ap (λ (f : InFlight). f.footprint) same)
+none_left mine theirs beats others is long = grind (arith, is, long)
 
 same_after : (source : ℕ) (flight after : InFlight) → begun_after (Some flight) source ≡ Some after → after.footprint ≡ flight.footprint
-same_after source flight after is = by_source (flight.source == source) refl
-  where
-    by_source : (b : Bool) → (flight.source == source) ≡ b → after.footprint ≡ flight.footprint
-    by_source true own = same_left flight after (drop 1 flight.beats) (rw own at is)
-    by_source false own =
-        let one : Some flight ≡ Some after = rw own at is in
-        let same : flight ≡ after = cc (one) in
-        sym (ap (λ (f : InFlight). f.footprint) same)
+same_after source flight after is = grind (arith, is)
 
 module _ (source : ℕ) (fated : Bool) (mine theirs : InFlight) (is : IsBehind fated mine theirs) where
   after_beside : (after : InFlight) → begun_after (Some mine) source ≡ Some after → LeftBeside fated theirs (begun_after (Some theirs) source) after
@@ -93,13 +71,7 @@ module _ (source : ℕ) (fated : Bool) (mine theirs : InFlight) (is : IsBehind f
           rw its (record { other = theirs; is = refl; behind = subst (λ (f : InFlight). IsBehind fated f theirs) it is })
 
   after_none : begun_after (Some mine) source ≡ None → begun_after (Some theirs) source ≡ None
-  after_none none = by_source (mine.source == source) refl
-    where
-      by_source : (b : Bool) → (mine.source == source) ≡ b → begun_after (Some theirs) source ≡ None
-      by_source true own =
-          let its : (theirs.source == source) ≡ true = ap (λ (s : ℕ). s == source) (sym is.source) ∙ own in
-          rw its (none_left mine theirs (drop 1 mine.beats) (drop 1 theirs.beats) (rw own at none) (behind_next fated mine theirs is).long)
-      by_source false own = absurd (cc (rw own at none))
+  after_none none = grind (arith, none, is.source, is)
 
 -- ---- both boards
 
@@ -232,15 +204,13 @@ module _ (board : Board) (shadow : Shadow) (ahead : IsAhead board shadow) (numbe
 
       begun_there : (b : Bool) → begun ≡ b → place ≡ begun_at number → place ≡ next_at b number source
       begun_there true has same = same
-      begun_there false none same =
-          absurd (cc (sym none ∙ flag ∙ ap (λ (p : Place). is_some (flight_at board.clients p)) (sym same) ∙ ap (λ (o : Option InFlight). is_some o) is))
+      begun_there false none same = grind (arith, none, same, flag)
 
       by_places : (place ≡ from) ⊎ (place ≡ from → ⊥) → (place ≡ begun_at number) ⊎ (place ≡ begun_at number → ⊥) → may_write flight.footprint x ≡ false
       by_places (inl same) other =
           let one : Some flight ≡ Some due = sym is ∙ ap (flight_at board.clients) same ∙ is_due in
           by_next (begun_after (Some due) source) refl (cc (one)) (ap shadow.fates (sym same) ∙ fated)
-      by_places (inr away) (inl same) =
-          absurd (away (begun_there begun refl same))
+      by_places (inr away) (inl same) = grind arith
       by_places (inr away) (inr differ) =
           unfated place flight (are.others place away differ ∙ is)
           (fates_other shadow.fates (begun_at number) (shadow.fates from) place differ ∙ fated) sound

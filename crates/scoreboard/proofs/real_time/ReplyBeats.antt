@@ -14,7 +14,7 @@ use Rattle.scoreboard.proofs.real_time.Places.{HaveSources, Place, flight_at}
 use Rattle.scoreboard.proofs.real_time.ReplyMoves.{AreMoved, Moves, begun_next, distinct_next, each_next, moved_keeps, run_moved, waiting_next}
 use Rattle.scoreboard.proofs.real_time.ReplySeen.{are_moved, flights_still, next_is, sources_after, still_apart, still_either}
 use Rattle.scoreboard.proofs.real_time.Spared.{spared_changed}
-use Rattle.scoreboard.proofs.real_time.ReplySteps.{begun_as, counts_none, due_counted, moves_all, next_at, none_due}
+use Rattle.scoreboard.proofs.real_time.ReplySteps.{begun_as, counts_none, due_counted, moves_all, next_at}
 
 module _ {start : Bytes} (board : Board) (order : Order) (number source : ℕ) (explains : Explains start board order) where
   abbrev begun : Bool
@@ -25,10 +25,7 @@ module _ {start : Bytes} (board : Board) (order : Order) (number source : ℕ) (
 
   -- of a client that isn't there nothing is due
   nobody : slice_get board.clients number ≡ None → Explains start board (with_counted order number source)
-  nobody none =
-      subst (Explains start board)
-      (sym (counts_none board order explains number source (λ flight there own.
-      absurd (cc (sym (none_due board.clients begun number source none) ∙ there))))) explains
+  nobody none = grind (arith, none, explains, counts_none board order explains number source)
 
   module _ (client : ClientBoard) (there : slice_get board.clients number ≡ Some client) where
     abbrev changed : ClientBoard

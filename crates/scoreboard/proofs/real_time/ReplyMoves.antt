@@ -111,35 +111,17 @@ module _ (begun : Bool) (number source : ℕ) where
     -- the one for which the beat counts has one beat fewer left
     flight_next : (entry : Entry) (m : Bytes) → counts entry ≡ true → place_of entry ≡ from → (was : IsLive faults regions flights entry m)
         → new_flights (begun_at number) ≡ with_left was.flight (drop 1 was.flight.beats)
-    flight_next entry m counted place was =
-        are.next ∙ rw (sym place) (grind (arith, nat_tests, counted, was.there, was.source))
+    flight_next entry m counted place was = grind (arith, counted, place, was, are.next)
 
     -- one that is in flight at its place, with these beats left
     live_now : (entry : Entry) (m : Bytes) (was : IsLive faults regions flights entry m) (came : ℕ) (beats : List DBeat)
         → new_flights (place_of (record entry { came = came })) ≡ Some (record was.flight { beats = beats })
         → beats ≡ drop came (shown entry.request (meaning faults regions entry.request was.made_of).reply)
         → IsLive faults regions new_flights (record entry { came = came }) m
-    live_now entry m was came beats there left =
-        record {
-          flight = record was.flight { beats = beats };
-          there = there;
-          source = was.source;
-          acting = was.acting;
-          made_of = was.made_of;
-          bytes = was.bytes;
-          left = left;
-          same = was.same;
-        }
+    live_now entry m was came beats there left = grind (arith, was, there, left)
 
     stands_next : (entry : Entry) (m : Bytes) → Held entry m → Moves from entry → HeldNow (step entry) m
-    stands_next entry m held (Stays none away apart) =
-        subst (λ e. HeldNow e m) (sym (stays entry none))
-        (record {
-          well = held.well;
-          whole = held.whole;
-          live = λ live. let was = held.live live in
-              live_now entry m was entry.came was.flight.beats (are.others (place_of entry) (away live) (apart live) ∙ was.there) was.left;
-        })
+    stands_next entry m held (Stays none away apart) = grind (arith, held, are.others)
     stands_next entry m held (Goes whole live counted place) =
         subst (λ e. HeldNow e m) (sym (goes_on entry whole counted))
         (record {
@@ -198,9 +180,7 @@ module _ (begun : Bool) (number source : ℕ) where
       where
         waits_next : (due_at client place ≡ from → ⊥) → (entry : Entry) → Moves from entry → waits_for client place entry ≡ true
             → waits_for client place (step entry) ≡ true
-        waits_next differ entry (Stays none away apart) waits = ap (waits_for client place) (stays entry none) ∙ waits
-        waits_next differ entry (Goes whole live counted its_place) waits =
-            let waiting : place_of entry ≡ due_at client place = grind (arith, nat_tests, waits) in absurd (differ (sym waiting ∙ its_place))
+        waits_next differ entry is waits = grind (arith, differ, is, waits)
 
         by_place : (due_at client place ≡ from) ⊎ (due_at client place ≡ from → ⊥) → list_any (waits_for client place) (map step order) ≡ true
         by_place (inl same) = absurd (grind (arith, same, some, are.gone))
@@ -228,8 +208,7 @@ module _ (begun : Bool) (number source : ℕ) where
             ap (begun_to number) (goes_on entry whole is) ∙ grind (arith, nat_tests, own_client entry is, alive)
 
         begun_still : (client ≡ number → ⊥) → (entry : Entry) → Moves from entry → begun_to client entry ≡ true → begun_to client (step entry) ≡ true
-        begun_still differ entry (Stays none away apart) has = ap (begun_to client) (stays entry none) ∙ has
-        begun_still differ entry (Goes whole live is place) has = absurd (differ (grind (arith, nat_tests, has, own_client entry is)))
+        begun_still differ entry is has = grind (arith, differ, is, has)
 
         by_client : (client ≡ number) ⊎ (client ≡ number → ⊥) → list_any (begun_to client) (map step order) ≡ true
         by_client (inl same) =
@@ -238,8 +217,4 @@ module _ (begun : Bool) (number source : ℕ) where
             ∙ any_map (begun_to number) step order
             ∙ any_each faults regions Held counts (λ entry. begun_to number (step entry)) order m (λ entry n held. begins left entry n held (moves entry n held)) each
             (counted (grind (arith, are.next, left)))
-        by_client (inr differ) =
-            any_map (begun_to client) step order
-            ∙ any_each faults regions Held (begun_to client) (λ entry. begun_to client (step entry)) order m
-            (λ entry n held. begun_still differ entry (moves entry n held)) each
-            (old (grind (arith, some, differ, are.home, are.others (begun_at client))))
+        by_client (inr differ) = grind (arith, are.home, are.others, any_map (begun_to client) step order, any_each faults regions)

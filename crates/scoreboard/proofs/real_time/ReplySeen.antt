@@ -7,11 +7,11 @@ use Rattle.std.proofs.lemmas.Bool.Decides.{nat_tests}
 use Rattle.bus_words.specs.Places.{AreDistinct, without_first}
 use Rattle.bus_words.proofs.DistinctPlaces.{distinct-without_first}
 use Rattle.scoreboard.specs.Boards.{ClientBoard}
-use Rattle.scoreboard.specs.Flights.{Flights, Footprint, InFlight, begun_after, due_after, flights_after, is_of_source, next_reply, no_footprint}
+use Rattle.scoreboard.specs.Flights.{Flights, InFlight, begun_after, due_after, flights_after, is_of_source, next_reply, no_footprint}
 use Rattle.scoreboard.specs.Races.{may_write}
 use Rattle.scoreboard.proofs.MappedLists.{find_other, without_first_map}
-use Rattle.scoreboard.proofs.real_time.Apart.{AreApart, AreEither, IsEither}
-use Rattle.scoreboard.proofs.real_time.Places.{HaveSources, Place, begun_at, cases_place, flight_at, flight_in, flights_at, flights_in, flights_other, flights_same, footprint_in}
+use Rattle.scoreboard.proofs.real_time.Apart.{AreApart, AreEither}
+use Rattle.scoreboard.proofs.real_time.Places.{HaveSources, Place, begun_at, flight_at, flight_in, flights_at, flights_in, flights_other, flights_same, footprint_in}
 use Rattle.scoreboard.proofs.real_time.ReplyMoves.{AreMoved}
 use Rattle.scoreboard.proofs.real_time.ReplySteps.{next_at, next_client}
 
@@ -119,37 +119,15 @@ module _ (number source : ℕ) (from : Place) (flights new_flights : Place → O
     Kept : (place ≡ from → ⊥) → footprint_in (new_flights place) ≡ footprint_in (flights place) → Was place
 
   was : (place : Place) → Was place
-  was place = by_places (cases_place place (begun_at number)) (cases_place place from)
-    where
-      left : (footprint_in (begun_after (flights from) source) ≡ no_footprint) ⊎ (footprint_in (begun_after (flights from) source) ≡ footprint_in (flights from))
-      left = grind arith
-
-      by_places : (place ≡ begun_at number) ⊎ (place ≡ begun_at number → ⊥) → (place ≡ from) ⊎ (place ≡ from → ⊥) → Was place
-      by_places (inl same) other =
-          let now = ap (λ p. footprint_in (new_flights p)) same ∙ ap footprint_in are.next in
-          elim left [ inl none ↦ Nothing (now ∙ none) | inr is ↦ Moved same (now ∙ is) ]
-      by_places (inr differ) (inl same) = Nothing (grind (arith, same, differ, are.gone))
-      by_places (inr differ) (inr away) = Kept away (ap footprint_in (are.others place away differ))
+  was place = grind (arith, are.next, are.gone, are.others, footprint_in (begun_after (flights from) source), footprint_in (flights from), begun_at number)
 
   pub still_apart : AreApart (λ place. footprint_in (flights place)) → AreApart (λ place. footprint_in (new_flights place))
   still_apart old = record { apart = λ i j x differ determined. by_both i j x (was i) (was j) differ determined }
     where
       by_both : (i j : Place) (x : ℕ) → Was i → Was j → (i ≡ j → ⊥) → (footprint_in (new_flights i)).determined x ≡ true
           → may_write (footprint_in (new_flights j)) x ≡ false
-      by_both i j x (Nothing none) other differ determined = absurd (cc (sym (ap (λ (f : Footprint). f.determined x) none) ∙ determined))
-      by_both i j x first (Nothing none) differ determined = ap (λ (f : Footprint). may_write f x) none
-      by_both i j x (Moved here is) (Moved there other) differ determined = absurd (differ (here ∙ sym there))
-      by_both i j x (Moved here is) (Kept away other) differ determined = rw other (old.apart from j x (λ same. away (sym same)) (rw (← is) determined))
-      by_both i j x (Kept away is) (Moved there other) differ determined = rw other (old.apart i from x away (rw (← is) determined))
-      by_both i j x (Kept away is) (Kept off other) differ determined = rw other (old.apart i j x differ (rw (← is) determined))
+      by_both i j x first other differ determined = grind (arith, first, other, differ, determined)
 
   pub still_either : (indeterminate : ℕ → Bool) → AreEither indeterminate (λ place. footprint_in (flights place))
       → AreEither indeterminate (λ place. footprint_in (new_flights place))
-  still_either indeterminate old =
-      record {
-        either = λ place. elim (was place) [
-          | Nothing none ↦ subst (IsEither indeterminate) (sym none) (λ reads. absurd (cc (reads)))
-          | Moved here is ↦ subst (IsEither indeterminate) (sym is) (old.either from)
-          | Kept away is ↦ subst (IsEither indeterminate) (sym is) (old.either place)
-        ];
-      }
+  still_either indeterminate old = grind (arith, old)

@@ -8,11 +8,10 @@ use Rattle.meaning.specs.Meaning.{Bytes}
 use Rattle.scoreboard.specs.Boards.{Board, ClientBoard}
 use Rattle.scoreboard.specs.Flights.{InFlight}
 use Rattle.scoreboard.specs.Orders.{Entry, Order, begun_to, has_ended, is_due, with_beat}
-use Rattle.scoreboard.proofs.real_time.Entries.{IsElsewhere, Stands, place_of}
+use Rattle.scoreboard.proofs.real_time.Entries.{Stands, place_of}
 use Rattle.scoreboard.proofs.real_time.Explained.{Explains}
-use Rattle.scoreboard.proofs.real_time.Lengths.{some_beats}
 use Rattle.scoreboard.proofs.real_time.Places.{Place, begun_at, due_at, flight_at}
-use Rattle.scoreboard.proofs.real_time.ReplyMoves.{Goes, Moves, Stays, any_each, counts, some_each, stays_all, waits_for}
+use Rattle.scoreboard.proofs.real_time.ReplyMoves.{Goes, Moves, any_each, counts, some_each, stays_all, waits_for}
 
 -- the place of the request to which a client's next beat of a source is due: of that whose reply has begun, if one has
 abbrev pub next_at : Bool → ℕ → ℕ → Place
@@ -34,8 +33,7 @@ pub record IsAt (place : Place) (entry : Entry) : Type 0 where
 
 pub due_place : (begun : Bool) (number source : ℕ) (entry : Entry) → is_due begun number source entry ≡ true → IsAt (next_at begun number source) entry
 due_place true number source entry is = record { live = grind (arith, nat_tests, is); there = grind (arith, nat_tests, is) }
-due_place false number source entry is =
-    record { live = grind (arith, nat_tests, is, some_beats entry.request); there = grind (arith, nat_tests, is) }
+due_place false number source entry is = grind (arith, is)
 
 pub place_due : (begun : Bool) (number source : ℕ) (entry : Entry) → entry.whole ≡ true → IsAt (next_at begun number source) entry
     → is_due begun number source entry ≡ true
@@ -97,8 +95,7 @@ module _ {start : Bytes} (board : Board) (order : Order) (explains : Explains st
 
   module _ (own : (flight : InFlight) → flight_at board.clients (next_at (list_any (begun_to number) order) number source) ≡ Some flight → flight.source ≡ source) where
     due_counts : (entry : Entry) (m : Bytes) → Held entry m → is_due begun number source entry ≡ true → counts begun number source entry ≡ true
-    due_counts entry m held is =
-        let found = due_source entry m held is in grind (arith, nat_tests, is, found.2, own found.0 found.1)
+    due_counts entry m held is = grind (arith, held, is)
 
     pub due_counted : is_some (flight_at board.clients (next_at (list_any (begun_to number) order) number source)) ≡ true
         → list_any (counts (list_any (begun_to number) order) number source) order ≡ true
@@ -114,12 +111,4 @@ module _ {start : Bytes} (board : Board) (order : Order) (explains : Explains st
         by_counts true is =
             let at = due_place begun number source entry (and_parts (is_due begun number source entry) (entry.request.source == source) is).0 in
             Goes held.whole at.live is at.there
-        by_counts false is =
-            Stays is away (λ live same.
-            let has : begun ≡ true = begun_as ∙ ap (λ (o : Option InFlight). is_some o) (ap flights (sym same) ∙ (held.live live).there) in
-            away live (same ∙ ap (λ (b : Bool). next_at b number source) (sym has)))
-          where
-            away : IsElsewhere from entry
-            away live same =
-                both_ways (counts begun number source entry) is
-                (due_counts entry m held (place_due begun number source entry held.whole (record { live = live; there = same })))
+        by_counts false is = grind (arith, is, both_ways (counts begun number source entry) is)

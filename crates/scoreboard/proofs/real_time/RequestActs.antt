@@ -12,7 +12,6 @@ use Rattle.bus_words.specs.Lanes.{given_at}
 use Rattle.tl_messages.specs.Operations.{has_data}
 use Rattle.tl_messages.specs.Requests.{WholeRequest}
 use Rattle.tl_messages.specs.declared.AtomicOp.{AtomicOp}
-use Rattle.tl_messages.specs.declared.AtomicOp.TheVariants.{Min, Max, MinU, MaxU, Add, Xor, Or, And, Swap}
 use Rattle.tl_messages.specs.declared.Operation.{Operation}
 use Rattle.tl_messages.specs.declared.Operation.TheVariants.{PutFull, PutPartial, Atomic, Get, Intent}
 use Rattle.data_unit.specs.Atomics.{atomic_result}
@@ -138,10 +137,7 @@ number_small n number i b is =
 
 read_alike : (m n : Bytes) (a count : ℕ) → ((y : ℕ) → range_has a count y ≡ true → m y ≡ n y) → bytes_at m a count ≡ bytes_at n a count
 read_alike m n a zero agree = refl
-read_alike m n a (suc count) agree =
-    let first : m a ≡ n a = agree a (grind (arith, nat_tests)) in
-    let rest = read_alike m n (a + 1) count (λ y there. agree y (grind (arith, nat_tests, there))) in
-    cc (first, rest)
+read_alike m n a (suc count) agree = grind (arith, agree, read_alike m n (a + 1) count)
 
 -- an atomic on a good page whose word isn't bad
 change : (q : WholeRequest) (footprint : Footprint) (op : AtomicOp) → footprint.reads ≡ true → footprint.writes ≡ true → footprint.size ≡ q.size → q.operation ≡ Atomic op
@@ -174,15 +170,7 @@ change q footprint op reads writes size is well =
 
 -- every atomic carries data
 pub atomic_data : (op : AtomicOp) → has_data (Atomic op) ≡ true
-atomic_data Min = refl
-atomic_data Max = refl
-atomic_data MinU = refl
-atomic_data MaxU = refl
-atomic_data Add = refl
-atomic_data Xor = refl
-atomic_data Or = refl
-atomic_data And = refl
-atomic_data Swap = refl
+atomic_data op = grind arith
 
 by_kind : (faults : Faults) (q : WholeRequest) (a : ℕ) (op : Operation) (standing : Standing) (bad : Bool) → q.operation ≡ op → IsWell q
     → Acts (λ m. (effect faults q m a op standing bad).after)

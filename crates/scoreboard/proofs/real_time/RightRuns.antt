@@ -1,7 +1,7 @@
 -- Beats that are right in order of acceptance are so in real time, however errors may be told: no reply comes before its request is whole, and each beat
 -- tells of an error what the first one of its reply did.
-use Rattle.std.proofs.Common.{◌≡◌, ℕ, zero, suc, ◌+◌, ◌==◌, Bool, true, false, ◌&&◌, ◌||◌, not, List, [], ◌∷◌, map, set, drop, Option, Some, None, if◌then◌else◌, Result, Ok, Err, refl, sym, ◌∙◌, ap, subst, arith}
-use Rattle.std.specs.Prelude.{is_none, is_some, slice_get, unwrap_or}
+use Rattle.std.proofs.Common.{◌≡◌, ℕ, zero, suc, ◌+◌, ◌==◌, Bool, true, false, ◌&&◌, ◌||◌, not, List, [], ◌∷◌, map, set, drop, Option, Some, None, Result, Ok, Err, refl, sym, ◌∙◌, ap, subst, arith}
+use Rattle.std.specs.Prelude.{is_some, slice_get, unwrap_or}
 use Rattle.std.specs.List.{AllByRecursion, find, range_with_len}
 use Rattle.std.specs.Option.{option_map, option_or, option_to_list}
 use Rattle.std.proofs.lemmas.Bool.{eq-eqb}
@@ -14,20 +14,19 @@ use Rattle.tl_messages.specs.Requests.{HeldMessage, WholeRequest, request_of}
 use Rattle.tl_messages.specs.declared.ABeat.{ABeat}
 use Rattle.tl_messages.specs.declared.DBeat.{DBeat}
 use Rattle.tl_messages.specs.declared.Operation.{Operation}
-use Rattle.tl_messages.specs.declared.Operation.TheVariants.{Atomic, Get, Intent, PutFull, PutPartial}
 use Rattle.tl_checker.specs.Ports.{joined}
 use Rattle.tl_checker.specs.declared.Progress.{Progress}
 use Rattle.tl_checker.specs.declared.Progress.TheVariants.{More, Whole}
 use Rattle.tl_checker.specs.declared.TlRule.{TlRule}
 use Rattle.responses.specs.Shown.{Reply, beat_of_word, lacks_a_byte, shown}
 use Rattle.scoreboard.specs.AxiPorts.{port_after}
-use Rattle.scoreboard.specs.Boards.{Board, ClientBoard, IsReached, a_wrong, after_a, after_all, after_d, after_seen, answer_to, answered_on, client_after, client_beside, client_cut, coming_on, d_wrong, due_beat, early_after, early_due, early_flight, failed_beat, flight_for, from_zeros, has_replied, hit_client, hit_on, is_spoiled, joining_on, more_on, opening_board, opening_with, told_to, whole_on, with_accepted, with_client, with_whole, wrong_at, wrong_beat, wrong_reply, wrong_told}
+use Rattle.scoreboard.specs.Boards.{Board, ClientBoard, IsReached, a_wrong, after_a, after_all, after_d, after_seen, answer_to, answered_on, client_after, client_beside, client_cut, coming_on, d_wrong, due_beat, early_due, early_flight, failed_beat, flight_for, from_zeros, has_replied, hit_client, hit_on, is_spoiled, joining_on, more_on, opening_board, opening_with, told_to, whole_on, with_accepted, with_client, with_whole, wrong_at, wrong_beat, wrong_reply, wrong_told}
 use Rattle.scoreboard.specs.FailedBursts.{Span, failed_span}
-use Rattle.scoreboard.specs.Flights.{Flights, Footprint, InFlight, begun_after, begun_is_other, due_to, is_of_source, next_reply, with_left}
+use Rattle.scoreboard.specs.Flights.{Flights, Footprint, InFlight, begun_is_other, due_to, is_of_source, next_reply, with_left}
 use Rattle.scoreboard.specs.Races.{unless_failed}
 use Rattle.scoreboard.specs.Wider.{LetsRightPass, board_alone, client_alone, flight_alone, tells_apart}
 use Rattle.scoreboard.specs.declared.Errors.{Errors}
-use Rattle.scoreboard.specs.declared.Errors.TheVariants.{Any, Strict}
+use Rattle.scoreboard.specs.declared.Errors.TheVariants.{Strict}
 use Rattle.scoreboard.specs.declared.Policy.TheVariants.{AcceptanceOrder, RealTime}
 use Rattle.scoreboard.specs.declared.ObservedBeat.{ObservedBeat}
 use Rattle.scoreboard.specs.declared.ObservedBeat.TheVariants.{A, D, Axi as OnAxi, Drained}
@@ -69,11 +68,7 @@ words_tell q reply from (suc n) has_data = (word_tells q reply from has_data, wo
 
 -- a reply with data is AccessAckData, and no other is
 opcode_of_data : (operation : Operation) (has_data : Bool) → reply_has_data operation ≡ has_data → (reply_opcode operation == 1) ≡ has_data
-opcode_of_data PutFull has_data is = is
-opcode_of_data PutPartial has_data is = is
-opcode_of_data (Atomic op) has_data is = is
-opcode_of_data Get has_data is = is
-opcode_of_data (Intent write) has_data is = is
+opcode_of_data operation has_data is = grind (arith, is)
 
 shown_tells : (q : WholeRequest) (reply : Reply) → AllByRecursion (IsTelling reply.denied) (shown q reply)
 shown_tells q reply = by_data (reply_has_data q.operation) refl
@@ -91,16 +86,13 @@ left_alike denied [] all = tt
 left_alike denied (beat ∷ beats) all = all.1
 
 left_own : (source : ℕ) (beats : List DBeat) → AreOf source beats → AreOf source (drop 1 beats)
-left_own source [] all = tt
-left_own source (beat ∷ beats) all = all.1
+left_own source beats all = grind (arith, all)
 
 -- ---- a beat that is due is right, where its request has failed too
 
 -- as it tells it, it may
 as_told : (told : Option Bool) (due : DBeat) (denied : Bool) → IsTelling denied due → unwrap_or told denied ≡ denied → failed_beat told due due ≡ due
-as_told told due denied tells same =
-    let is_denied : unwrap_or told due.denied ≡ due.denied = ap (unwrap_or told) tells.same ∙ same ∙ sym tells.same in
-    rw is_denied (sym (ap (λ (corrupt : Bool). record due { corrupt = corrupt }) tells.corrupt))
+as_told told due denied tells same = grind (arith, tells, same)
 
 next_passes : (flight : InFlight) (told : Option Bool) (denied : Bool) (beat : DBeat) → AllByRecursion (IsTelling denied) flight.beats → unwrap_or told denied ≡ denied
     → wrong_beat flight.beats beat ≡ None → wrong_told flight.footprint told flight.beats beat ≡ None
@@ -131,18 +123,11 @@ ArePlain errors clients = (number : ℕ) (client : ClientBoard) → slice_get cl
 
 -- whether a reply came is known from what may come early alone
 replied_same : (errors : Errors) (client other : ClientBoard) → client.early ≡ other.early → has_replied errors client ≡ has_replied errors other
-replied_same Strict client other same = refl
-replied_same Any client other same = ap is_none same
+replied_same errors client other same = grind (arith, same)
 
 -- beside a request that comes
 plain_beside : (errors : Errors) (footprint : Footprint) (client : ClientBoard) → IsPlain errors client → IsPlain errors (client_beside footprint client)
-plain_beside errors footprint client plain = record { told = told client.flights.begun refl; waits = λ in_front. replied_same errors (client_beside footprint client) client refl ∙ plain.waits in_front }
-  where
-    told : (begun : Option InFlight) → client.flights.begun ≡ begun
-        → (flight : InFlight) → (client_beside footprint client).flights.begun ≡ Some flight → AllByRecursion (IsTelling client.told) flight.beats
-    told None is flight some = absurd (cc (is, some))
-    told (Some own) is flight some =
-        let beats : own.beats ≡ flight.beats = cc (is, some) in subst (AllByRecursion (IsTelling client.told)) beats (plain.told own is)
+plain_beside errors footprint client plain = grind (arith, plain)
 
 all_beside : (errors : Errors) (footprint : Footprint) (clients : List ClientBoard) → ArePlain errors clients → ArePlain errors (map (client_beside footprint) clients)
 all_beside errors footprint clients are number client is =
@@ -150,13 +135,7 @@ all_beside errors footprint clients are number client is =
 
 -- with an error response
 plain_hit : (errors : Errors) (span : Span) (client : ClientBoard) → IsPlain errors client → IsPlain errors (hit_client span client)
-plain_hit errors span client plain = record { told = told client.flights.begun refl; waits = λ in_front. replied_same errors (hit_client span client) client refl ∙ plain.waits in_front }
-  where
-    told : (begun : Option InFlight) → client.flights.begun ≡ begun
-        → (flight : InFlight) → (hit_client span client).flights.begun ≡ Some flight → AllByRecursion (IsTelling client.told) flight.beats
-    told None is flight some = absurd (cc (is, some))
-    told (Some own) is flight some =
-        let beats : own.beats ≡ flight.beats = cc (is, some) in subst (AllByRecursion (IsTelling client.told)) beats (plain.told own is)
+plain_hit errors span client plain = grind (arith, plain)
 
 all_hit : (errors : Errors) (span : Option Span) (board : Board) → ArePlain errors board.clients → ArePlain errors (hit_on span board).clients
 all_hit errors None board are number client is = are number client is
@@ -170,8 +149,7 @@ whole_plain errors false flight client plain = record { told = plain.told; waits
 
 -- where it has begun
 begun_waits : (errors : Errors) (client : ClientBoard) (q : WholeRequest) → has_replied errors (record client { early = early_due errors q }) ≡ false
-begun_waits Strict client q = refl
-begun_waits Any client q = refl
+begun_waits errors client q = grind arith
 
 -- ---- a beat on channel A
 
@@ -291,39 +269,9 @@ reply_plain errors client beat all plain none = by_next (next_reply client.fligh
     left flight denied (first ∷ beats) tell own is = let same : first ∷ beats ≡ own.beats = cc (is) in subst (AllByRecursion (IsTelling denied)) same tell
 
     by_next : (next : Option InFlight) → next_reply client.flights beat.source ≡ next → IsPlain errors after
-    by_next None is =
-        absurd (cc (sym none ∙ ap (λ (o : Option InFlight). wrong_reply AcceptanceOrder (told_to (client_alone client)) o beat)
-        (next_alone client.flights beat.source ∙ ap (option_map flight_alone) is)))
-    by_next (Some flight) is = record { told = told; waits = waits }
-      where
-        its : (denied : Bool) × IsNextTold client flight denied
-        its = next_told client beat.source flight all plain.told is
-
-        right : wrong_beat flight.beats beat ≡ None
-        right =
-            sym (in_turn_alone flight.beats beat) ∙ sym (ap (λ (o : Option InFlight). wrong_reply AcceptanceOrder (told_to (client_alone client)) o beat)
-            (next_alone client.flights beat.source ∙ ap (option_map flight_alone) is)) ∙ none
-
-        denied : beat.denied ≡ its.0
-        denied = (subst (AllByRecursion (IsTelling its.0)) (right_next flight.beats beat right).1 its.1.0).0.same
-
-        told_now : unwrap_or (told_to client) beat.denied ≡ its.0
-        told_now = ap (unwrap_or (told_to client)) denied ∙ its.1.1
-
-        of_source : (b : Bool) → (own : InFlight) → (if b then with_left flight (drop 1 flight.beats) else Some flight) ≡ Some own → AllByRecursion (IsTelling its.0) own.beats
-        of_source true own some = left flight its.0 (drop 1 flight.beats) (left_alike its.0 flight.beats its.1.0) own some
-        of_source false own some = let same : flight ≡ own = cc (some) in subst (λ (f : InFlight). AllByRecursion (IsTelling its.0) f.beats) same its.1.0
-
-        told : (own : InFlight) → after.flights.begun ≡ Some own → AllByRecursion (IsTelling after.told) own.beats
-        told own some =
-            subst (λ (b : Bool). AllByRecursion (IsTelling b) own.beats) (sym told_now)
-            (of_source (flight.source == beat.source) own (sym (ap (λ (o : Option InFlight). begun_after o beat.source) is) ∙ some))
-
-        same_early : early_after client beat.source ≡ client.early
-        same_early = rw is refl
-
-        waits : IsWaiting errors after
-        waits in_front = replied_same errors after client same_early ∙ plain.waits in_front
+    by_next None is = grind (arith, is, next_alone client.flights beat.source)
+    by_next (Some flight) is =
+        grind (arith, is, next_told client beat.source flight all plain.told is, next_alone client.flights beat.source)
 
 -- ---- beats that are right in order of acceptance
 

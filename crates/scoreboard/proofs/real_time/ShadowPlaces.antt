@@ -13,7 +13,6 @@ use Rattle.scoreboard.specs.Flights.{Flights, InFlight, due_to, is_of_source}
 use Rattle.scoreboard.proofs.real_time.Ahead.{IsAhead, Shadow, comes, front_in}
 use Rattle.scoreboard.proofs.real_time.FlightLists.{none_found}
 use Rattle.scoreboard.proofs.real_time.Places.{Place, due_at, flight_at, flights_in}
-use Rattle.scoreboard.proofs.real_time.ReplyBytes.{Fixed, Kind, Told, kind}
 
 -- ---- what becomes of each client's message
 
@@ -59,8 +58,4 @@ module _ (board : Board) (shadow : Shadow) (ahead : IsAhead board shadow) (numbe
 
 pub reply_same : (faults : Faults) (regions : List Region) (q : WholeRequest) (m n : Bytes) → reply_has_data q.operation ≡ false
     → (meaning faults regions q m).reply ≡ (meaning faults regions q n).reply
-reply_same faults regions q m n silent = by_kind (kind faults regions q)
-  where
-    by_kind : Kind faults regions q → (meaning faults regions q m).reply ≡ (meaning faults regions q n).reply
-    by_kind (Fixed reply same) = same m ∙ sym (same n)
-    by_kind (Told tells) = absurd (cc (sym silent ∙ tells.carries))
+reply_same faults regions q m n silent = grind (arith, silent)

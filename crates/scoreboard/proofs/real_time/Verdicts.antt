@@ -23,11 +23,7 @@ wrong_sure footprint (due ∷ rest) beat =
 
 pub sure_told : (footprint : Footprint) (told : Option Bool) (beats : List DBeat) (beat : DBeat) → footprint.failed ≡ false
     → wrong_told footprint told beats beat ≡ wrong_sure footprint beats beat
-sure_told footprint told [] beat sound = refl
-sure_told footprint told (due ∷ rest) beat sound =
-    ap (λ (failed : Bool). wrong_by (due_beat failed told due beat)
-    (unless_indeterminate (tells_otherwise footprint (beats_of footprint.size true - length (due ∷ rest)) due beat)
-    (first_broken (reply_rules (due_beat failed told due beat) beat)))) sound
+sure_told footprint told beats beat sound = grind (arith, sound)
 
 -- where a payload differs it tells of nothing that is determined
 tells_nothing : (footprint : Footprint) (k : ℕ) (due other beat : DBeat) → Alike footprint k due other → beat.payload ≡ other.payload
@@ -40,8 +36,7 @@ tells_nothing footprint k due other beat alike is =
 is_blamed : (due : DBeat) (otherwise : Bool) (first : Option ReplyRule) (broken : ReplyRule) (told : Option DBeat)
     → wrong_by due (unless_indeterminate otherwise first) ≡ Some (wrong.Reply broken told)
     → (first ≡ Some broken) × (broken ≡ rule.Payload → otherwise ≡ true)
-is_blamed due otherwise None broken told is = absurd (cc (is))
-is_blamed due otherwise (Some r) broken told is = (grind (arith, is), λ payload. grind (arith, is, payload))
+is_blamed due otherwise first broken told is = grind (arith, is)
 
 -- the first rule that is broken stays, where the last is broken too if it is that
 kept_rule : (rows : List (Bool × ReplyRule)) (last broken : ReplyRule) (f g : Bool) → first_broken (rows ++ (f, last) ∷ []) ≡ Some broken
@@ -81,12 +76,7 @@ otherwise_same footprint k due other beat alike =
 
 still_blamed : (due : DBeat) (otherwise : Bool) (first : Option ReplyRule) (broken : ReplyRule) → first ≡ Some broken → (broken ≡ rule.Payload → otherwise ≡ true)
     → wrong_by due (unless_indeterminate otherwise first) ≡ Some (wrong.Reply broken (Some due))
-still_blamed due otherwise None broken is tells = absurd (cc (is))
-still_blamed due otherwise (Some r) broken is tells = by_rule r broken is tells
-  where
-    by_rule : (r broken : ReplyRule) → Some r ≡ Some broken → (broken ≡ rule.Payload → otherwise ≡ true)
-        → wrong_by due (unless_indeterminate otherwise (Some r)) ≡ Some (wrong.Reply broken (Some due))
-    by_rule r broken is tells = grind (arith, is, tells)
+still_blamed due otherwise first broken is tells = grind (arith, is, tells)
 
 -- beats that are blamed by a rule are blamed by it too, where they are beside others that are alike, as many are left
 pub left_told : (footprint : Footprint) (mine theirs : List DBeat) (beat : DBeat) (broken : ReplyRule) (told : Option DBeat) → LeftAlike footprint mine theirs
@@ -120,8 +110,7 @@ same_broken footprint (due ∷ rest) beat broken told is = (Some due, ap (wrong_
 -- beats that are blamed break the rule against those that are left of the same reply, made of other bytes
 pub left_broken : (footprint : Footprint) (mine theirs : List DBeat) (beat : DBeat) (broken : ReplyRule) (told : Option DBeat) → LeftAlike footprint mine theirs
     → wrong_sure footprint mine beat ≡ Some (wrong.Reply broken told) → IsBroken theirs beat broken
-left_broken footprint mine theirs beat broken told (Same same) is =
-    same_broken footprint theirs beat broken told (sym (ap (λ (beats : List DBeat). wrong_sure footprint beats beat) same) ∙ is)
+left_broken footprint mine theirs beat broken told (Same same) is = grind (arith, is, same_broken footprint theirs beat broken told)
 left_broken footprint mine theirs beat broken told (Words k due other rest others is_mine is_theirs alike place) is =
     let blamed =
     sym (ap (λ (n : ℕ). wrong_by due (unless_indeterminate (tells_otherwise footprint n due beat) (first_broken (reply_rules due beat)))) place)
@@ -131,8 +120,7 @@ left_broken footprint mine theirs beat broken told (Words k due other rest other
 -- what is due of a request that hasn't failed is as it is
 pub sure_shown : (failed : Bool) (told : Option Bool) (beats : List DBeat) (beat : DBeat) → failed ≡ false
     → wrong_beat (map (λ due. due_beat failed told due beat) beats) beat ≡ wrong_beat beats beat
-sure_shown failed told [] beat sound = refl
-sure_shown failed told (due ∷ rest) beat sound = ap (λ (b : Bool). wrong_by (due_beat b told due beat) (first_broken (reply_rules (due_beat b told due beat) beat))) sound
+sure_shown failed told beats beat sound = grind (arith, sound)
 
 -- beats of a request that has failed are blamed as any others of the same shape are
 pub failed_broken : (footprint : Footprint) (failed : Bool) (told : Option Bool) (mine theirs : List DBeat) (beat : DBeat) (broken : ReplyRule) (x : Option DBeat)

@@ -3,7 +3,7 @@
 use Rattle.std.proofs.Common.{◌≡◌, ℕ, Bool, true, false, ◌||◌, List, [], ◌∷◌, map, Option, Some, None, if◌then◌else◌, Result, Ok, Err, refl, sym, ◌∙◌, ap, ap₂, subst, arith}
 use Rattle.std.specs.Prelude.{is_some, slice_get}
 use Rattle.std.specs.Option.{option_map}
-use Rattle.std.proofs.lemmas.Option.{slice_get-map}
+use Rattle.std.proofs.lemmas.Option.{slice_get-map, slice_get_within}
 use Rattle.setups.specs.Setups.{SetupLists}
 use Rattle.tl_messages.specs.Requests.{HeldMessage, WholeRequest, request_of}
 use Rattle.tl_messages.specs.declared.ABeat.{ABeat}
@@ -27,18 +27,16 @@ use Rattle.scoreboard.proofs.acceptance_order.Fixed.{in_turn_known, known_alone}
 use Rattle.scoreboard.specs.declared.ObservedBeat.{ObservedBeat}
 use Rattle.scoreboard.specs.declared.Wrong.{Wrong}
 use Rattle.scoreboard.specs.declared.ObservedBeat.TheVariants.{A, D, Axi as OnAxi, Drained}
-use Rattle.scoreboard.proofs.held.EarlyBeats.{after_as}
 use Rattle.scoreboard.proofs.real_time.Becoming.{errors_kept}
 use Rattle.scoreboard.proofs.real_time.EachFlight.{AreOfEach, IsOfEach, seen_each}
 use Rattle.scoreboard.proofs.real_time.Explained.{each_client, opening_at}
 use Rattle.scoreboard.proofs.real_time.FlightLists.{client_was}
 use Rattle.scoreboard.proofs.real_time.Fronts.{beside_at}
-use Rattle.std.proofs.lemmas.Option.{slice_get_within}
 use Rattle.bus_words.proofs.StoredPlaces.{get_set}
 use Rattle.scoreboard.proofs.real_time.Failures.{fails_flag}
 use Rattle.scoreboard.proofs.real_time.FlightsAlone.{begun_alone, further_alone, given_alone, hit_alone, joined_alone, none_left, reply_alone}
 use Rattle.scoreboard.proofs.real_time.InTurnAlone.{IsQuietBoard, alone_twice, goes_alone, on_alone, quiet_all, quiet_next, quiet_opens, says_alone, taken_twice}
-use Rattle.scoreboard.proofs.real_time.WiderVerdicts.{IsUnfailed, nothing_early, same_answer, tells_no_more}
+use Rattle.scoreboard.proofs.real_time.WiderVerdicts.{IsUnfailed, same_answer, tells_no_more}
 
 -- a board of real time holds what one of acceptance order does, and nothing is early
 pub record IsOn (compared board : Board) : Type 0 where
@@ -101,9 +99,7 @@ request_on old number (Some client) beat waits none free = rw (same_answer clien
 
 port_on : (port : PortBoard) (beat : AxiBeat) → port.early ≡ [] → tells_no_write (wrong_in_order port beat) ≡ false
     → after_with_early port beat ≡ after_in_order port beat
-port_on port beat none there =
-    let alone = nothing_early port none in
-    ap (λ (p : PortBoard). after_with_early p beat) alone ∙ after_as port.limits port.open_bursts beat there ∙ ap (λ (p : PortBoard). after_in_order p beat) (sym alone)
+port_on port beat none there = grind (arith, none, there)
 
 pub after_on : (old : Board) (seen : ObservedBeat)
     → ((number : ℕ) (client : ClientBoard) → slice_get old.clients number ≡ Some client → IsWaiting old.errors client) → old.axi.early ≡ [] → tells_apart (wrong_at AcceptanceOrder (board_alone old) seen) ≡ false
@@ -120,8 +116,7 @@ after_on old (D client beat) waits none free =
     })
   where
     still : (found : Option ClientBoard) → (after_d old client found beat).axi.early ≡ []
-    still None = none
-    still (Some one) = none
+    still found = grind arith
 after_on old (OnAxi beat) waits none free =
     let same = port_on old.axi beat none (grind (arith, free)) in
     let after : Board = record old { axi = port_after RealTime old.axi beat } in
@@ -133,8 +128,7 @@ after_on old (OnAxi beat) waits none free =
     }
   where
     by_span : (span : Option Span) (board : Board) → (hit_on span board).axi.early ≡ board.axi.early
-    by_span None board = refl
-    by_span (Some span) board = refl
+    by_span span board = grind arith
 after_on old Drained waits none free =
     record { holds = on_alone (after_seen RealTime old Drained) (after_seen AcceptanceOrder (board_alone old) Drained) refl; early = refl }
 
@@ -226,9 +220,7 @@ late_next : (board : Board) (seen : ObservedBeat) → board.errors ≡ Strict �
     → (other : ℕ) (client : ClientBoard) → slice_get (after_seen RealTime board seen).clients other ≡ Some client → IsLate client
 late_next board (A number beat) strict are other client is = late_request board number beat strict are other client is
 late_next board (D number beat) strict are other client is = late_reply board number beat are other client is
-late_next board (OnAxi beat) strict are other client is =
-    are other client
-    (sym (ap (λ errors. slice_get (hit_on (failed_span errors board.axi beat) (record board { axi = port_after RealTime board.axi beat })).clients other) strict) ∙ is)
+late_next board (OnAxi beat) strict are other client is = grind (arith, strict, are, is)
 late_next board Drained strict are other client is = are other client is
 
 strict_next : (board : Board) (seen : ObservedBeat) → IsStrict board → IsStrict (after_seen RealTime board seen)

@@ -1,19 +1,17 @@
 -- What a board of real time says of a beat, beside one of acceptance order that holds the same: no more, and less only of a busy source, of a W
 -- beat without a write and of another payload.
-use Rattle.std.proofs.Common.{◌≡◌, ℕ, Bool, true, false, ◌&&◌, ◌||◌, not, if◌then◌else◌, List, [], ◌∷◌, ◌++◌, take, Option, Some, None, Result, Err}
-use Rattle.std.proofs.Common.{◌⊎◌, inl, inr, refl, sym, ◌∙◌, ap, subst, arith}
+use Rattle.std.proofs.Common.{◌≡◌, ℕ, Bool, true, false, ◌&&◌, ◌||◌, if◌then◌else◌, List, [], ◌∷◌, ◌++◌, take, Option, Some, None, Result, Err, ◌⊎◌, inl, inr, refl, sym, ap, subst, arith}
 use Rattle.std.specs.Prelude.{slice_get}
 use Rattle.std.specs.List.{AllByRecursion, find, list_any}
 use Rattle.std.specs.Option.{option_map, option_or, option_to_list}
 use Rattle.bus_words.proofs.PlaceChanges.{all-find}
-use Rattle.std.proofs.lemmas.Bool.{or_right}
 use Rattle.std.proofs.lemmas.Option.{slice_get-map}
 use Rattle.bus_words.specs.Tables.{first_broken}
 use Rattle.tl_messages.specs.Requests.{HeldMessage}
 use Rattle.tl_messages.specs.declared.ABeat.{ABeat}
 use Rattle.tl_messages.specs.declared.DBeat.{DBeat}
-use Rattle.tl_checker.specs.Ports.{joined, judged, judged_by, progress_of}
-use Rattle.tl_checker.specs.RequestRules.{TlPortLimits, first_beat_rules, first_fault}
+use Rattle.tl_checker.specs.Ports.{judged}
+use Rattle.tl_checker.specs.RequestRules.{TlPortLimits, first_beat_rules}
 use Rattle.tl_checker.specs.declared.Progress.{Progress}
 use Rattle.tl_checker.specs.declared.TlRule.{TlRule}
 use Rattle.tl_checker.specs.declared.TlRule.TheVariants.{SourceBusy}
@@ -21,7 +19,7 @@ use Rattle.axi_checker.specs.declared.AxiBeat.{AxiBeat}
 use Rattle.axi_checker.specs.declared.AxiBeat.TheVariants.{Ar as OnAr, Aw as OnAw, B as OnB, R as OnR, W as OnW}
 use Rattle.axi_checker.specs.Rules.{axi_fault}
 use Rattle.scoreboard.specs.AxiPorts.{PortBoard, none_early, tells_no_write, wrong_in_order, wrong_with_early}
-use Rattle.scoreboard.specs.Boards.{Board, ClientBoard, a_wrong, answer_to, d_wrong, early_flight, is_payload, next_to, reply_rules, told_to, unless_indeterminate, wrong_at, wrong_beat, wrong_by, wrong_reply, wrong_request}
+use Rattle.scoreboard.specs.Boards.{Board, ClientBoard, a_wrong, answer_to, d_wrong, is_payload, next_to, reply_rules, told_to, unless_indeterminate, wrong_at, wrong_beat, wrong_by, wrong_reply, wrong_request}
 use Rattle.scoreboard.specs.Flights.{Footprint, InFlight, begun_is_of, is_of_source, next_reply}
 use Rattle.scoreboard.specs.Wider.{TellsNoMore, board_alone, client_alone, flight_alone, tells_apart, tells_busy, tells_payload}
 use Rattle.scoreboard.specs.declared.Policy.TheVariants.{AcceptanceOrder, RealTime}
@@ -38,8 +36,7 @@ use Rattle.scoreboard.proofs.real_time.Verdicts.{sure_told, wrong_sure}
 
 -- where nothing is wrong in order of acceptance, nothing is in real time
 pub none_told : (compared verdict : Option Wrong) → TellsNoMore compared verdict → compared ≡ None → verdict ≡ None
-none_told compared verdict (inl same) none = same ∙ none
-none_told compared verdict (inr (passes, nothing)) none = nothing
+none_told compared verdict is none = grind (arith, is, none)
 
 -- ---- channel A
 
@@ -59,14 +56,7 @@ last_rule ((false, first) ∷ rows) last = last_rule rows last
 answers_free : (limits : TlPortLimits) (front : Option HeldMessage) (beat : ABeat)
     → AnswersFree (judged limits front beat true) (judged limits front beat false)
 answers_free limits (Some held) beat = inl refl
-answers_free limits None beat =
-    by_rules (progress_of (joined limits None beat)) (first_fault limits None beat true) (first_fault limits None beat false)
-    (last_rule (take 8 (first_beat_rules limits beat false)) SourceBusy)
-  where
-    by_rules : (progress : Progress) (busy free : Option TlRule) → (busy ≡ free) ⊎ ((busy ≡ Some SourceBusy) × (free ≡ None))
-        → AnswersFree (judged_by busy progress) (judged_by free progress)
-    by_rules progress busy free (inl same) = inl (rw same refl)
-    by_rules progress busy free (inr (is, none)) = inr (rw is refl, rw none refl)
+answers_free limits None beat = grind (arith, last_rule (take 8 (first_beat_rules limits beat false)))
 
 -- a source that is busy in real time is in order of acceptance
 answers_to : (client : ClientBoard) (beat : ABeat) → AnswersFree (answer_to AcceptanceOrder (client_alone client) beat) (answer_to RealTime client beat)
@@ -100,12 +90,7 @@ is_told rule due is = grind (arith, is)
 rule_told : (otherwise : Bool) (due : DBeat) (broken : Option ReplyRule)
     → TellsNoMore (wrong_by due broken) (wrong_by due (unless_indeterminate otherwise broken))
 rule_told otherwise due None = inl refl
-rule_told otherwise due (Some rule) = by_tests (is_payload rule) otherwise refl
-  where
-    by_tests : (payload tells : Bool) → is_payload rule ≡ payload → TellsNoMore (Some (Reply rule (Some due))) (wrong_by due (if payload && not tells then None else Some rule))
-    by_tests true true is = inl refl
-    by_tests true false is = inr (inr (is_told rule due is), refl)
-    by_tests false tells is = inl refl
+rule_told otherwise due (Some rule) = grind arith
 
 pub told_less : (footprint : Footprint) (dues : List DBeat) (beat : DBeat) → TellsNoMore (wrong_beat dues beat) (wrong_sure footprint dues beat)
 told_less footprint [] beat = inl refl
@@ -137,11 +122,7 @@ next_of_each client source all = by_begun client.flights.begun all.1
 
 -- where nothing may come early the next beat is of a reply to one in flight
 next_in_flight : (client : ClientBoard) (source : ℕ) → client.early ≡ None → next_to RealTime client source ≡ next_reply client.flights source
-next_in_flight client source none = ap (λ (early : Option DBeat). option_or (next_reply client.flights source) (early_flight client early source)) none ∙ or_none (next_reply client.flights source)
-  where
-    or_none : (o : Option InFlight) → option_or o None ≡ o
-    or_none None = refl
-    or_none (Some flight) = refl
+next_in_flight client source none = grind (arith, none)
 
 -- no request of a client has failed, and nothing may come early to it
 pub record IsSure (client : ClientBoard) : Type 0 where
@@ -160,20 +141,11 @@ d_told (Some client) beat unfailed =
 
 -- a W beat without a write is early, if there is room
 w_told : (verdict : Option Wrong) → TellsNoMore verdict (if tells_no_write verdict && true then None else verdict)
-w_told verdict = by_test (tells_no_write verdict) refl
-  where
-    by_test : (b : Bool) → tells_no_write verdict ≡ b → TellsNoMore verdict (if b && true then None else verdict)
-    by_test true is = inr (inl (or_right (tells_busy verdict) (tells_no_write verdict) is), refl)
-    by_test false is = inl refl
-
--- a port on which nothing is early
-pub nothing_early : (port : PortBoard) → port.early ≡ [] → port ≡ none_early port.limits port.open_bursts
-nothing_early port none = ap (λ early. record port { early = early }) none
+w_told verdict = grind arith
 
 pub axi_told : (port : PortBoard) (beat : AxiBeat) → port.early ≡ [] → TellsNoMore (wrong_in_order port beat) (wrong_with_early port beat)
 axi_told port (OnAw beat) none =
-    inl (ap (λ (p : PortBoard). wrong_with_early p (OnAw beat)) (nothing_early port none)
-    ∙ aw_wrong port.limits port.open_bursts beat (axi_fault port.limits port.open_bursts (OnAw beat)))
+    grind (arith, none, aw_wrong port.limits port.open_bursts beat (axi_fault port.limits port.open_bursts (OnAw beat)))
 axi_told port (OnW beat) none = rw none (w_told (wrong_in_order port (OnW beat)))
 axi_told port (OnB beat) none = inl refl
 axi_told port (OnAr beat) none = inl refl
