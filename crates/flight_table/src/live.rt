@@ -28,6 +28,8 @@ use std::marker::Model;
 /// planned, unsent and within the depth; whether it holds an ID besides; and whether nobody holds it back. By slot is kept of
 /// each how many hold it back, what tells whom it conflicts with, and the set of those that it holds back, as bits at their
 /// slots; by AXI page, which lie in it; and by client, which live requests it has.
+///
+/// The ranges, the largest part of it, lie in a block of their own, so that a table moves cheaply from call to call while it is made.
 #[derive(Drop)]
 pub(crate) struct Live {
     pub(crate) limits: TableLimits,
@@ -40,7 +42,7 @@ pub(crate) struct Live {
     unheld: Marks,
     holders: [u8; 64],
     held: [u64; 64],
-    spans: [Span; 64],
+    spans: Vec<Span>,
     rows: Rows,
 }
 
@@ -56,7 +58,7 @@ impl Model for Live {
 
     ghost view = { λ l. record { limits = l.limits; entries = l.slots } };
 
-    ghost invariant = { λ l. IsKept l.limits.depth (requests_of l.slots) l.able l.named l.unheld × AreInSlots l.slots l.holders l.held l.spans l.rows × (l.ids ≡ holders_of_ids l.limits.ids l.slots) × IsSummed (requests_of l.slots) l.sums × AreOwned 8 l.slots l.clients };
+    ghost invariant = { λ l. IsKept l.limits.depth (requests_of l.slots) l.able l.named l.unheld × AreInSlots l.slots l.holders l.held l.spans.items l.rows × (l.ids ≡ holders_of_ids l.limits.ids l.slots) × IsSummed (requests_of l.slots) l.sums × AreOwned 8 l.slots l.clients };
 }
 
 impl Live {
@@ -74,6 +76,7 @@ impl Live {
             end: 0,
             get: true,
         };
+        let spans = vec![in alloc; none; 64]?;
         Ok(Live {
             limits,
             slots,
@@ -85,7 +88,7 @@ impl Live {
             unheld: Marks::new(),
             holders: [0; 64],
             held: [0; 64],
-            spans: [none; 64],
+            spans,
             rows,
         })
     }
@@ -111,7 +114,7 @@ impl Live {
         self.sums = self.sums.with(&request);
         let key = self.slots.add(request);
         let slot = key.slot();
-        let holders = join(&self.spans, &span, row, &mut self.held, slot);
+        let holders = join(self.spans.as_slice(), &span, row, &mut self.held, slot);
         self.rows.add(page, slot);
         self.unheld.push(holders == 0);
         self.holders[slot] = holders;

@@ -37,12 +37,13 @@ impl Span {
 /// How many of the requests at the marked slots conflict with this one, which each of them then holds back: the bit of its slot
 /// is set in the set of each.
 pub(crate) fn join(
-    spans: &[Span; 64],
+    spans: &[Span],
     request: &Span,
     mut row: Marks,
     held: &mut [u64; 64],
     slot: usize,
 ) -> u8
+    requires spans { length spans.now ≡ 64 }
     requires slots { length row ≡ 64 }
     requires slot { slot < 64 }
     ensures count { result ≡ counted_in row request.now spans.now }

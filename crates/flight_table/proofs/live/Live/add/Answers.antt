@@ -22,6 +22,9 @@ use Rattle.flight_table.proofs.live.Live.add.Goals as goal
 pub with-self-inside-requires : goal.with-self-inside-requires
 with-self-inside-requires c = rw c.self.invariant.3.sums_are (are_small (requests_of c.self.inside.slots) c.self.invariant.3.few c.self.invariant.3.small)
 
+pub join-holders-requires-clause-spans : goal.join-holders-requires-clause-spans
+join-holders-requires-clause-spans c = rw c.as_slice.ensures.value c.self.invariant.1.all_spans
+
 pub join-holders-requires-clause-slots : goal.join-holders-requires-clause-slots
 join-holders-requires-clause-slots c = rw c.row-row.ensures.row (length-marks 64 (bits_in c.page-page.result c.self.inside.rows))
 
@@ -34,7 +37,7 @@ pub add-requires-clause-fits : goal.add-requires-clause-fits
 add-requires-clause-fits c =
     let i = c.self.inside in
     rw c.slot-slot.ensures.value
-    (row_room c.page-page.result c.add-key.result i.slots i.holders i.held i.spans i.rows c.self.invariant.1 c.add-key.ensures.fresh (rw c.slot-slot.ensures.value at c.slot-slot.ensures.within))
+    (row_room c.page-page.result c.add-key.result i.slots i.holders i.held i.spans.items i.rows c.self.invariant.1 c.add-key.ensures.fresh (rw c.slot-slot.ensures.value at c.slot-slot.ensures.within))
 
 pub add-requires-2-clause-client : goal.add-requires-2-clause-client
 add-requires-2-clause-client c =
@@ -61,12 +64,12 @@ invariant_of-self c =
       sends = c.requires.sends;
       latest = rw (← c.self.view_is) at c.requires.latest;
     } in
-    let row : c.row-row.result ≡ slot_marks (is_on (page_of r.plan)) i.slots = c.row-row.ensures.row ∙ row_marks c.page-page.result i.slots i.holders i.held i.spans i.rows c.self.invariant.1 ∙ ap (λ page. slot_marks (is_on page) i.slots) c.page-page.ensures.page in
-    let counted = c.join-holders.ensures.count ∙ ap₂ (λ (marks : List Bool) (s : Span). counted_in marks s i.spans) row c.span-span.ensures ∙ new_counted i.slots i.holders i.held i.spans i.rows key r c.self.invariant.1 new in (
+    let row : c.row-row.result ≡ slot_marks (is_on (page_of r.plan)) i.slots = c.row-row.ensures.row ∙ row_marks c.page-page.result i.slots i.holders i.held i.spans.items i.rows c.self.invariant.1 ∙ ap (λ page. slot_marks (is_on page) i.slots) c.page-page.ensures.page in
+    let counted = c.join-holders.ensures.count ∙ ap (counted_in c.row-row.result c.span-span.result) c.as_slice.ensures.value ∙ ap₂ (λ (marks : List Bool) (s : Span). counted_in marks s i.spans.items) row c.span-span.ensures ∙ new_counted i.slots i.holders i.held i.spans.items i.rows key r c.self.invariant.1 new in (
       rw (after, c.push.ensures, c.push-2.ensures, c.push-3.ensures, c.is_named.ensures, c.is_open-able.ensures)
           (kept_add i.limits.depth live r i.able i.named i.unheld c.join-holders.result c.self.invariant.0 new.latest counted),
-      rw (c.add-key.ensures.entries, c.join-holders.ensures.held, c.span-span.ensures, row, c.slot-slot.ensures.value)
-          (slots_added i.slots i.holders i.held i.spans i.rows c.add.new.self key c.join-holders.result r c.self.invariant.1 new counted
+      rw (c.add-key.ensures.entries, c.join-holders.ensures.held, c.as_slice.ensures.value, c.span-span.ensures, row, c.slot-slot.ensures.value)
+          (slots_added i.slots i.holders i.held i.spans.items i.rows c.add.new.self key c.join-holders.result r c.self.invariant.1 new counted
           (λ other. c.add.ensures other ∙ ap₂ (λ page slot. bits_of other i.rows + (if lies_in (Some other) page then 2 ^ slot else 0)) (c.page-page.ensures.page ∙ sym (page_is r c.requires.sends)) c.slot-slot.ensures.value)),
       rw c.add-key.ensures.entries (c.self.invariant.2 ∙ sym (ids_add i.limits.ids i.slots (record { key = key; request = r }) c.requires.no_id)),
       rw after

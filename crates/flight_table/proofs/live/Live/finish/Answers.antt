@@ -52,17 +52,17 @@ finish-requires-clause-there c =
 pub remove-requires-clause-there : goal.remove-requires-clause-there
 remove-requires-clause-there c =
     let i = c.self.inside in
-    rw c.slot-slot.ensures.value (row_holds c.open_page.result c.args.key i.slots i.holders i.held i.spans i.rows c.get-request.result.now c.self.invariant.1 c.get-request.ensures.request c.open_page.ensures)
+    rw c.slot-slot.ensures.value (row_holds c.open_page.result c.args.key i.slots i.holders i.held i.spans.items i.rows c.get-request.result.now c.self.invariant.1 c.get-request.ensures.request c.open_page.ensures)
 
 pub lower_counts-requires : goal.lower_counts-requires
 lower_counts-requires c =
     let i = c.self.inside in
     let r = c.get-request.result.now in
-    let held = c.of-held.ensures ∙ ap (λ slot. marks_of 64 (get_or i.held slot 0)) c.slot-slot.ensures.value ∙ set_marks c.args.key i.slots i.holders i.held i.spans i.rows r c.self.invariant.1 c.get-request.ensures.request in
+    let held = c.of-held.ensures ∙ ap (λ slot. marks_of 64 (get_or i.held slot 0)) c.slot-slot.ensures.value ∙ set_marks c.args.key i.slots i.holders i.held i.spans.items i.rows r c.self.invariant.1 c.get-request.ensures.request in
     record {
       slots = rw c.of-held.ensures (length-marks 64 (get_or i.held c.slot-slot.result 0));
       live = λ slot mark. marked_live (is_held_by r) slot i.slots (rw held at mark);
-      unheld = c.self.invariant.0.free ∙ unheld_by_slot i.slots i.holders i.held i.spans i.rows c.self.invariant.1;
+      unheld = c.self.invariant.0.free ∙ unheld_by_slot i.slots i.holders i.held i.spans.items i.rows c.self.invariant.1;
     }
 
 pub invariant_of-self : goal.invariant_of-self
@@ -77,13 +77,13 @@ invariant_of-self c =
     let free = named_with key i.slots r (λ old. old.done ≡ false → 1 ≤ length (pieces_planned old.plan) → is_held (requests_of i.slots) old ≡ false) found (rw (← c.self.view_is) at c.requires.free) in
     let same : c.take.new.self ≡ change_first (has_key key) (change_entry (λ o. finished r)) i.slots = c.take.ensures.entries ∙ sym (change-constant finished key i.slots r (finished r) found refl) in
     let after = ap requests_of c.take.ensures.entries ∙ requests_changed finished key i.slots place r at in
-    let marks = c.of-held.ensures ∙ ap (λ slot. marks_of 64 (get_or i.held slot 0)) c.slot-slot.ensures.value ∙ set_marks key i.slots i.holders i.held i.spans i.rows r c.self.invariant.1 found in
-    let slots : AreInSlots c.take.new.self c.lower_counts.new.holders (set i.held c.slot.result 0) i.spans c.remove.new.self =
+    let marks = c.of-held.ensures ∙ ap (λ slot. marks_of 64 (get_or i.held slot 0)) c.slot-slot.ensures.value ∙ set_marks key i.slots i.holders i.held i.spans.items i.rows r c.self.invariant.1 found in
+    let slots : AreInSlots c.take.new.self c.lower_counts.new.holders (set i.held c.slot.result 0) i.spans.items c.remove.new.self =
     rw (c.take.ensures.entries, c.lower_counts.ensures.holders, marks, c.slot.ensures.value)
-    (slots_finished i.slots i.holders i.held i.spans i.rows c.remove.new.self key r c.self.invariant.1 c.get-request.ensures.keys found (none_holds key i.slots i.holders i.held i.spans i.rows r c.self.invariant.1 found free)
+    (slots_finished i.slots i.holders i.held i.spans.items i.rows c.remove.new.self key r c.self.invariant.1 c.get-request.ensures.keys found (none_holds key i.slots i.holders i.held i.spans.items i.rows r c.self.invariant.1 found free)
     (λ other. ap₂ (λ page slot. bits_of other c.remove.new.self + (if lies_in (Some other) page then 2 ^ slot else 0)) (sym c.open_page.ensures) (sym c.slot-slot.ensures.value) ∙ c.remove.ensures other)) in
     let unheld = c.lower_counts.ensures.unheld ∙ sym (ap (map (λ (entry : KeyedRequest). get_or c.lower_counts.new.holders entry.key 0 == 0)) c.take.ensures.entries ∙ keys_changed (λ k. get_or c.lower_counts.new.holders k 0 == 0) finished key i.slots)
-    ∙ sym (unheld_by_slot c.take.new.self c.lower_counts.new.holders (set i.held c.slot.result 0) i.spans c.remove.new.self slots) in (
+    ∙ sym (unheld_by_slot c.take.new.self c.lower_counts.new.holders (set i.held c.slot.result 0) i.spans.items c.remove.new.self slots) in (
       rw (after, c.put.ensures, c.put-2.ensures)
           (kept_finish i.limits.depth (requests_of i.slots) place r i.able i.named i.unheld c.lower_counts.new.unheld c.self.invariant.0 (unheld ∙ ap (λ (live : List LiveRequest). map (is_unheld live) live) after)),
       slots,

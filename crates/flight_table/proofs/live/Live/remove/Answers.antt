@@ -35,7 +35,7 @@ invariant_of-self c =
     let after = ap requests_of c.remove-4.ensures.entries ∙ requests_without c.args.key i.slots place r at in (
       rw (after, c.remove.ensures, c.remove-2.ensures, c.remove-3.ensures)
           (kept_remove i.limits.depth (requests_of i.slots) place r i.able i.named i.unheld c.self.invariant.0 at.within (at.there r) done),
-      rw c.remove-4.ensures.entries (slots_removed i.slots i.holders i.held i.spans i.rows c.args.key r c.self.invariant.1 c.get.ensures.keys c.get.ensures.request done),
+      rw c.remove-4.ensures.entries (slots_removed i.slots i.holders i.held i.spans.items i.rows c.args.key r c.self.invariant.1 c.get.ensures.keys c.get.ensures.request done),
       rw c.remove-4.ensures.entries (c.self.invariant.2 ∙ sym (ids_remove i.limits.ids c.args.key i.slots r c.get.ensures.request no_id)),
       rw after
           (record {

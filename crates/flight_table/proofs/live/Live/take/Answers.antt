@@ -52,7 +52,7 @@ invariant_of-self c =
     let after = ap requests_of c.take.ensures.entries ∙ requests_changed (stepped c.args.step) c.args.key i.slots place r at in (
       rw (after, c.put.ensures, c.put-2.ensures, c.is_named.ensures, c.is_open-able.ensures, is)
           (kept_set i.limits.depth (requests_of i.slots) place r new i.able i.named i.unheld c.self.invariant.0 at.within (at.there r) progress),
-      rw c.take.ensures.entries (slots_kept i.slots i.holders i.held i.spans i.rows c.args.key (stepped c.args.step) r c.self.invariant.1 found (λ q. goes_on c.args.step q c.requires.goes_on)),
+      rw c.take.ensures.entries (slots_kept i.slots i.holders i.held i.spans.items i.rows c.args.key (stepped c.args.step) r c.self.invariant.1 found (λ q. goes_on c.args.step q c.requires.goes_on)),
       rw (c.rename.ensures, c.self.invariant.2, same, ap (λ (q : LiveRequest). q.id) c.old.view_is, ap (λ (q : LiveRequest). q.id) (c.request.view_is ∙ is)) (sym (ids_set i.limits.ids c.args.key i.slots r new r.id new.id found refl refl names)),
       rw after
           (record {

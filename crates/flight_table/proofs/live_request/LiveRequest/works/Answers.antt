@@ -1,4 +1,4 @@
-use Rattle.std.proofs.Common.{◌≡◌, ◌-◌, ◌∙◌, ap, arith, length, sym}
+use Rattle.std.proofs.Common.{◌≡◌, ◌-◌, ap, arith, length}
 use Rattle.flight_table.specs.LiveRequests.{LiveRequest, planned}
 use Rattle.flight_table.proofs.PhaseLaws.{undone_unsent, undone_work}
 use Rattle.flight_table.proofs.live_request.LiveRequest.works.Goals as goal

@@ -1,5 +1,4 @@
-use Rattle.std.proofs.Common.{◌∙◌, ap, arith, sym}
-use Rattle.flight_table.specs.LiveRequests.{LiveRequest}
+use Rattle.std.proofs.Common.{arith}
 use Rattle.flight_table.proofs.StepWorth.{worth_answered, worth_sent}
 use Rattle.flight_table.proofs.live_request.LiveRequest.worth.Goals as goal
 

@@ -1,4 +1,4 @@
-use Rattle.std.proofs.Common.{◌≡◌, ◌≤◌, List, None, Option, ap, arith, length, sym, ◌∙◌, ℕ}
+use Rattle.std.proofs.Common.{◌≡◌, ◌≤◌, List, None, Option, ap, arith, sym, ◌∙◌, ℕ}
 use Rattle.std.specs.List.{position}
 use Rattle.std.specs.Vec.{vec_capacity}
 use Rattle.std.proofs.lemmas.Bool.{eqb-true}
