@@ -24,7 +24,7 @@ use crate::limits::is_refused;
 use crate::ports::{refused_at, room_for};
 use crate::turns::{Turn, WorkerFault, memory_turn, paced};
 use std::alloc::{AllocError, Global};
-use std::sync::{Mutex, Wait};
+use std::sync::{Mutex, MutexGuard, Wait};
 use std::thread;
 use std::thread::{JoinHandle, Threads};
 use thiserror::Error;
@@ -99,6 +99,21 @@ pub enum Fault {
     },
 }
 
+/// How often a worker asks for the lock, and lets others work in between, before it waits for it asleep.
+const ASKINGS: u32 = 64;
+
+/// Gets the lock. A hold is much shorter than a sleep and the waking from it, so that a worker sleeps only where it asked in vain for
+/// long.
+fn hold<'a, R: Wait>(rt: &R, lock: &'a Mutex<Shared>) -> MutexGuard<'a, Shared> {
+    for _ in 0..ASKINGS {
+        if let Some(held) = lock.try_lock() {
+            return held;
+        }
+        thread::yield_now();
+    }
+    lock.lock(rt)
+}
+
 /// What a client hands back.
 #[derive(Drop)]
 struct ClientOutcome {
@@ -132,7 +147,7 @@ fn client<R: Wait, G: Gate>(
     let mut left = limit;
     for _ in rt.forever() {
         let turn = if gate.pass(who, index) {
-            let mut held = lock.lock(rt);
+            let mut held = hold(rt, lock);
             client_turn(&mut work, &mut held, script, &mut reply)
         } else {
             Turn::Failed(WorkerFault::GateShut)
@@ -170,7 +185,7 @@ fn memory<R: Wait, G: Gate>(
     let mut left = limit;
     for _ in rt.forever() {
         let turn = if gate.pass(Who::Memory(number), index) {
-            let mut held = lock.lock(rt);
+            let mut held = hold(rt, lock);
             memory_turn(&mut held, words, &mut place, &mut reply)
         } else {
             Turn::Failed(WorkerFault::GateShut)
