@@ -12,6 +12,7 @@ pub mod FreeFronts
 pub mod Marks
 pub mod MoreRoom
 pub mod Others
+pub mod Replies
 pub mod RequestAnswered
 pub mod RequestKept
 pub mod Sources

@@ -1,10 +1,9 @@
 -- A board as it is held: of each request in flight a mask for each of its words; and the memory, whose bytes are in doubt where
 -- they are indeterminate.
-use Rattle.std.specs.Prelude.{ℕ, ◌≡◌, ◌+◌, ◌-◌, ◌/◌, ◌%◌, ◌^◌, ◌<◌, ◌==◌, ⊤, Bool, true, false, ◌&&◌, ◌||◌, List, filter, length, map, Option, Some, None, is_none, max, Result, Ok, Err, IsSome, if◌then◌else◌, nat_le, nat_lt, slice_index_or}
+use Rattle.std.specs.Prelude.{ℕ, ◌≡◌, ◌+◌, ◌-◌, ◌/◌, ◌%◌, ◌^◌, ◌==◌, ⊤, Bool, true, false, ◌&&◌, ◌||◌, List, filter, length, map, Option, Some, None, is_none, max, Result, Ok, Err, IsSome, if◌then◌else◌, nat_le, nat_lt, slice_index_or}
 use Rattle.std.specs.List.{AllByRecursion, list_any}
 use Rattle.std.specs.Option.{option_map}
 use Rattle.bus_words.specs.Lanes.{has_lane}
-use Rattle.bus_words.specs.Places.{AreDistinct}
 use Rattle.tl_messages.specs.Operations.{has_data, named_operation, operation_of, reply_has_data}
 use Rattle.tl_messages.specs.Requests.{HeldMessage, request_of}
 use Rattle.tl_messages.specs.declared.ABeat.{ABeat}
@@ -193,16 +192,6 @@ client_changed change client = record client { flights = each_flight (flight_cha
 -- how many words the footprints have room for: those of a page
 abbrev pub most_words : ℕ
 most_words = 512
-
--- all have this room
-abbrev pub HaveRoom : ℕ → List FlightState → Type 0
-HaveRoom room flights = AllByRecursion (λ flight. length flight.footprint.determined ≡ room) flights
-
--- those of whose reply no beat came: no two are of one source, which is a byte
-pub record AreDue (room : ℕ) (due : List FlightState) : Type 0 where
-  pub rooms : HaveRoom room due
-  pub bytes : AllByRecursion (λ source. source < 256) (map (λ flight. flight.source) due)
-  pub distinct : AreDistinct (map (λ flight. flight.source) due)
 
 -- all clients' have this room
 abbrev pub ClientsHaveRoom : ℕ → List ClientState → Type 0

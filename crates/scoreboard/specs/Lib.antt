@@ -11,6 +11,7 @@ pub mod Orders
 pub mod Places
 pub mod Races
 pub mod RealTime
+pub mod Replies
 pub mod Resets
 pub mod Right
 pub mod Telling

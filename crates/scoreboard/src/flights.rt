@@ -1,52 +1,73 @@
 //! A client's requests in flight.
-ghost use Rattle.std.specs.Prelude.{◌≡◌, ◌<◌, ◌≤◌, ◌==◌, ◌++◌, [], ◌∷◌, ℕ, None, Some, IfOk, false, is_some, length, map, slice_get};
+ghost use Rattle.std.specs.Prelude.{List, ◌≡◌, ◌≤◌, ◌==◌, ◌++◌, [], ◌∷◌, ℕ, None, Some, IfOk, false, is_some, length, map, slice_get};
 ghost use Rattle.std.specs.List.{list_any, position};
+ghost use Rattle.std.specs.Option.{option_map};
 ghost use Rattle.std.specs.Vec.{vec_capacity};
 ghost use Rattle.bus_words.specs.Places.{without_first};
 ghost use Rattle.scoreboard.specs.Boards.{wrong_reply};
 ghost use Rattle.scoreboard.specs.FailedBursts.{after_reached, hit_flight};
 ghost use Rattle.scoreboard.specs.Flights.{begun_after, due_to, each_flight, flights_after, in_flight, is_busy, is_of_source, is_over, next_reply, no_flights, replies_left};
 ghost use Rattle.serial_memory.specs.SerialMemory.{doubts_of, rooms_of};
-ghost use Rattle.scoreboard.specs.InsideBoards.{HaveRoom, HaveRoomToWrite, IsMarkedAlone, flight_of, flights_of, footprint_of};
+ghost use Rattle.scoreboard.specs.InsideBoards.{HaveRoomToWrite, IsMarkedAlone, flights_of, footprint_of};
 ghost use Rattle.scoreboard.specs.Races.{beside_all, beside_dependent, flight_beside};
+ghost use Rattle.scoreboard.specs.Replies.{DuesHaveRoom, due_flights, due_footprint};
 ghost use Rattle.scoreboard.specs.Telling.{flight_telling};
+ghost use Rattle.tl_messages.specs.declared.DBeat.{DBeat};
 
 use crate::failed_bursts::{Reach, Span};
 use crate::footprint::Footprint;
-use crate::in_flight::InFlight;
+use crate::in_flight::{InFlight, left_telling};
 use crate::marks::{mark_dependent, mark_reached};
+use crate::replies::Replies;
 use crate::{Policy, ReplyRule, Telling, Wrong};
 use serial_memory::SerialMemory;
 use std::alloc::{AllocError, Global};
 use std::marker::Model;
-use std::mem;
 use tl_messages::DBeat;
 
-/// How many requests of a client may be in flight: one of each source, and one whose reply has begun.
-const MOST: usize = 257;
+/// How many requests may be due: one of each source.
+const MOST: usize = 256;
 
-/// A client's requests in flight: those of whose reply no beat came, in order of acceptance, and the one whose reply has begun. All room
-/// is taken by `new`.
+/// A request of whose reply no beat came: its source and its footprint.
+pub(crate) struct Due {
+    source: u8,
+    footprint: Footprint,
+}
+
+// Written out, so that what lets go of one calls this, and proves nothing of its parts.
+impl Drop for Due {
+    fn drop(self) {
+        let Due {
+            source: _,
+            footprint: _,
+        } = self;
+    }
+}
+
+/// A client's requests in flight: those of whose reply no beat came, in order of acceptance, beside their replies; and a box for the
+/// one whose reply has begun, if one has. All room is taken by `new`.
 pub(crate) struct Flights {
     room: usize,
-    due: Vec<InFlight>,
-    begun: Option<InFlight>,
-    spare: Vec<InFlight>,
+    due: Vec<Due>,
+    replies: Replies,
+    has_begun: bool,
+    begun: InFlight,
+    spare: Vec<Due>,
 }
 
 impl Model for Flights {
-    ghost use Rattle.std.specs.Prelude.{◌≡◌, ◌≤◌, ◌+◌, length};
-    ghost use Rattle.std.specs.Option.{option_len, option_to_list};
+    ghost use Rattle.std.specs.Prelude.{◌≡◌, ◌≤◌, ◌+◌, length, map};
     ghost use Rattle.std.specs.Vec.{vec_capacity};
-    ghost use Rattle.scoreboard.specs.InsideBoards.{AreDue, FlightsState, HaveRoom};
+    ghost use Rattle.scoreboard.specs.InsideBoards.{FlightsState};
+    ghost use Rattle.scoreboard.specs.Replies.{AreDue, DuesHaveRoom, due_flight, if_begun, reply_of};
 
     ghost Value = { FlightsState };
 
-    ghost view = { λ f. record { room = f.room; due = f.due.items; begun = f.begun } };
+    ghost view = { λ f. record { room = f.room; due = map (due_flight (reply_of f.replies)) f.due.items; begun = if_begun f.has_begun f.begun } };
 
-    // There are boxes enough: as many requests are in flight as there are sources, and one more, or fewer.
-    ghost invariant = { λ f. AreDue f.room f.due.items × HaveRoom f.room (option_to_list f.begun) × HaveRoom f.room f.spare.items
-        × (length f.due.items + option_len f.begun + length f.spare.items ≡ 257) × (256 ≤ vec_capacity f.due) × (257 ≤ vec_capacity f.spare) };
+    // There are places enough: as many requests are due as there are sources, or fewer.
+    ghost invariant = { λ f. AreDue f.room f.due.items × (length f.begun.footprint.determined ≡ f.room) × DuesHaveRoom f.room f.spare.items
+        × (length f.due.items + length f.spare.items ≡ 256) × (256 ≤ vec_capacity f.due) × (256 ≤ vec_capacity f.spare) };
 }
 
 // Written out, so that what lets go of one calls this, and proves nothing of its parts.
@@ -55,80 +76,86 @@ impl Drop for Flights {
         let Flights {
             room: _,
             due: _,
+            replies: _,
+            has_begun: _,
             begun: _,
             spare: _,
         } = self;
     }
 }
 
-/// Boxes for so many requests, with nothing in flight.
-fn empty_boxes(alloc: Global, boxes: usize, room: usize) -> Result<Vec<InFlight>, AllocError>
+/// Places for so many requests, with footprints that have room for so many words.
+fn spare_dues(alloc: Global, places: usize, room: usize) -> Result<Vec<Due>, AllocError>
     requires { 1 ≤ room }
-    ensures { IfOk result (λ made. (length made.items ≡ boxes) × HaveRoom room made.items × (boxes ≤ vec_capacity made)) }
+    ensures { IfOk result (λ made. (length made.items ≡ places) × DuesHaveRoom room made.items × (places ≤ vec_capacity made)) }
 {
-    let mut made = Vec::with_capacity(alloc, boxes)?;
-    for _ in 0..boxes {
-        made.push(InFlight::new(alloc, room)?)?;
+    let mut made = Vec::with_capacity(alloc, places)?;
+    for _ in 0..places {
+        let footprint = Footprint::new(alloc, room)?;
+        made.push(Due {
+            source: 0,
+            footprint,
+        })?;
     }
     Ok(made)
 }
 
 /// The place of the first request of a source.
-fn place_of(due: &[InFlight], source: u8) -> Option<usize>
-    ensures { result ≡ position (λ flight. flight.source == source) due.now }
+fn place_of(due: &[Due], source: u8) -> Option<usize>
+    ensures { result ≡ position (λ one. one.source == source) due.now }
 {
-    due.iter().position(|flight| flight.source() == source)
+    due.iter().position(|one| one.source == source)
 }
 
 /// What any of some requests may write isn't determined of another.
-fn limit_by(joined: &mut InFlight, due: &[InFlight])
-    ensures footprint { footprint_of joined.new.footprint ≡ beside_all (footprint_of joined.old.footprint) (map (λ flight. flight.footprint) (map flight_of due.now)) }
+fn limit_by(joined: &mut InFlight, due: &[Due])
+    ensures footprint { footprint_of joined.new.footprint ≡ beside_all (footprint_of joined.old.footprint) (map due_footprint due.now) }
     ensures room { length joined.new.footprint.determined ≡ length joined.old.footprint.determined }
 {
-    for flight in due {
-        joined.give_way(flight.footprint());
+    for one in due {
+        joined.give_way(&one.footprint);
     }
 }
 
 /// All bytes are indeterminate of those requests of which what they write may depend on another.
-fn mark_each(marks: &mut SerialMemory, due: &[InFlight], other: &Footprint)
-    requires room { HaveRoomToWrite (rooms_of marks.old) (map (λ flight. flight.footprint) (map flight_of due.now)) }
+fn mark_each(marks: &mut SerialMemory, due: &[Due], other: &Footprint)
+    requires room { HaveRoomToWrite (rooms_of marks.old) (map due_footprint due.now) }
     ensures rest { IsMarkedAlone marks.old marks.new }
-    ensures bytes { doubts_of marks.new ≡ beside_dependent (doubts_of marks.old) (footprint_of other.now) (map (λ flight. flight.footprint) (map flight_of due.now)) }
+    ensures bytes { doubts_of marks.new ≡ beside_dependent (doubts_of marks.old) (footprint_of other.now) (map due_footprint due.now) }
 {
-    for flight in due {
-        mark_dependent(marks, flight.footprint(), other);
+    for one in due {
+        mark_dependent(marks, &one.footprint, other);
     }
 }
 
 /// What a request may write isn't determined of others.
-fn give_way_each(due: &mut [InFlight], other: &Footprint)
-    ensures flights { map flight_of due.new ≡ map (flight_beside (footprint_of other.now)) (map flight_of due.old) }
-    ensures rooms { (room : ℕ) → HaveRoom room due.old → HaveRoom room due.new }
+fn give_way_each(due: &mut [Due], other: &Footprint)
+    ensures flights { (replies : ℕ → List DBeat) → due_flights replies due.new ≡ map (flight_beside (footprint_of other.now)) (due_flights replies due.old) }
+    ensures rooms { (room : ℕ) → DuesHaveRoom room due.old → DuesHaveRoom room due.new }
 {
-    for flight in due.iter_mut() {
-        flight.give_way(other);
+    for one in due.iter_mut() {
+        one.footprint.give_way(other);
     }
 }
 
 /// What those requests may write is indeterminate that an event reaches.
-fn mark_reached_each(marks: &mut SerialMemory, due: &[InFlight], reach: Reach)
-    requires room { HaveRoomToWrite (rooms_of marks.old) (map (λ flight. flight.footprint) (map flight_of due.now)) }
+fn mark_reached_each(marks: &mut SerialMemory, due: &[Due], reach: Reach)
+    requires room { HaveRoomToWrite (rooms_of marks.old) (map due_footprint due.now) }
     ensures rest { IsMarkedAlone marks.old marks.new }
-    ensures bytes { doubts_of marks.new ≡ after_reached (doubts_of marks.old) reach (map (λ flight. flight.footprint) (map flight_of due.now)) }
+    ensures bytes { doubts_of marks.new ≡ after_reached (doubts_of marks.old) reach (map due_footprint due.now) }
 {
-    for flight in due {
-        mark_reached(marks, flight.footprint(), reach);
+    for one in due {
+        mark_reached(marks, &one.footprint, reach);
     }
 }
 
 /// Those requests may have failed that share a byte with such a burst.
-fn hit_each(due: &mut [InFlight], span: Span)
-    ensures flights { map flight_of due.new ≡ map (hit_flight span) (map flight_of due.old) }
-    ensures rooms { (room : ℕ) → HaveRoom room due.old → HaveRoom room due.new }
+fn hit_each(due: &mut [Due], span: Span)
+    ensures flights { (replies : ℕ → List DBeat) → due_flights replies due.new ≡ map (hit_flight span) (due_flights replies due.old) }
+    ensures rooms { (room : ℕ) → DuesHaveRoom room due.old → DuesHaveRoom room due.new }
 {
-    for flight in due.iter_mut() {
-        flight.hit(span);
+    for one in due.iter_mut() {
+        one.footprint.hit(span);
     }
 }
 
@@ -138,14 +165,28 @@ impl Flights {
         requires { 1 ≤ room }
         ensures { IfOk result (λ made. made ≡ record { room = room; due = []; begun = None }) }
     {
-        let due = Vec::with_capacity(alloc, 256)?;
-        let spare = empty_boxes(alloc, MOST, room)?;
+        let due = Vec::with_capacity(alloc, MOST)?;
+        let replies = Replies::new(alloc)?;
+        let begun = InFlight::new(alloc, room)?;
+        let spare = spare_dues(alloc, MOST, room)?;
         Ok(Flights {
             room,
             due,
-            begun: None,
+            replies,
+            has_begun: false,
+            begun,
             spare,
         })
+    }
+
+    /// The one whose reply has begun.
+    fn begun(&self) -> Option<&InFlight>
+        ensures { option_map (λ flight. flight.now) result ≡ self.now.begun }
+    {
+        if !self.has_begun {
+            return None;
+        }
+        Some(&self.begun)
     }
 
     /// Whether a reply is due to a source of which no beat came.
@@ -162,7 +203,7 @@ impl Flights {
         if self.is_due(source) {
             return true;
         }
-        match (policy, &self.begun) {
+        match (policy, self.begun()) {
             (Policy::AcceptanceOrder, Some(flight)) => flight.source() == source,
             _ => false,
         }
@@ -172,7 +213,7 @@ impl Flights {
     pub(crate) fn has_begun(&self) -> bool
         ensures { result ≡ is_some self.now.begun }
     {
-        self.begun.is_some()
+        self.has_begun
     }
 
     /// Whether the reply that has begun, or one that is due, has its next beat in one of a source.
@@ -188,7 +229,7 @@ impl Flights {
         ensures most { result ≤ 257 }
     {
         let due = self.due.len() as u16;
-        match &self.begun {
+        match self.begun() {
             None => due,
             Some(_) => due + 1,
         }
@@ -200,9 +241,9 @@ impl Flights {
     {
         let due = self.due.len();
         if place < due {
-            return Some(self.due[place].source());
+            return Some(self.due[place].source);
         }
-        let Some(flight) = &self.begun else {
+        let Some(flight) = self.begun() else {
             return None;
         };
         if place > due {
@@ -211,18 +252,20 @@ impl Flights {
         Some(flight.source())
     }
 
-    /// A request of a source to which none is due is in flight, with its reply; a box takes its place.
+    /// A request of a source to which none is due is in flight, with its reply; another footprint takes its footprint's place.
     pub(crate) fn join(&mut self, flight: &mut InFlight)
         requires free { list_any (is_of_source flight.old.source) (flights_of self.old).due ≡ false }
         requires room { length flight.old.footprint.determined ≡ self.old.room }
         ensures flights { self.new ≡ record self.old { due = self.old.due ++ flight.old ∷ [] } }
         ensures room { length flight.new.footprint.determined ≡ self.old.room }
     {
-        // It is a byte, so that there is a box.
-        let _source = flight.source();
-        let mut joined = self.spare.pop().unwrap();
-        mem::swap(&mut joined, flight);
-        self.due.push_reserved(joined);
+        // It is a byte, so that there is a place.
+        let source = flight.source();
+        let mut due = self.spare.pop().unwrap();
+        due.source = source;
+        flight.swap_footprint(&mut due.footprint);
+        self.replies.put(source, flight.beats());
+        self.due.push_reserved(due);
     }
 
     /// The reply to a source's request begins, where none has begun.
@@ -234,7 +277,11 @@ impl Flights {
         let Some(place) = place_of(&self.due, source) else {
             return;
         };
-        self.begun = Some(self.due.remove(place));
+        let mut due = self.due.remove(place);
+        let reply = self.replies.beats(due.source);
+        self.begun.begin(due.source, reply, &mut due.footprint);
+        self.has_begun = true;
+        self.spare.push_reserved(due);
     }
 
     /// A beat of a source has come of the reply that has begun.
@@ -242,14 +289,11 @@ impl Flights {
         ensures flights { flights_of self.new ≡ record (flights_of self.old) { begun = begun_after (flights_of self.old).begun source } }
         ensures room { self.new.room ≡ self.old.room }
     {
-        let Some(flight) = &mut self.begun else {
-            return;
-        };
-        if flight.source() != source {
+        if !self.has_begun || self.begun.source() != source {
             return;
         }
-        if flight.left() > 1 {
-            flight.count();
+        if self.begun.left() > 1 {
+            self.begun.count();
             return;
         }
         self.cut_short();
@@ -260,7 +304,7 @@ impl Flights {
     pub(crate) fn is_over(&self, source: u8) -> bool
         ensures { result ≡ is_over (flights_of self.now) source }
     {
-        let Some(flight) = &self.begun else {
+        let Some(flight) = self.begun() else {
             return false;
         };
         flight.source() != source && self.is_due(source)
@@ -275,7 +319,7 @@ impl Flights {
     ) -> Option<Wrong>
         ensures { result ≡ wrong_reply policy told (flights_of self.now).begun beat.now }
     {
-        let Some(flight) = &self.begun else {
+        let Some(flight) = self.begun() else {
             return Some(Wrong::Reply(ReplyRule::Unasked, None));
         };
         flight.wrong_reply(policy, told, beat)
@@ -286,10 +330,7 @@ impl Flights {
         ensures flights { flights_of self.new ≡ record (flights_of self.old) { begun = None } }
         ensures room { self.new.room ≡ self.old.room }
     {
-        let Some(flight) = self.begun.take() else {
-            return;
-        };
-        self.spare.push_reserved(flight);
+        self.has_begun = false;
     }
 
     /// Judges a beat on channel D, by whether the reply that has begun was denied. It then has come of the reply whose next it may
@@ -305,10 +346,10 @@ impl Flights {
         ensures flights { flights_of self.new ≡ flights_after (flights_of self.old) beat.now.source }
         ensures room { self.new.room ≡ self.old.room }
     {
-        if self.begun.is_none() {
+        if !self.has_begun() {
             self.begin(beat.source);
         }
-        let Some(flight) = &self.begun else {
+        let Some(flight) = self.begun() else {
             return Some(Wrong::Reply(ReplyRule::Unasked, None));
         };
         let wrong = flight.wrong_reply(policy, told, beat);
@@ -322,7 +363,7 @@ impl Flights {
         ensures room { length joined.new.footprint.determined ≡ length joined.old.footprint.determined }
     {
         limit_by(joined, &self.due);
-        if let Some(flight) = &self.begun {
+        if let Some(flight) = self.begun() {
             joined.give_way(flight.footprint());
         }
     }
@@ -334,7 +375,7 @@ impl Flights {
         ensures bytes { doubts_of marks.new ≡ beside_dependent (doubts_of marks.old) (footprint_of other.now) (map (λ flight. flight.footprint) (in_flight (flights_of self.now))) }
     {
         mark_each(marks, &self.due, other);
-        if let Some(flight) = &self.begun {
+        if let Some(flight) = self.begun() {
             mark_dependent(marks, flight.footprint(), other);
         }
     }
@@ -345,8 +386,8 @@ impl Flights {
         ensures room { self.new.room ≡ self.old.room }
     {
         give_way_each(&mut self.due, other);
-        if let Some(flight) = &mut self.begun {
-            flight.give_way(other);
+        if self.has_begun {
+            self.begun.give_way(other);
         }
     }
 
@@ -357,7 +398,7 @@ impl Flights {
         ensures bytes { doubts_of marks.new ≡ after_reached (doubts_of marks.old) reach (map (λ flight. flight.footprint) (in_flight (flights_of self.now))) }
     {
         mark_reached_each(marks, &self.due, reach);
-        if let Some(flight) = &self.begun {
+        if let Some(flight) = self.begun() {
             mark_reached(marks, flight.footprint(), reach);
         }
     }
@@ -368,8 +409,8 @@ impl Flights {
         ensures room { self.new.room ≡ self.old.room }
     {
         hit_each(&mut self.due, span);
-        if let Some(flight) = &mut self.begun {
-            flight.hit(span);
+        if self.has_begun {
+            self.begun.hit(span);
         }
     }
 
@@ -378,11 +419,9 @@ impl Flights {
         ensures flights { flights_of self.new ≡ no_flights }
         ensures room { self.new.room ≡ self.old.room }
     {
-        if let Some(flight) = self.begun.take() {
-            self.spare.push_reserved(flight);
-        }
-        while let Some(flight) = self.due.pop() {
-            self.spare.push_reserved(flight);
+        self.cut_short();
+        while let Some(due) = self.due.pop() {
+            self.spare.push_reserved(due);
         }
     }
 
@@ -391,12 +430,15 @@ impl Flights {
     pub(crate) fn telling(&self, policy: Policy, source: u8) -> Telling
         ensures { result ≡ flight_telling policy (next_reply (flights_of self.now) source) }
     {
-        if let Some(flight) = &self.begun {
+        if let Some(flight) = self.begun() {
             return flight.telling(policy);
         }
         match place_of(&self.due, source) {
             None => Telling::nothing(),
-            Some(place) => self.due[place].telling(policy),
+            Some(place) => {
+                let due = &self.due[place];
+                left_telling(policy, &due.footprint, self.replies.beats(due.source))
+            }
         }
     }
 }

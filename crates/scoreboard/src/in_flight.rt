@@ -41,7 +41,7 @@ impl Model for InFlight {
 
     ghost view = { λ f. record { source = f.source; beats = drop f.came f.reply; footprint = f.footprint } };
 
-    ghost invariant = { λ f. (f.came ≤ length f.reply) × (f.source < 256) };
+    ghost invariant = { λ f. (f.came ≤ length f.reply) × (length f.reply ≤ 512) × (f.source < 256) };
 }
 
 // Written out, so that what lets go of one calls this, and proves nothing of its parts.
@@ -146,6 +146,29 @@ pub(crate) fn beat_number(footprint: &Footprint, left: u16) -> u16
     beats_of(footprint.size(), true).saturating_sub(left)
 }
 
+/// How much the first of these beats tells, which are left of the reply to a request with this footprint; nothing, where there is none.
+#[inline(always)]
+pub(crate) fn left_telling(policy: Policy, footprint: &Footprint, beats: &[DBeat]) -> Telling
+    requires { length beats.now ≤ 512 }
+    ensures { result ≡ left_telling policy (footprint_of footprint.now) beats.now }
+{
+    match beats.first() {
+        None => Telling::nothing(),
+        Some(due) => Telling::of_due(policy, footprint, beats.len() as u16, due),
+    }
+}
+
+/// A box holds these beats.
+fn fill(reply: &mut ReplyBox, beats: &[DBeat])
+    requires { length beats.now ≤ 512 }
+    ensures { reply.new ≡ beats.now }
+{
+    reply.clear();
+    for beat in beats {
+        reply.push(*beat);
+    }
+}
+
 /// What is wrong with a beat where another is due of the reply to a request with this footprint, of which so many are left, and requests
 /// take effect in real time.
 #[inline(never)]
@@ -247,12 +270,33 @@ impl InFlight {
         self.footprint.keep(coming);
     }
 
+    /// It becomes a request of a source with this reply and footprint, of whose reply no beat came; its own footprint takes the other's
+    /// place.
+    pub(crate) fn begin(&mut self, source: u8, reply: &[DBeat], footprint: &mut Footprint)
+        requires { length reply.now ≤ 512 }
+        ensures flight { self.new ≡ record { source = source; beats = reply.now; footprint = footprint.old } }
+        ensures other { footprint.new ≡ self.old.footprint }
+    {
+        self.source = source;
+        self.came = 0;
+        fill(&mut self.reply, reply);
+        mem::swap(&mut self.footprint, footprint);
+    }
+
     /// Its footprint and another change places.
     pub(crate) fn swap_footprint(&mut self, other: &mut Footprint)
         ensures flight { self.new ≡ record self.old { footprint = other.old } }
         ensures other { other.new ≡ self.old.footprint }
     {
         mem::swap(&mut self.footprint, other);
+    }
+
+    /// The beats of its reply that are left.
+    pub(crate) fn beats(&self) -> &[DBeat]
+        ensures value { result.now ≡ self.now.beats }
+        ensures most { length result.now ≤ 512 }
+    {
+        &self.reply.as_slice()[usize::from(self.came)..]
     }
 
     /// How many beats of its reply are left.
@@ -304,7 +348,7 @@ impl InFlight {
     fn tells_error(&self) -> bool
         ensures { result ≡ tells_error self.now.beats }
     {
-        tells_error(&self.reply.as_slice()[usize::from(self.came)..])
+        tells_error(self.beats())
     }
 
     /// It has failed, if that is so.
@@ -367,9 +411,6 @@ impl InFlight {
     pub(crate) fn telling(&self, policy: Policy) -> Telling
         ensures { result ≡ left_telling policy (footprint_of self.now.footprint) self.now.beats }
     {
-        match self.next_beat() {
-            None => Telling::nothing(),
-            Some(due) => Telling::of_due(policy, &self.footprint, self.left(), due),
-        }
+        left_telling(policy, &self.footprint, self.beats())
     }
 }

@@ -16,6 +16,7 @@ mod in_turn;
 mod marks;
 mod names;
 mod places;
+mod replies;
 mod tellings;
 mod unknown;
 mod unknown_beats;

@@ -3,10 +3,13 @@ use Rattle.std.proofs.Common.{◌≡◌, ℕ, ◌+◌, ◌<◌, Bool, ◌&&◌, 
 use Rattle.std.specs.Option.{option_map, option_to_list}
 use Rattle.std.proofs.Math.Bool.{and-true, or-false}
 use Rattle.std.proofs.Math.Path.{fun_ext}
-use Rattle.std.proofs.lemmas.List.{map-append, map_more}
+use Rattle.std.proofs.lemmas.List.{append-nil, map_more}
 use Rattle.std.proofs.lemmas.List.Folds.{list_any-append}
-use Rattle.scoreboard.specs.InsideBoards.{FlightState, FlightsState, flight_of, flights_of, footprint_of}
+use Rattle.scoreboard.specs.InsideBoards.{FlightState, FlightsState, flight_of, flights_of}
 use Rattle.scoreboard.specs.Flights.{Footprint, InFlight, in_flight}
+use Rattle.tl_messages.specs.declared.DBeat.{DBeat}
+use Rattle.scoreboard.specs.Replies.{due_flight, due_flights, due_footprint}
+use Rattle.scoreboard.specs.declared.flights.Due.{Due}
 use Rattle.scoreboard.specs.Races.{beside, beside_all, beside_dependent, covers, depends_on, may_write}
 
 -- ---- what is determined of it
@@ -44,21 +47,27 @@ beside_dependent-last m now new other xs footprint before step =
 abbrev pub footprints_in : List FlightState → List Footprint
 footprints_in flights = map (λ flight. flight.footprint) (map flight_of flights)
 
--- one more of those before a place
-pub footprints_next : (flights : List FlightState) (i : ℕ) (flight : FlightState) → i < length flights → flight ≡ get_or flights i flight
-    → footprints_in (take (i + 1) flights) ≡ footprints_in (take i flights) ++ footprint_of flight.footprint ∷ []
-footprints_next flights i flight below is =
-    ap (map (λ (one : InFlight). one.footprint)) (map_more flight_of flights i flight below)
-    ∙ map-append (λ (one : InFlight). one.footprint) (map flight_of (take i flights)) (flight_of (get_or flights i flight) ∷ [])
-    ∙ ap (λ (one : FlightState). footprints_in (take i flights) ++ footprint_of one.footprint ∷ []) (sym is)
+-- those of requests that are due, with one more of those before a place
+pub dues_next : (dues : List Due) (i : ℕ) (due : Due) → i < length dues → due ≡ get_or dues i due → map due_footprint (take (i + 1) dues) ≡ map due_footprint (take i dues) ++ due_footprint due ∷ []
+dues_next dues i due below is =
+    map_more due_footprint dues i due below ∙ ap (λ (one : Due). map due_footprint (take i dues) ++ due_footprint one ∷ []) (sym is)
 
 -- a client's: those that are due, and then the one that has begun
-pub footprints_held : (state : FlightsState) (room : ℕ) (due : List FlightState) (begun : Option FlightState) → record { room = room; due = due; begun = begun } ≡ state
-    → map (λ flight. flight.footprint) (in_flight (flights_of state)) ≡ footprints_in due ++ footprints_in (option_to_list begun)
-footprints_held state room due begun is = sym (ap (λ (flights : FlightsState). map (λ flight. flight.footprint) (in_flight (flights_of flights))) is) ∙ by_due due begun
+pub footprints_held : (state : FlightsState) (replies : ℕ → List DBeat) (dues : List Due) → map (due_flight replies) dues ≡ state.due
+    → map (λ flight. flight.footprint) (in_flight (flights_of state)) ≡ map due_footprint dues ++ footprints_in (option_to_list state.begun)
+footprints_held state replies dues is =
+    sym (ap (λ (due : List FlightState). map (λ (flight : InFlight). flight.footprint) (map flight_of due ++ option_to_list (option_map flight_of state.begun))) is) ∙ by_due dues state.begun
   where
-    by_due : (due : List FlightState) (begun : Option FlightState)
-        → map (λ (flight : InFlight). flight.footprint) (map flight_of due ++ option_to_list (option_map flight_of begun)) ≡ footprints_in due ++ footprints_in (option_to_list begun)
+    by_due : (dues : List Due) (begun : Option FlightState)
+        → map (λ (flight : InFlight). flight.footprint) (due_flights replies dues ++ option_to_list (option_map flight_of begun)) ≡ map due_footprint dues ++ footprints_in (option_to_list begun)
     by_due [] None = refl
     by_due [] (Some flight) = refl
-    by_due (first ∷ due) begun = ap (λ rest. footprint_of first.footprint ∷ rest) (by_due due begun)
+    by_due (first ∷ dues) begun = ap (λ rest. due_footprint first ∷ rest) (by_due dues begun)
+
+-- where none has begun
+pub footprints_due : (state : FlightsState) (replies : ℕ → List DBeat) (dues : List Due) → map (due_flight replies) dues ≡ state.due → state.begun ≡ None
+    → map (λ flight. flight.footprint) (in_flight (flights_of state)) ≡ map due_footprint dues
+footprints_due state replies dues is none =
+    footprints_held state replies dues is
+    ∙ ap (λ (begun : Option FlightState). map due_footprint dues ++ footprints_in (option_to_list begun)) none
+    ∙ append-nil (map due_footprint dues)

@@ -1,11 +1,13 @@
--- Those so far are hit.
-use Rattle.std.proofs.Common.{◌≡◌, ℕ, map}
+-- Those so far are hit, whatever their replies are.
+use Rattle.std.proofs.Common.{◌≡◌, ℕ, List, map}
+use Rattle.tl_messages.specs.declared.DBeat.{DBeat}
+use Rattle.scoreboard.specs.InsideBoards.{flight_of}
 use Rattle.scoreboard.specs.FailedBursts.{hit_flight}
-use Rattle.scoreboard.specs.InsideBoards.{HaveRoom, flight_of}
+use Rattle.scoreboard.specs.Replies.{DuesHaveRoom, due_flight}
 use Rattle.scoreboard.proofs.held.Changed.{changed_to}
 use Rattle.scoreboard.proofs.flights.hit_each.Given as goal
 
-abbrev pub invariant-loop-flight : goal.invariant-loop-flight
-invariant-loop-flight l =
-    (map flight_of l.due ≡ changed_to flight_of (hit_flight l.span) l.fn.due l.flight-index)
-    × ((room : ℕ) → HaveRoom room l.fn.due → HaveRoom room l.due)
+abbrev pub invariant-loop-one : goal.invariant-loop-one
+invariant-loop-one l =
+    ((replies : ℕ → List DBeat) → map (λ due. flight_of (due_flight replies due)) l.due ≡ changed_to (λ due. flight_of (due_flight replies due)) (hit_flight l.span) l.fn.due l.one-index)
+    × ((room : ℕ) → DuesHaveRoom room l.fn.due → DuesHaveRoom room l.due)

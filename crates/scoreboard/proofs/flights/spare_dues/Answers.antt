@@ -1,6 +1,6 @@
 use Rattle.std.proofs.Common.{arith}
 use Rattle.std.proofs.lemmas.Grind.{common_steps}
-use Rattle.scoreboard.proofs.flights.empty_boxes.Goals as goal
+use Rattle.scoreboard.proofs.flights.spare_dues.Goals as goal
 
 pub loop-preserved : goal.loop-preserved
 loop-preserved c = grind (arith, common_steps)
