@@ -4,7 +4,7 @@ ghost use Rattle.score_script.specs.declared.score.Command.TheVariants.{Answer, 
 ghost use Rattle.line_text.specs.Fields.{Reads, address_field, byte_field, flag_field};
 ghost use Rattle.line_text.specs.Words.{word_at};
 ghost use Rattle.score_script.specs.UnknownDigits.{StandsAt, payload_field, unknown_field};
-ghost use Rattle.score_script.specs.ObservedLines.{Stands, a_line, address_line, answer_command, ar_line, asked_command, aw_line, b_line, channel_command, channel_of, command_of, d_line, is_answer, is_withdrawal, known, mask_field, only_settles, r_line, resp_field, resp_in, seen_line, time_line, unknown_a, unknown_address, unknown_b, unknown_d, unknown_line, unknown_r, unknown_w, w_line};
+ghost use Rattle.score_script.specs.ObservedLines.{Stands, a_line, address_line, answer_command, ar_line, asked_command, aw_line, b_line, channel_command, channel_of, command_of, d_line, is_answer, is_settling, is_withdrawal, known, mask_field, only_settles, r_line, resp_field, resp_in, seen_line, time_line, unknown_a, unknown_address, unknown_b, unknown_d, unknown_line, unknown_r, unknown_w, w_line};
 
 use crate::fills::fill_line;
 use crate::score::Command;
@@ -226,7 +226,9 @@ fn r_line(words: &Words<'_>) -> Result<SeenBeat, u32>
     })
 }
 
-/// The beat that a channel's line says, or its first wrong word.
+/// The beat that a channel's line says, or its first wrong word. It is inline, so that a beat goes from its line to its verdict through
+/// no memory.
+#[inline(always)]
 fn seen_line(channel: Channel, words: &Words<'_>) -> Result<SeenBeat, u32>
     ensures { result ≡ seen_line channel words.now }
 {
@@ -444,12 +446,23 @@ fn is_answer(words: &Words<'_>) -> bool
     words.at(1) == b"=".as_slice()
 }
 
+/// Whether an answer, by the word after `=`, does nothing but settle the beat before it. Those that come most are told by how they
+/// begin.
+fn settles(word: &[u8]) -> bool
+    ensures { result ≡ is_settling (answer_command word.now) }
+{
+    match word {
+        [b'a' | b'm' | b's', ..] | [b'r', b'e', b'p', ..] | [b'd', b'o', ..] => true,
+        _ => matches!(answer_command(word), Command::Answer),
+    }
+}
+
 /// Whether a line does nothing but settle the beat before it.
 pub(crate) fn only_settles(words: &Words<'_>) -> bool
     ensures value { result ≡ only_settles words.now }
     ensures answer { result ≡ true → command_of words.now ≡ Ok Answer }
 {
-    is_answer(words) && matches!(answer_command(words.at(2)), Command::Answer)
+    is_answer(words) && settles(words.at(2))
 }
 
 /// What a line of a channel, or else a question, a filling or a time, says, or its first wrong word.
