@@ -1,15 +1,16 @@
 //! The live requests of the bridge.
-ghost use Rattle.std.specs.Prelude.{◌≡◌, ◌+◌, ◌<◌, ◌≤◌, ◌^◌, ◌%◌, true, false, find, IfOk, IfSome, IsSome, IsSomeAnd, None, Some, is_some, option_map};
+ghost use Rattle.std.specs.Prelude.{◌≡◌, ◌+◌, ◌<◌, ◌≤◌, ◌^◌, ◌%◌, true, false, find, IfOk, IfSome, IsSome, IsSomeAnd, IsTrue, None, Some, is_some, option_map};
 ghost use Rattle.std.specs.List.{AllByRecursion};
 ghost use Rattle.std.specs.Vec.{vec_capacity, vec_len};
 ghost use Rattle.tl_messages.specs.Requests.{request_of};
 ghost use Rattle.tl_checker.specs.Ports.{opening_port};
 ghost use Rattle.burst_plan.specs.PageMap.{IsPageMap};
-ghost use Rattle.flight_table.specs.Tables.{change_key, has_room, is_busy, request_at, table_of};
+ghost use Rattle.flight_table.specs.Tables.{change_key, has_room, is_busy, request_at, table_of, without_key};
 ghost use Rattle.flight_table.specs.Order.{holds_id};
 ghost use Rattle.flight_table.specs.Laws.{IsSound};
-ghost use Rattle.responses.specs.Gathered.{gathered};
+ghost use Rattle.responses.specs.Gathered.{gathered, outline_of};
 ghost use Rattle.responses.specs.RightReplies.{ShowsReply};
+ghost use Rattle.responses.specs.Shown.{shown};
 ghost use Rattle.axi_beats.specs.Transfers.{IsBusWidth};
 ghost use Rattle.bridge_core.specs.Bridge.{opening_requests};
 ghost use Rattle.config.specs.Configs.{is_valid, port_of};
@@ -176,8 +177,8 @@ impl RequestTable {
         ensures laws { IsSoundRequestTable self.new }
     {
         let key = self.flight.oldest_done(client)?;
-        self.held[key.slot()].reply_into(reply);
-        Some(self.flight.release(key))
+        let held = &self.held[key.slot()];
+        Some(hand_out(&mut self.flight, held, key, reply))
     }
 }
 
@@ -236,6 +237,21 @@ fn answer(flight: &mut Flight, key: Key, found: bool)
 {
     flight.answered(key);
     settle(flight, key, found);
+}
+
+/// Takes a request that is done out: its reply's beats are put into a box, and its number is answered. It is apart, so that where
+/// none is done nothing of it stands in the way.
+#[inline(never)]
+fn hand_out(flight: &mut Flight, held: &Held, key: Key, reply: &mut ReplyBox) -> u64
+    requires { IsSomeAnd (request_at key flight.old) (λ request. IsTrue request.done) }
+    ensures number { option_map (λ request. request.number) (request_at key flight.old) ≡ Some result }
+    ensures shown { reply.new ≡ shown (request_of held.now.message) (gathered (outline_of (request_of held.now.message)) held.now.gathering) }
+    ensures right { ShowsReply (request_of held.now.message) (gathered (outline_of (request_of held.now.message)) held.now.gathering) reply.new }
+    ensures state { flight.new ≡ without_key key flight.old }
+    ensures laws { IsSound flight.new }
+{
+    held.reply_into(reply);
+    flight.release(key)
 }
 
 /// The key of the live request that holds an ID.
