@@ -2,12 +2,15 @@
 #![tactic(auto)]
 
 mod clients;
+mod gates;
 mod limits;
 mod ports;
 mod shared;
 mod threads;
 mod turns;
+mod workers;
 
+pub use gates::{Gate, Who};
 pub use shared::{HistoryFull, Shared};
 pub use thread_reports::{Receipts, Report};
-pub use threads::{Fault, Gate, Limits, Who, run_threads};
+pub use threads::{Fault, Limits, run_threads};

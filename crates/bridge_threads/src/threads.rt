@@ -1,4 +1,4 @@
-//! The threads, which ask the gate, lock, make a turn and let go.
+//! A run in threads: what it takes, what came of it, and the report.
 ghost use Rattle.std.specs.Prelude.{◌≡◌, ◌≢◌, ◌⊎◌, ◌<◌, ◌≤◌, ◌↔◌, ℕ, List, [], length, None, Some, Ok, Err, true, false, IfOk, IfSome, IsTrue};
 ghost use Rattle.tl_checker.specs.Ports.{opening_port};
 ghost use Rattle.tl_checker.specs.declared.TlRule.{TlRule};
@@ -19,34 +19,20 @@ ghost use Rattle.bridge_threads.specs.declared.threads.Fault.TheVariants.{BadCon
 ghost use Rattle.bridge_threads.specs.declared.turns.WorkerFault.TheVariants as met;
 
 use crate::Shared;
-use crate::clients::{ClientWork, client_turn};
+use crate::clients::ClientWork;
+use crate::gates::Gate;
 use crate::limits::is_refused;
 use crate::ports::{refused_at, room_for};
-use crate::turns::{Turn, WorkerFault, memory_turn, paced};
+use crate::turns::WorkerFault;
+use crate::workers::{Crew, Joined, Seat, Site, run_crew};
 use std::alloc::{AllocError, Global};
-use std::sync::{Mutex, MutexGuard, Wait};
-use std::thread;
-use std::thread::{JoinHandle, Threads};
+use std::sync::{Mutex, Wait};
+use std::thread::Threads;
 use thiserror::Error;
 use thread_reports::{Mismatch, Receipts, Report, SecondWorld};
 use tl_checker::{Port, TlRule};
 use tl_messages::{ABeat, ReplyBox};
 use world::Setup;
-
-/// A worker.
-#[derive(Clone, Copy, Debug, PartialEq, Eq)]
-pub enum Who {
-    /// The thread of the client of this number.
-    Client(u8),
-    /// The memory thread of this number.
-    Memory(u8),
-}
-
-/// Is asked before each turn of a worker, without the lock: by it a caller can hold workers up, or end a run.
-pub trait Gate {
-    /// Whether a worker may make its turn `index`, counted from 0; the count stays at the largest number.
-    fn pass(&self, who: Who, index: u32) -> bool;
-}
 
 /// The limits of a threaded run.
 #[derive(Clone, Copy, Debug, PartialEq, Eq)]
@@ -97,112 +83,6 @@ pub enum Fault {
         /// The first of its receipts that differs, or the place after its last.
         index: u32,
     },
-}
-
-/// How often a worker asks for the lock, and lets others work in between, before it waits for it asleep.
-const ASKINGS: u32 = 64;
-
-/// Gets the lock. A hold is much shorter than a sleep and the waking from it, so that a worker sleeps only where it asked in vain for
-/// long.
-fn hold<'a, R: Wait>(rt: &R, lock: &'a Mutex<Shared>) -> MutexGuard<'a, Shared> {
-    for _ in 0..ASKINGS {
-        if let Some(held) = lock.try_lock() {
-            return held;
-        }
-        thread::yield_now();
-    }
-    lock.lock(rt)
-}
-
-/// What a client hands back.
-#[derive(Drop)]
-struct ClientOutcome {
-    fault: Option<WorkerFault>,
-    receipts: Receipts,
-}
-
-/// A client with its box, before its thread starts.
-#[derive(Drop)]
-struct Seat {
-    work: ClientWork,
-    reply: ReplyBox,
-}
-
-/// One client's thread.
-fn client<R: Wait, G: Gate>(
-    rt: &R,
-    lock: &Mutex<Shared>,
-    gate: &G,
-    seat: Seat,
-    script: &[ABeat],
-    limit: u32,
-) -> ClientOutcome {
-    let Seat {
-        mut work,
-        mut reply,
-    } = seat;
-    let who = Who::Client(work.number);
-    let mut fault = None;
-    let mut index = 0u32;
-    let mut left = limit;
-    for _ in rt.forever() {
-        let turn = if gate.pass(who, index) {
-            let mut held = hold(rt, lock);
-            client_turn(&mut work, &mut held, script, &mut reply)
-        } else {
-            Turn::Failed(WorkerFault::GateShut)
-        };
-        index = index.saturating_add(1);
-        match paced(turn, &mut left, limit) {
-            Turn::Moved => {}
-            // Others get the lock, which may have what this worker waits for.
-            Turn::Idle => thread::yield_now(),
-            Turn::Ended => break,
-            Turn::Failed(failed) => {
-                lock.lock(rt).stop();
-                fault = Some(failed);
-                break;
-            }
-        }
-    }
-    let ClientWork { receipts, .. } = work;
-    ClientOutcome { fault, receipts }
-}
-
-/// A memory thread.
-fn memory<R: Wait, G: Gate>(
-    rt: &R,
-    lock: &Mutex<Shared>,
-    gate: &G,
-    number: u8,
-    words: &[u64],
-    limit: u32,
-    reply: ReplyBox,
-) -> Option<WorkerFault> {
-    let mut reply = reply;
-    let mut place = 0usize;
-    let mut index = 0u32;
-    let mut left = limit;
-    for _ in rt.forever() {
-        let turn = if gate.pass(Who::Memory(number), index) {
-            let mut held = hold(rt, lock);
-            memory_turn(&mut held, words, &mut place, &mut reply)
-        } else {
-            Turn::Failed(WorkerFault::GateShut)
-        };
-        index = index.saturating_add(1);
-        match paced(turn, &mut left, limit) {
-            Turn::Moved => {}
-            // Others get the lock, which may have what this worker waits for.
-            Turn::Idle => thread::yield_now(),
-            Turn::Ended => break,
-            Turn::Failed(failed) => {
-                lock.lock(rt).stop();
-                return Some(failed);
-            }
-        }
-    }
-    None
 }
 
 /// All that a run needs, made before its first thread.
@@ -302,99 +182,6 @@ fn prepare(
         second,
         ports,
         crew,
-    })
-}
-
-/// What came of all threads: whether one was refused, the fault of each worker, clients by number before memory threads, and
-/// what each client received.
-#[derive(Drop)]
-struct Joined {
-    refused: bool,
-    faults: Vec<Option<WorkerFault>>,
-    receipts: Vec<Receipts>,
-}
-
-/// What the threads of a run take with them, and the lists of what they hand back.
-#[derive(Drop)]
-struct Crew {
-    seats: Vec<Seat>,
-    boxes: Vec<ReplyBox>,
-    clients: Vec<JoinHandle<ClientOutcome>>,
-    memories: Vec<JoinHandle<Option<WorkerFault>>>,
-    faults: Vec<Option<WorkerFault>>,
-    receipts: Vec<Receipts>,
-}
-
-/// Item `k` of some lists; an empty one where there are not so many.
-fn list_at<T>(lists: &[Vec<T>], k: u8) -> &[T] {
-    let k = usize::from(k);
-    if k < lists.len() {
-        lists[k].as_slice()
-    } else {
-        &[]
-    }
-}
-
-/// Starts a thread for each client and for each list of words, and joins them all. Where one is refused, all are told to stop.
-fn run_crew<R: Threads + Wait + Sync, G: Gate + Sync>(
-    rt: &R,
-    lock: &Mutex<Shared>,
-    gate: &G,
-    scripts: &[Vec<ABeat>],
-    words: &[Vec<u64>],
-    limit: u32,
-    crew: Crew,
-) -> Joined {
-    let Crew {
-        seats,
-        boxes,
-        mut clients,
-        mut memories,
-        mut faults,
-        mut receipts,
-    } = crew;
-    thread::scope(thread::scope_env(), rt, |scope| {
-        let mut refused = false;
-        for seat in seats {
-            let script = list_at(scripts, seat.work.number);
-            match scope.spawn(move || client(rt, lock, gate, seat, script, limit)) {
-                Ok(handle) => {
-                    let _ = clients.push(handle);
-                }
-                Err(_) => refused = true,
-            }
-        }
-        let mut number = 0u8;
-        for reply in boxes {
-            let ring = list_at(words, number);
-            let mine = number;
-            match scope.spawn(move || memory(rt, lock, gate, mine, ring, limit, reply)) {
-                Ok(handle) => {
-                    let _ = memories.push(handle);
-                }
-                Err(_) => refused = true,
-            }
-            number = number.saturating_add(1);
-        }
-        if refused {
-            lock.lock(rt).stop();
-        }
-        for handle in clients {
-            let ClientOutcome {
-                fault,
-                receipts: received,
-            } = handle.join(rt);
-            let _ = faults.push(fault);
-            let _ = receipts.push(received);
-        }
-        for handle in memories {
-            let _ = faults.push(handle.join(rt));
-        }
-        Joined {
-            refused,
-            faults,
-            receipts,
-        }
     })
 }
 
@@ -567,11 +354,19 @@ pub fn run_threads<R: Threads + Wait + Sync, G: Gate + Sync>(
         crew,
     } = room;
     let lock = Mutex::new(shared);
+    let site = Site {
+        rt,
+        lock: &lock,
+        gate,
+        scripts,
+        words,
+        idle: limits.idle,
+    };
     let Joined {
         refused,
         faults,
         receipts,
-    } = run_crew(rt, &lock, gate, scripts, words, limits.idle, crew);
+    } = run_crew(&site, crew);
     if refused {
         return Err(Fault::Spawn);
     }
