@@ -212,6 +212,12 @@ def taken_away(room: Path, built: Path) -> Iterator[Case]:
     yield "taking away all", whole or ("folders are left" if stage.exists() else None)
 
 
+def unlinked() -> Iterator[Case]:
+    """The prover refuses a repository with a link in it, so installing leaves none there."""
+    found = [str(it.relative_to(TOP)) for it in TOP.rglob("*") if it.is_symlink() and ".git" not in it.parts]
+    yield "no link in the repository", ", ".join(found[:3]) or None
+
+
 def words() -> Iterator[Case]:
     for given, status, said in WRONG_WORDS:
         done = ran([f"./{given[0]}", *given[1:]], env={**os.environ, "DESTDIR": "/nowhere"})
@@ -344,6 +350,7 @@ def cases(score: Path, bridge: Path, library: Path) -> Iterator[Case]:
         yield from compiled(root, room)
         yield from commands(root, room)
         yield from taken_away(room, given)
+        yield from unlinked()
         yield from words()
         yield from archives(room, given)
         archive = room / f"a/out/zuldegei-{VERSION}.tar.gz"
