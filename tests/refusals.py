@@ -117,7 +117,7 @@ def wrong_call(ran, error):
 def pages_again():
     """A page that is refused its room gets it when it is asked for again, and one that has room asks for none: the test asks a
     hundred times."""
-    shim, words = Shim(TOP / "crates" / "sparse_memory" / "out" / "sparse_memory_tests"), ["tests::reserved_again"]
+    shim, words = Shim(TOP / "crates" / "score_tests" / "out" / "score_tests_tests"), ["tests::sparse_memories::reserved_again"]
     free = shim.run(words, b"")
     asked = free.counts["growth"]
     print(f"sparse_memory: {asked} growths where two pages get room, each refused alone and with all after it")

@@ -1,6 +1,8 @@
 mod boards;
 mod limits;
 mod runs;
+mod serial_memories;
+mod sparse_memories;
 mod texts;
 
 use axi_beats::{ArBeat, AwBeat, BBeat, RBeat, Resp, WBeat};

@@ -4,8 +4,6 @@
 mod carrying;
 mod filling;
 mod memory;
-#[cfg(test)]
-mod tests;
 
 pub use memory::SerialMemory;
 use thiserror::Error;

@@ -5,8 +5,6 @@
 mod memory;
 mod page;
 mod ranges;
-#[cfg(test)]
-mod tests;
 
 pub use memory::SparseMemory;
 pub use ranges::{is_good_page, memory_fault};
