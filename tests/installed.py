@@ -213,7 +213,7 @@ def taken_away(room: Path, built: Path) -> Iterator[Case]:
 
 
 def unlinked() -> Iterator[Case]:
-    """The prover refuses a repository with a link in it, so installing leaves none there."""
+    """The prover refuses a repository with a link in it, so building and installing leave none there."""
     found = [str(it.relative_to(TOP)) for it in TOP.rglob("*") if it.is_symlink() and ".git" not in it.parts]
     yield "no link in the repository", ", ".join(found[:3]) or None
 
