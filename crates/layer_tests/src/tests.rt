@@ -10,7 +10,6 @@ mod calls;
 mod choices;
 mod constructors;
 mod flights;
-mod large_monitors;
 mod lines;
 mod memories;
 mod offers;

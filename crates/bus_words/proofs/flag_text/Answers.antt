@@ -3,6 +3,3 @@ use Rattle.bus_words.proofs.flag_text.Goals as goal
 
 pub returns-then-flag : goal.returns-then-flag
 returns-then-flag c = search rules
-
-pub returns-else-flag : goal.returns-else-flag
-returns-else-flag c = search rules

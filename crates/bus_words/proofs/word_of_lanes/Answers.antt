@@ -3,6 +3,3 @@ use Rattle.bus_words.proofs.word_of_lanes.Goals as goal
 
 pub returns-clause-value : goal.returns-clause-value
 returns-clause-value c = search rules
-
-pub returns-clause-lanes : goal.returns-clause-lanes
-returns-clause-lanes c = search rules

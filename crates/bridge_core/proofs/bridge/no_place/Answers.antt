@@ -6,6 +6,3 @@ returns-then-not-room c = search rules
 
 pub returns-then-accepted : goal.returns-then-accepted
 returns-then-accepted c = search rules
-
-pub returns : goal.returns
-returns c = search rules

@@ -53,12 +53,6 @@ returns-in-Some-clause-beat g c client index rule is =
 pub returns-then-refused-clause-refused : goal.returns-then-refused-clause-refused
 returns-then-refused-clause-refused g c = search rules
 
-pub returns-clause-full : goal.returns-clause-full
-returns-clause-full g c = search rules
-
-pub returns-clause-beat : goal.returns-clause-beat
-returns-clause-beat g c = search rules
-
 pub returns-in_default-clause-refused : goal.returns-in_default-clause-refused
 returns-in_default-clause-refused g c = apart _ _ (sym c.is_refused.ensures ∙ c.if-is_refused.false) (λ is. cc)
 

@@ -3,6 +3,3 @@ use Rattle.config.proofs.Config.is_valid.Goals as goal
 
 pub returns-then-self-eq8 : goal.returns-then-self-eq8
 returns-then-self-eq8 c = search rules
-
-pub returns-then-self-eq4 : goal.returns-then-self-eq4
-returns-then-self-eq4 c = search rules

@@ -12,6 +12,3 @@ returns-in-Or-clause-fits c = atomic_result-lt Or c.args.operand_bytes c.args.ol
 
 pub returns-in-Max-clause-value : goal.returns-in-Max-clause-value
 returns-in-Max-clause-value c = search rules
-
-pub returns-in-Min-clause-value : goal.returns-in-Min-clause-value
-returns-in-Min-clause-value c = search rules

@@ -3,6 +3,3 @@ use Rattle.line_text.proofs.trace_lines.client_line.Goals as goal
 
 pub returns-clause-all : goal.returns-clause-all
 returns-clause-all g c = search rules
-
-pub returns-clause-front : goal.returns-clause-front
-returns-clause-front g c = search rules

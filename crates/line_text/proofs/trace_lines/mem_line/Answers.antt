@@ -3,6 +3,3 @@ use Rattle.line_text.proofs.trace_lines.mem_line.Goals as goal
 
 pub returns-in-None-clause-all : goal.returns-in-None-clause-all
 returns-in-None-clause-all g c = search rules
-
-pub returns-in-None-clause-front : goal.returns-in-None-clause-front
-returns-in-None-clause-front g c = search rules

@@ -3,6 +3,3 @@ use Rattle.run_script.proofs.answer_writer.answer_line.Goals as goal
 
 pub returns-in-Idle-clause-all : goal.returns-in-Idle-clause-all
 returns-in-Idle-clause-all g c = search rules
-
-pub returns-in-Idle-clause-front : goal.returns-in-Idle-clause-front
-returns-in-Idle-clause-front g c = search rules

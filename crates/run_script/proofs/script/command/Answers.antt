@@ -1,9 +1,6 @@
-use Rattle.std.proofs.Common.{arith, rules}
+use Rattle.std.proofs.Common.{arith}
 use Rattle.std.proofs.lemmas.Grind.{common_steps}
 use Rattle.run_script.proofs.script.command.Goals as goal
 
 pub returns-in-Drain-clause-text : goal.returns-in-Drain-clause-text
 returns-in-Drain-clause-text g c = grind (arith, common_steps)
-
-pub returns-in-Drain-clause-state : goal.returns-in-Drain-clause-state
-returns-in-Drain-clause-state g c = search rules

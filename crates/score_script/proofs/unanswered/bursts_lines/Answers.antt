@@ -27,3 +27,6 @@ pub returns : goal.returns
 returns g c =
     let all : length (ids_open c.args.side (board_of c.args.board.now).axi) ≤ c.loop-place.place = omega (arith, few_open c.args.side (board_of c.args.board.now).axi, c.loop-place-test.false, c.open_bursts-place-end.ensures) in
     wrote_all (burst_text c.args.line.now c.args.side) (ids_open c.args.side (board_of c.args.board.now).axi) c.loop-place.place _ _ c.loop-place.wrote all c.loop-place.invariant
+
+pub loop-place-init : goal.loop-place-init
+loop-place-init g c = search rules

@@ -3,6 +3,3 @@ use Rattle.scoreboard.proofs.ReplyRule.name.Goals as goal
 
 pub returns-in-Denied : goal.returns-in-Denied
 returns-in-Denied c = search rules
-
-pub returns-in-Corrupt : goal.returns-in-Corrupt
-returns-in-Corrupt c = search rules

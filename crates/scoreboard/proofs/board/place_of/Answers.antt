@@ -3,6 +3,3 @@ use Rattle.scoreboard.proofs.board.place_of.Goals as goal
 
 pub returns-in-Strict-clause-place : goal.returns-in-Strict-clause-place
 returns-in-Strict-clause-place c = search rules
-
-pub returns-in-Any-clause-place : goal.returns-in-Any-clause-place
-returns-in-Any-clause-place c = search rules

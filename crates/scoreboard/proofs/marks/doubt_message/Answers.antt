@@ -1,5 +1,6 @@
 -- Where nobody knows none of its lanes nothing changes.
-use Rattle.std.proofs.Common.{◌≡◌, List, ℕ, false, Option, Some, ap, length, refl, sym, ◌∙◌}
+use Rattle.std.proofs.Common.{◌≡◌, List, ℕ, false, Option, Some, ap, length, refl, sym, ◌∙◌, arith}
+use Rattle.std.proofs.lemmas.Grind.{elements}
 use Rattle.std.specs.Prelude.{slice_get, unwrap_or, []}
 use Rattle.std.proofs.lemmas.Option.{slice_get_read}
 use Rattle.serial_memory.specs.SerialMemory.{doubts_of, memory_of, place_in}
@@ -16,3 +17,9 @@ returns-else-has_some-clause-bytes c =
     let none : has_unknown (lanes_of c.args.unknown.now c.args.client) ≡ false =
     ap (λ (o : Option (List ℕ)). has_unknown (unwrap_or o [])) there ∙ sym c.has_some.ensures ∙ c.if-has_some.false in
     unknown_none (doubts_of c.args.marks.now) (lanes_of c.args.unknown.now c.args.client) (place_in (memory_of c.args.marks.now) (acting c.args.errors (request_of c.args.request.now))) (request_of c.args.request.now) none
+
+pub returns-in_default-clause-bytes : goal.returns-in_default-clause-bytes
+returns-in_default-clause-bytes c = grind (arith, elements) steps 2000000
+
+pub returns-then-has_some-clause-bytes : goal.returns-then-has_some-clause-bytes
+returns-then-has_some-clause-bytes c = grind (arith, elements) steps 2000000

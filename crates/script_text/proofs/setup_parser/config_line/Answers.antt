@@ -18,3 +18,6 @@ returns c =
     config_read byte_field c.args.words.now _
     record { clients = c.in_ok-clients.ensures; quota = c.in_ok-quota.ensures; ids = c.in_ok-ids.ensures; depth = c.in_ok-depth.ensures; max_len = c.in_ok-max_len.ensures; max_size = c.in_ok-max_size.ensures; levels = c.in_ok-levels.ensures }
     (sym c.in_ok-axi_bytes.was ∙ c.bus_bytes.ensures)
+
+pub returns-in_err-depth : goal.returns-in_err-depth
+returns-in_err-depth c = search rules

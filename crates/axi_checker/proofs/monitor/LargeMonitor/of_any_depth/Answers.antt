@@ -3,6 +3,3 @@ use Rattle.axi_checker.proofs.monitor.LargeMonitor.of_any_depth.Goals as goal
 
 pub invariant_of-result : goal.invariant_of-result
 invariant_of-result c = search rules
-
-pub returns : goal.returns
-returns c = search rules

@@ -1,8 +1,5 @@
 use Rattle.std.proofs.Common.{rules}
 use Rattle.axi_checker.proofs.monitor.Monitor.new.Goals as goal
 
-pub invariant_of-result : goal.invariant_of-result
-invariant_of-result c = search rules
-
 pub returns : goal.returns
 returns c = search rules

@@ -1,6 +1,7 @@
 -- The read at the place is the oldest of its ID: it is counted where R beats are to come after this one, else taken out, and what came of it
 -- with it.
 use Rattle.std.proofs.Common.{◌≡◌, ◌<◌, ◌≤◌, ◌+◌, ℕ, List, length, map, set, arith, sym, ◌∙◌, ap, subst}
+use Rattle.std.proofs.lemmas.Grind.{common_steps}
 use Rattle.std.specs.Prelude.{Some}
 use Rattle.std.specs.List.{position, remove}
 use Rattle.bus_words.proofs.FirstPlaces.{position_is_first}
@@ -82,3 +83,6 @@ returns-else-read-from-clause-items g c =
     c.remove.ensures.items
     ∙ reads_after-remove c.args.id c.args.place reads read (placed c.args.id c.args.place reads c.args.self.now is c.requires) c.get-read.ensures.value all
     ∙ ap (reads_after c.args.id) is
+
+pub remove-requires-else-read-from : goal.remove-requires-else-read-from
+remove-requires-else-read-from g c = grind (arith, common_steps)

@@ -1,5 +1,6 @@
 -- The slot at the place goes behind the others, each of which keeps its entry.
 use Rattle.std.proofs.Common.{◌≡◌, ◌∙◌, ◌<◌, ◌≤◌, length, ap, arith}
+use Rattle.std.proofs.lemmas.Grind.{common_steps}
 use Rattle.std.specs.List.{remove}
 use Rattle.axi_checker.specs.Monitors.{OpenSide}
 use Rattle.axi_checker.proofs.Slots.{many_at, removed, slots_left}
@@ -29,3 +30,6 @@ returns-clause-items g c =
     removed q.entries.items q.filler q.slots q.len few long c.self.invariant.3 c.close_gap.new.bytes c.args.place within
     (omega (arith, c.self.told)) (omega (arith, c.self.told, c.close_gap.auto.bytes)) c.close_gap.ensures
     ∙ ap (λ (side : OpenSide g.row.T.Denot). remove side.items c.args.place) c.self.view_is
+
+pub bounds-self-inside-place : goal.bounds-self-inside-place
+bounds-self-inside-place g c = grind (arith, common_steps)

@@ -12,6 +12,3 @@ last_byte-requires c =
 
 pub returns-clause-rule : goal.returns-clause-rule
 returns-clause-rule c = search rules
-
-pub returns-clause-room : goal.returns-clause-room
-returns-clause-room c = search rules

@@ -3,9 +3,3 @@ use Rattle.axi_checker.proofs.rules.PortLimits.data_fault.Goals as goal
 
 pub returns-then-not-strobes_fit : goal.returns-then-not-strobes_fit
 returns-then-not-strobes_fit c = search rules
-
-pub returns-then-beat-write : goal.returns-then-beat-write
-returns-then-beat-write c = search rules
-
-pub returns : goal.returns
-returns c = search rules

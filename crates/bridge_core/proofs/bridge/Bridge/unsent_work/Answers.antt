@@ -3,6 +3,3 @@ use Rattle.bridge_core.proofs.bridge.Bridge.unsent_work.Goals as goal
 
 pub returns-clause-work : goal.returns-clause-work
 returns-clause-work c = search rules
-
-pub returns-clause-most : goal.returns-clause-most
-returns-clause-most c = search rules

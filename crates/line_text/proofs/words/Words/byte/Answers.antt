@@ -3,6 +3,3 @@ use Rattle.line_text.proofs.words.Words.byte.Goals as goal
 
 pub overflow_cast-result : goal.overflow_cast-result
 overflow_cast-result c = search rules
-
-pub returns : goal.returns
-returns c = search rules

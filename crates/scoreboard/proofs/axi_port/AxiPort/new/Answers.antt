@@ -1,5 +1,6 @@
 -- The port is one that a large monitor may have.
-use Rattle.std.proofs.Common.{arith, rules}
+use Rattle.std.proofs.Common.{arith}
+use Rattle.std.proofs.lemmas.Grind.{elements}
 use native.Mathlib.Nat.{mul_left_comm}
 use Rattle.score_setup.specs.ScoreSetups.{limits_of}
 use Rattle.score_setup.proofs.ScoreSetupFaults.{port_of_valid}
@@ -23,5 +24,5 @@ of_any_depth-requires-clause-most c =
     let depth = c.args.config.now.depth in
     omega (arith, mul_left_comm ids 2 depth, (port_of_valid (limits_of c.args.config.now) c.requires).most)
 
-pub returns : goal.returns
-returns c = search rules
+pub overflow_mul-config : goal.overflow_mul-config
+overflow_mul-config c = grind (arith, elements) steps 2000000

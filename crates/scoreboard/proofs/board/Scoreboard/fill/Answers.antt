@@ -1,5 +1,5 @@
 -- Pages that had room keep it.
-use Rattle.std.proofs.Common.{map}
+use Rattle.std.proofs.Common.{map, rules}
 use Rattle.serial_memory.specs.SerialMemory.{rooms_of}
 use Rattle.scoreboard.specs.Boards.{footprints_of}
 use Rattle.scoreboard.specs.InsideBoards.{client_of}
@@ -13,3 +13,6 @@ invariant_of-self c = (
   c.self.invariant.2,
   more_room (rooms_of c.self.inside.serial) (rooms_of c.fill.new.self) c.fill.ensures.rooms (footprints_of (map client_of c.self.inside.clients.items)) c.self.invariant.3,
 )
+
+pub returns-clause-filled : goal.returns-clause-filled
+returns-clause-filled c = search rules

@@ -1,5 +1,5 @@
 -- By what the beat tells, and whether anything is wrong with it.
-use Rattle.std.proofs.Common.{ap, sym, ◌∙◌}
+use Rattle.std.proofs.Common.{ap, sym, ◌∙◌, rules}
 use Rattle.std.specs.Prelude.{Some}
 use Rattle.scoreboard.specs.AxiPorts.{PortBoard}
 use Rattle.scoreboard.specs.Boards.{Board, after_axi, hit_on}
@@ -35,3 +35,6 @@ returns-clause-state c =
     ∙ ap {B = Board} (λ (axi : PortBoard). hit_on (Some c.in-Some.span) (record (board_of old) { axi = axi })) c.judge-wrong.ensures.state
     ∙ after_right old.policy (board_of old) beat c.judge-wrong.result c.span_told-told.result c.judge-wrong.ensures.wrong tells c.in-Some.span (sym c.is_some.ensures ∙ c.if-is_some.false) c.in-Some.is
     ∙ ap (λ (b : BoardState). after_axi b.policy (board_of b) beat) c.self.view_is
+
+pub returns-clause-answer : goal.returns-clause-answer
+returns-clause-answer c = search rules

@@ -1,5 +1,6 @@
 -- The client that is there judges.
-use Rattle.std.proofs.Common.{◌≡◌, Some, ap, rules, subst, sym, ◌∙◌}
+use Rattle.std.proofs.Common.{◌≡◌, Some, ap, rules, subst, sym, ◌∙◌, arith}
+use Rattle.std.proofs.lemmas.Grind.{common_steps, elements}
 use Rattle.std.specs.Prelude.{slice_get}
 use Rattle.serial_memory.specs.SerialMemory.{rooms_of}
 use Rattle.scoreboard.specs.Boards.{ClientBoard, after_d, client_cut, client_footprints, d_wrong}
@@ -31,3 +32,9 @@ pub returns-clause-state : goal.returns-clause-state
 returns-clause-state c =
     replied (the_view c.self.inside) c.from.result c.in-Some.found.now c.judge_reply.new.self c.args.beat.now (there c) c.judge_reply.ensures.state
     ∙ rw c.from.ensures (ap (λ (board : BoardState). after_d (board_of board) c.args.client (slice_get (board_of board).clients c.args.client) c.args.beat.now) c.self.view_is)
+
+pub returns-in_default-clause-answer : goal.returns-in_default-clause-answer
+returns-in_default-clause-answer c = grind (arith, elements) steps 2000000
+
+pub returns-in_default-clause-state : goal.returns-in_default-clause-state
+returns-in_default-clause-state c = grind (arith, common_steps)

@@ -1,5 +1,6 @@
 -- Its port answers, and what it gives is kept.
-use Rattle.std.proofs.Common.{ℕ, Ok, ap, ap₂, sym, ◌∙◌}
+use Rattle.std.proofs.Common.{ℕ, Ok, ap, ap₂, sym, ◌∙◌, arith}
+use Rattle.std.proofs.lemmas.Grind.{elements}
 use Rattle.std.specs.Prelude.{slice_get}
 use Rattle.tl_messages.specs.Requests.{request_of}
 use Rattle.tl_checker.specs.declared.Progress.{Progress}
@@ -36,3 +37,12 @@ pub returns-clause-state : goal.returns-clause-state
 returns-clause-state c =
     kept_after c.args.self.now.policy (unknown_board c.args.self.now) c.take_request.new.self c.keep.new.self c.args.client c.args.beat.now c.args.lanes c.in-Ok.progress
     (slice_get (board_of c.args.self.now).clients c.args.client) (taken (goal.at.returns-clause-state c).After-keep)
+
+pub returns-in-Err-clause-answer : goal.returns-in-Err-clause-answer
+returns-in-Err-clause-answer c = grind (arith, elements) steps 2000000
+
+pub returns-in-Err-clause-state : goal.returns-in-Err-clause-state
+returns-in-Err-clause-state c = grind (arith, elements) steps 2000000
+
+pub returns-then-not-gives_unknown-clause-answer : goal.returns-then-not-gives_unknown-clause-answer
+returns-then-not-gives_unknown-clause-answer c = grind (arith, elements) steps 2000000

@@ -1,5 +1,6 @@
 -- The client that is there answers.
-use Rattle.std.proofs.Common.{◌≡◌, ◌⊎◌, inl, inr, List, Ok, None, Option, Result, Some, false, ap, ap₂, refl, subst, sym, ◌∙◌}
+use Rattle.std.proofs.Common.{◌≡◌, ◌⊎◌, inl, inr, List, Ok, None, Option, Result, Some, false, ap, ap₂, refl, subst, sym, ◌∙◌, arith}
+use Rattle.std.proofs.lemmas.Grind.{elements}
 use Rattle.std.specs.Prelude.{is_some, slice_get}
 use Rattle.std.proofs.lemmas.Option.{slice_get_within}
 use Rattle.bus_words.proofs.StoredPlaces.{get_set}
@@ -139,3 +140,18 @@ returns-in-Whole-clause-state c =
     ∙ ap (λ (p : Policy). accepted_on p (board_of c.take_beat.new.self) number one c.take_beat.new.self.request begun) (same_policy at)
     ∙ ap (λ (b : Board). accepted_on policy b number one c.take_beat.new.self.request begun) (mid at (Ok Whole) whole)
     ∙ ap₂ (accepted_on policy (with_front policy (old at) number (found at) c.args.beat.now (there at) (Ok Whole)) number one) (c.take_beat.ensures.request (found at) (there_still at) c.in-Whole.is) c.has_begun-begun.ensures))
+
+pub returns-in_default-clause-answer : goal.returns-in_default-clause-answer
+returns-in_default-clause-answer c = grind (arith, elements) steps 2000000
+
+pub returns-in_default-clause-state : goal.returns-in_default-clause-state
+returns-in_default-clause-state c = grind (arith, elements) steps 2000000
+
+pub returns-in-Err-clause-answer : goal.returns-in-Err-clause-answer
+returns-in-Err-clause-answer c = grind (arith, elements) steps 2000000
+
+pub returns-in-Err-clause-state : goal.returns-in-Err-clause-state
+returns-in-Err-clause-state c = grind (arith, elements) steps 2000000
+
+pub take_beat-requires-clause-told : goal.take_beat-requires-clause-told
+take_beat-requires-clause-told c = grind (arith, elements) steps 2000000

@@ -1,5 +1,6 @@
 -- Where all is known no footprint is kept, and all stays known; else what it gives is known where all that it read is.
 use Rattle.std.proofs.Common.{◌≡◌, false, [], ap, arith, subst, sym, ◌∙◌}
+use Rattle.std.proofs.lemmas.Grind.{common_steps}
 use Rattle.tl_messages.specs.Requests.{bytes_given, request_of}
 use Rattle.scoreboard.specs.Flights.{Footprint}
 use Rattle.scoreboard.specs.InTurn.{after_turn, unless_fixed}
@@ -111,3 +112,6 @@ returns-clause-bytes c =
     c.mark_own.ensures.bytes
     ∙ rw (c.carry_out-2.ensures.doubts, c.footprint.ensures, own (goal.at.returns-clause-bytes c).After-footprint) (ap (λ (state : BoardState). after_given (doubts_of state.memory) (acts_in b) (bytes_given state.request)) c.self.view_is)
     ∙ given_in_turn (doubts_of b.memory) (place_in (memory_of b.memory) q) q (length-bytes_given b.request)
+
+pub returns-then-knows_all-clause-flight : goal.returns-then-knows_all-clause-flight
+returns-then-knows_all-clause-flight c = grind (arith, common_steps)

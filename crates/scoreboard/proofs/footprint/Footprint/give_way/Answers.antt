@@ -26,3 +26,6 @@ loop-k-preserved c =
 pub returns-clause-footprint : goal.returns-clause-footprint
 returns-clause-footprint c =
     given_way c.args.self.now c.loop-k.self (footprint_of c.args.other.now) c.words-k-end.ensures.range (search (rules)) c.loop-k.invariant.0 (λ k lane below less. c.loop-k.invariant.1 k (omega arith) lane less)
+
+pub returns-then-not-other-clause-footprint : goal.returns-then-not-other-clause-footprint
+returns-then-not-other-clause-footprint c = search rules

@@ -17,6 +17,3 @@ invariant_of-self c =
 
 pub returns-clause-memory : goal.returns-clause-memory
 returns-clause-memory c = search rules
-
-pub returns-clause-flight : goal.returns-clause-flight
-returns-clause-flight c = search rules

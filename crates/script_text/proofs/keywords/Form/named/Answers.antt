@@ -32,3 +32,18 @@ returns-in-free c = grind (arith, common_steps)
 
 pub returns-in-drain : goal.returns-in-drain
 returns-in-drain c = grind (arith, common_steps)
+
+pub returns-in-a : goal.returns-in-a
+returns-in-a c = grind (arith, common_steps)
+
+pub returns-in-b : goal.returns-in-b
+returns-in-b c = grind (arith, common_steps)
+
+pub returns-in-r : goal.returns-in-r
+returns-in-r c = grind (arith, common_steps)
+
+pub returns-in-bad : goal.returns-in-bad
+returns-in-bad c = grind (arith, common_steps)
+
+pub returns-in-mem : goal.returns-in-mem
+returns-in-mem c = grind (arith, common_steps)

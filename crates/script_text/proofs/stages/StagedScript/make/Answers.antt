@@ -5,6 +5,3 @@ use Rattle.script_text.proofs.stages.StagedScript.make.Goals as goal
 
 pub returns-in-Running : goal.returns-in-Running
 returns-in-Running g c = OpensStage-running g.K.Kind.rules _ (g.K.Kind.said c.in-Running.field-0) c.args.number (ap (stage_as g.K.Kind.lists g.K.Kind.said) (sym c.self.view_is ∙ ap stage_of c.in-Running.is))
-
-pub returns-in-Err : goal.returns-in-Err
-returns-in-Err g c = search rules

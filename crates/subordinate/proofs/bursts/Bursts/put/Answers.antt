@@ -1,5 +1,6 @@
 -- The mark of its queue changes where it is the oldest, and waited for the beat.
 use Rattle.std.proofs.Common.{List, arith, ap, ◌∙◌}
+use Rattle.std.proofs.lemmas.Grind.{elements}
 use Rattle.std.specs.Prelude.{slice_set}
 use Rattle.subordinate.specs.FreeMemory.{Pending, with_beat}
 use Rattle.subordinate.proofs.BurstCounts.{counted_put}
@@ -31,3 +32,6 @@ pub returns : goal.returns
 returns c = λ p is.
     let was = read_at c.self.inside.items.items c.args.self.now c.args.place c.index_mut.result.now p c.self.view_is c.requires.here c.index_mut.ensures.value is in
     ap (λ (new : Pending). slice_set c.self.inside.items.items c.args.place new) (c.put.ensures ∙ ap (with_beat c.args.beat c.args.state) was) ∙ ap (λ (bursts : List Pending). slice_set bursts c.args.place (with_beat c.args.beat c.args.state p)) c.self.view_is
+
+pub put-requires-clause-waits : goal.put-requires-clause-waits
+put-requires-clause-waits c = grind (arith, elements) steps 2000000

@@ -1,5 +1,6 @@
 -- The beat of the burst at the place is what became of it.
-use Rattle.std.proofs.Common.{◌≡◌, ◌<◌, List, length, sym, ap, subst, ◌∙◌}
+use Rattle.std.proofs.Common.{◌≡◌, ◌<◌, List, length, sym, ap, subst, ◌∙◌, arith}
+use Rattle.std.proofs.lemmas.Grind.{elements}
 use Rattle.std.proofs.lemmas.List.{length-set}
 use Rattle.std.specs.Prelude.{Some, IfSome, position, slice_get, slice_set}
 use Rattle.subordinate.specs.Device.{DeviceState}
@@ -61,3 +62,9 @@ returns-clause-state c = λ test place.
     ∙ performing inside.bus_bytes inside.pages c.carried_out-becomes.new.pages inside.«open» inside.sent inside.closed.items test c.args.place c.args.beat c.at.result.now c.carried_out-becomes.result first
     (at_place inside.«open» c.args.place c.at.result.now (within c) c.at.ensures) became bytes
     ∙ ap (after_performing test c.args.beat) c.self.view_is
+
+pub carried_out-becomes-requires-clause-legal : goal.carried_out-becomes-requires-clause-legal
+carried_out-becomes-requires-clause-legal c = grind (arith, elements) steps 2000000
+
+pub carried_out-becomes-requires-clause-beat : goal.carried_out-becomes-requires-clause-beat
+carried_out-becomes-requires-clause-beat c = grind (arith, elements) steps 2000000

@@ -1,4 +1,6 @@
 -- The first beat that waits is performed.
+use Rattle.std.proofs.Common.{arith, rules}
+use Rattle.std.proofs.lemmas.Grind.{elements}
 use Rattle.subordinate.proofs.WaitingBeats.{PerformsWaiting, performs_first}
 use Rattle.subordinate.proofs.device.Device.perform_first.Goals as goal
 
@@ -16,3 +18,9 @@ returns-clause-order c = (performs c).order
 
 pub returns-clause-monitor : goal.returns-clause-monitor
 returns-clause-monitor c = (performs c).monitor
+
+pub perform_at-requires-clause-here : goal.perform_at-requires-clause-here
+perform_at-requires-clause-here c = grind (arith, elements) steps 2000000
+
+pub returns-in_default-clause-answer : goal.returns-in_default-clause-answer
+returns-in_default-clause-answer c = search rules

@@ -18,6 +18,3 @@ returns-clause-sound c =
 
 pub invariant_of-self : goal.invariant_of-self
 invariant_of-self c = search rules
-
-pub returns-clause-port : goal.returns-clause-port
-returns-clause-port c = search rules

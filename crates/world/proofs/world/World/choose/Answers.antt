@@ -1,5 +1,6 @@
 -- The step that is looked for is the Pump, one of the beats that wait, or one of the answers.
 use Rattle.std.proofs.Common.{◌≡◌, ◌-◌, ◌≤◌, ◌∙◌, ap, arith, length, sym}
+use Rattle.std.proofs.lemmas.Grind.{elements}
 use Rattle.std.specs.Prelude.{is_some, slice_get}
 use Rattle.bridge_core.specs.Bridge.{burst_to_send}
 use Rattle.subordinate.specs.FreeMemory.{waiting_beats}
@@ -36,3 +37,6 @@ returns c =
     ∙ answer_found pump (waiting_beats memory) (answers_enabled memory) c.args.k past more
     ∙ ap (slice_get (answers_enabled memory)) (sym place)
     ∙ c.answer_at.ensures
+
+pub returns-then-place-performs : goal.returns-then-place-performs
+returns-then-place-performs c = grind (arith, elements) steps 2000000

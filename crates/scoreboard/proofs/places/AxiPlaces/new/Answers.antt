@@ -1,5 +1,5 @@
 use Rattle.std.proofs.Common.{rules}
-use Rattle.script_text.proofs.setup_parser.region.Goals as goal
+use Rattle.scoreboard.proofs.places.AxiPlaces.new.Goals as goal
 
 pub returns : goal.returns
 returns c = search rules
