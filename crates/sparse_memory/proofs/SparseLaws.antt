@@ -5,7 +5,7 @@ use Rattle.std.proofs.Math.Path.{fun_ext}
 use Rattle.std.proofs.lemmas.Bool.Decides.{nat_tests}
 use Rattle.bus_words.specs.Lanes.{has_lane, lane_byte, mask_of, word_address}
 use Rattle.bus_words.proofs.LaneLaws.{word_of_lanes-lane_byte, word_of_lanes-same}
-use Rattle.bus_words.proofs.MaskLaws.{has_lane-mask_of, mask_of-has_lane, mask_of-same}
+use Rattle.bus_words.proofs.MaskLaws.{mask_of-has_lane, mask_of-same}
 use Rattle.subordinate.specs.Faults.{device_fault, is_good, standing_at}
 use Rattle.sparse_memory.specs.Ranges.{is_unknown, pages_in}
 use Rattle.sparse_memory.specs.SparseMemory.{IsSoundState, PageState, SparseState, byte_of, bytes_in, doubt_of, doubts_in, faults_in, flags_in, is_strobed, page_in, put_flags, put_word, sparse_state, word_in}
@@ -182,13 +182,6 @@ unfolding flags_in
 no-mask state address unknown none which =
     elim unknown as (λ b. (if b then 255 else 0) ≡ mask_of (λ lane. b)) [ true ↦ refl | false ↦ refl ]
     ∙ mask_of-same (λ lane. unknown) (λ lane. doubts_in state (word_address address + lane)) (λ lane below. which ∙ sym (no-doubt-of state (word_address address + lane) (address / 4096) (omega arith) none))
-
--- a flag of a word
-pub flag-of : (flags : ℕ → Bool) (address : ℕ) → has_lane (flags_in flags address) (address % 8) ≡ flags address
-unfolding flags_in
-flag-of flags address =
-    let place : word_address address + address % 8 ≡ address = omega arith in
-    has_lane-mask_of (λ lane. flags (word_address address + lane)) (address % 8) (omega arith) ∙ ap flags place
 
 -- ---- a byte is read
 

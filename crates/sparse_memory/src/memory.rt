@@ -9,7 +9,7 @@ use crate::page::Page;
 use crate::ranges::{has_unknown, is_unknown_kind, range_of};
 use crate::{PageRange, RangeKind};
 use axi_beats::Resp;
-use bus_words::{has_lane, lane_byte};
+use bus_words::lane_byte;
 use std::alloc::{AllocError, Global};
 use std::collections::HashMap;
 use std::marker::Model;
@@ -80,7 +80,7 @@ impl SparseMemory {
     }
 
     /// Whether the word that an address is in is bad.
-    pub fn is_bad(&self, address: u32) -> bool
+    fn is_bad(&self, address: u32) -> bool
         ensures value { result ≡ is_bad (faults_in self.now) address }
         ensures sound { IsSoundState self.now }
     {
@@ -153,14 +153,6 @@ impl SparseMemory {
             None if self.is_unknown(address) => 0xff,
             None => 0,
         }
-    }
-
-    /// Whether the byte at an address is in doubt.
-    pub fn is_in_doubt(&self, address: u32) -> bool
-        ensures value { result ≡ doubts_in self.now address }
-        ensures sound { IsSoundState self.now }
-    {
-        has_lane(self.doubts(address), lane_of(address))
     }
 
     /// The range that the page of an address is in.

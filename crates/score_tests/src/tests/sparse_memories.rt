@@ -93,7 +93,7 @@ fn four_gigabytes(rt: HostRuntime) -> Result<(), Fail> {
     let mut memory = memory_of(&rt, &ALL, &[])?;
     for address in [0, 0x7fff_fff8, 0xffff_fff8] {
         same(&rt, address, memory.byte(address), Some(0));
-        same(&rt, address, memory.is_in_doubt(address), true);
+        same(&rt, address, memory.doubts(address), 0xff);
         reserve_again(&rt, &mut memory, address)?;
     }
     let taken = process_pages(&rt)?.saturating_sub(before);
@@ -143,7 +143,7 @@ fn answers(rt: HostRuntime) -> Result<(), Fail> {
     for (address, write, read, doubt) in ANSWERS {
         same(&rt, address, memory.write_response(address), write);
         same(&rt, address, memory.read_response(address), read);
-        same(&rt, address, memory.is_in_doubt(address), doubt);
+        same(&rt, address, memory.doubts(address), if doubt { 0xff } else { 0 });
         let byte = memory.byte(address).is_some();
         same(&rt, address, byte, write == Resp::Okay);
     }
