@@ -143,7 +143,12 @@ fn answers(rt: HostRuntime) -> Result<(), Fail> {
     for (address, write, read, doubt) in ANSWERS {
         same(&rt, address, memory.write_response(address), write);
         same(&rt, address, memory.read_response(address), read);
-        same(&rt, address, memory.doubts(address), if doubt { 0xff } else { 0 });
+        same(
+            &rt,
+            address,
+            memory.doubts(address),
+            if doubt { 0xff } else { 0 },
+        );
         let byte = memory.byte(address).is_some();
         same(&rt, address, byte, write == Resp::Okay);
     }

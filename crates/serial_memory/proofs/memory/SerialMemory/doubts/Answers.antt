@@ -1,0 +1,5 @@
+use Rattle.std.proofs.Common.{rules}
+use Rattle.serial_memory.proofs.memory.SerialMemory.doubts.Goals as goal
+
+pub returns : goal.returns
+returns c = search rules
