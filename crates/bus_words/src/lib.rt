@@ -50,7 +50,7 @@ pub fn lanes_between(lowest: u8, highest: u8) -> u8
 }
 
 /// The word that has these bytes in its lanes, that of lane 0 first.
-pub fn word_of_lanes(bytes: [u8; 8]) -> u64
+fn word_of_lanes(bytes: [u8; 8]) -> u64
     ensures value { result ≡ word_of_lanes (λ lane. slice_index bytes lane) }
     ensures lanes { (lane : ℕ) → lane < 8 → lane_byte result lane ≡ slice_index bytes lane }
 {

@@ -12,7 +12,7 @@ use world::Answer;
 
 /// Writes the line of an answer. It is inline, so that of the answers only those that a step gives are there.
 #[inline(always)]
-pub fn answer_line<W: Write>(answer: &Answer, writer: &mut W) -> Result<(), WriteFault>
+pub(crate) fn answer_line<W: Write>(answer: &Answer, writer: &mut W) -> Result<(), WriteFault>
     ensures all { OnOk result (Appends (W.contents writer.old) (W.contents writer.new) (answer_text answer.now)) }
     ensures front { OnErr result (StopsShort (answer_text answer.now) (W.contents writer.old) (W.contents writer.new)) }
 {

@@ -5,5 +5,4 @@ mod answer_writer;
 mod lines;
 mod script;
 
-pub use answer_writer::answer_line;
 pub use script::run_text;

@@ -148,16 +148,6 @@ impl Bursts {
         u64::from(self.waiting) + u64::from(self.owed)
     }
 
-    /// Serial and beat of the first beat that waits, by rising serial and beat.
-    pub(crate) fn first_waiting(&self) -> Option<(u64, u16)>
-        ensures { result ≡ slice_get (flat_map waiting_in self.now) 0 }
-    {
-        match self.place_waiting() {
-            Some((place, beat)) => Some((self.at(place).serial(), beat)),
-            None => None,
-        }
-    }
-
     /// The place of the burst of the first beat that waits, and that beat.
     pub(crate) fn place_waiting(&self) -> Option<(usize, u16)>
         ensures { MatchOption result (slice_get (flat_map waiting_in self.now) 0 ≡ None) (λ first. IsFirstWaiting self.now first.0 first.1) }

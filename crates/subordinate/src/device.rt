@@ -191,13 +191,6 @@ impl Device {
         self.open.waiting_at(k)
     }
 
-    /// Serial and beat of the first beat that isn't performed, by rising serial and beat.
-    pub fn first_pending(&self) -> Option<(u64, u16)>
-        ensures { result ≡ slice_get (waiting_beats self.now.memory) 0 }
-    {
-        self.open.first_waiting()
-    }
-
     /// The byte at an address of a good page; none outside these.
     pub fn byte(&self, address: u32) -> Option<u8>
         ensures { result ≡ byte_at_address self.now.memory.memory address }
@@ -289,7 +282,7 @@ impl Device {
     }
 
     /// Performs the first beat that isn't performed, by rising serial and beat, and answers whether there was one: what
-    /// `perform` does with the beat that `first_pending` tells, which isn't looked for twice.
+    /// `perform` does with the beat that `pending_at(0)` tells, which isn't looked for twice.
     pub fn perform_first(&mut self) -> bool
         ensures answer { result ≡ is_some (slice_get (waiting_beats self.old.memory) 0) }
         ensures state { MatchOption (slice_get (waiting_beats self.old.memory) 0)

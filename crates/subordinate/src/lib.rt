@@ -14,7 +14,6 @@ use axi_beats::{BurstBox, Resp};
 use axi_checker::AxiRule;
 pub use device::Device;
 pub use faults::device_fault;
-pub use pages::Pages;
 use thiserror::Error;
 
 /// What a listed page is.

@@ -20,7 +20,7 @@ use std::marker::Model;
 /// The pages of a device: which are listed and as what, the words of the good ones, and the addresses of the bad words.
 /// The good pages' numbers stand beside their words, in the same order, so that a page is found without touching words.
 /// All room is taken by `new`; no other call takes memory.
-pub struct Pages {
+pub(crate) struct Pages {
     listed: Vec<(u32, PageKind)>,
     numbers: Vec<u32>,
     words: Vec<[u64; 512]>,
@@ -62,7 +62,11 @@ impl Pages {
 
     /// These pages, all bytes of the good ones zero, with these bad words; `device_fault` doesn't refuse them. The one error
     /// is that memory was refused.
-    pub fn new(alloc: Global, pages: &[(u32, PageKind)], bad: &[u32]) -> Result<Self, AllocError>
+    pub(crate) fn new(
+        alloc: Global,
+        pages: &[(u32, PageKind)],
+        bad: &[u32],
+    ) -> Result<Self, AllocError>
         requires fine { device_fault pages.now bad.now ≡ None }
         ensures { IfOk result (λ p. p ≡ record {
           faults = record { pages = pages.now; bad_words = bad.now };
@@ -93,7 +97,7 @@ impl Pages {
     }
 
     /// The byte at an address of a good page; none outside these.
-    pub fn byte(&self, address: u32) -> Option<u8>
+    pub(crate) fn byte(&self, address: u32) -> Option<u8>
         ensures value { result ≡ byte_at_address self.now.memory address }
         ensures good_pages { HasGoodPages self.now.faults self.now.memory }
     {
@@ -111,7 +115,7 @@ impl Pages {
     }
 
     /// The response to a write that begins at an address (AXI4, A3.4.4): that of its page (this project's profile).
-    pub fn write_response(&self, address: u32) -> Resp
+    pub(crate) fn write_response(&self, address: u32) -> Resp
         ensures value { result ≡ write_response (standing_at self.now.faults address) }
         ensures good_pages { HasGoodPages self.now.faults self.now.memory }
     {
@@ -129,7 +133,7 @@ impl Pages {
 
     /// What transfer `n`, from 1, of a read captures on a bus of `bus_bytes` bytes, 4 or 8: its bytes, each in its lane
     /// (AXI4, A3.4.3), and zero in the other lanes; all zero with an error (this project's profile).
-    pub fn read(&self, bus_bytes: u8, ar: ArBeat, n: u16) -> (u64, Resp)
+    pub(crate) fn read(&self, bus_bytes: u8, ar: ArBeat, n: u16) -> (u64, Resp)
         requires { IsTransferOf bus_bytes ar.address ar.len ar.size n }
         ensures captured { Captured result.0 result.1 ≡ captured bus_bytes self.now.faults self.now.memory ar n }
         ensures good_pages { HasGoodPages self.now.faults self.now.memory }
@@ -147,7 +151,7 @@ impl Pages {
 
     /// Performs transfer `n`, from 1, of a write on a bus of `bus_bytes` bytes, 4 or 8: the bytes in its strobed lanes are
     /// set (AXI4, A3.4.3), where their page is good. On other pages nothing changes. A bad word is set too, and stays bad.
-    pub fn write(&mut self, bus_bytes: u8, aw: AwBeat, n: u16, beat: WBeat)
+    pub(crate) fn write(&mut self, bus_bytes: u8, aw: AwBeat, n: u16, beat: WBeat)
         requires transfer { IsTransferOf bus_bytes aw.address aw.len aw.size n }
         requires strobes { IsTrue (strobes_fit bus_bytes aw n beat.strobes) }
         ensures written { self.new ≡ record self.old { memory = bytes_written bus_bytes self.old.memory aw n beat } }

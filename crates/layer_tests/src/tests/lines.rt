@@ -4,14 +4,12 @@ use super::writers::{Failing, Slow};
 use axi_beats::{
     ArBeat, AwBeat, BBeat, RBeat, Resp, WBeat, ar_line, aw_line, b_line, r_line, w_line,
 };
-use line_text::WriteFault;
-use run_script::answer_line;
+use line_text::{WriteFault, accepted_line, write_text};
 use script_text::ScriptFault;
 use std::io;
 use std::io::{ErrorKind, Write};
 use std::test::Fail;
 use tl_messages::{ABeat, DBeat, a_line, d_line, d_words};
-use world::Answer;
 
 const PUT: ABeat = ABeat {
     opcode: 0,
@@ -141,11 +139,11 @@ fn are_written_or_answer_the_writers_fault(rt: HostRuntime) {
 #[test]
 fn a_write_that_is_interrupted_is_made_again(rt: HostRuntime) -> Result<(), Fail> {
     let mut writer = Slow::new(rt.alloc());
-    answer_line(&Answer::Accepted(7), &mut writer)?;
+    accepted_line(7, &mut writer)?;
     let wanted = b"= accepted 7\n".as_slice();
     same(&rt, "text", writer.text.as_slice(), wanted);
     writer.is_full = true;
-    let ending = answer_line(&Answer::Idle, &mut writer);
+    let ending = write_text(b"= idle\n", &mut writer);
     same(&rt, "a full writer", ending, Err(WriteFault));
     Ok(())
 }
