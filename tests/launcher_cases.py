@@ -37,6 +37,12 @@ echo 'what the program prints when it is built' | ./out/tlbridge
 exit 0
 """
 
+# A stand-in for the prover, which works for five seconds of a processor.
+WORKS = """#!/bin/sh
+exec python3 -c 'import time
+while time.process_time() < 5: pass' "$@"
+"""
+
 
 class Copy:
     """A copy of the launcher over a tree of two crates, below a folder with the stand-in on the path."""
@@ -157,14 +163,16 @@ def time_to_go(copy):
 
 
 def times_noted(copy):
-    """While another command proves: of each crate, but not of its tests; the command's status stays."""
+    """While another command proves: of each crate, but not of its tests; of a processor by kind; the command's status stays."""
     copy.source("out/seconds", "other 40\n")
-    copy.write(copy.file("prove"), "#!/bin/sh\nsleep 6\n", 0o755)
+    copy.write(copy.file("prove"), WORKS, 0o755)
     command = "./prove build --crate-name low & ./prove build --test --crate-name far; wait; exit 7"
-    ran = subprocess.run([sys.executable, TOP / ".ci/watch.py", "sh", "-c", command], cwd=copy.root, timeout=60)
-    table = dict(line.split() for line in Path(os.fsdecode(copy.file("out/seconds"))).read_text().splitlines())
-    is_right = table.keys() == {"other", "low"} and table["other"] == "40" and 3 <= int(table["low"]) <= 9
-    return None if ran.returncode == 7 and is_right else f"status {ran.returncode}, {table}"
+    ran = subprocess.run([sys.executable, TOP / ".ci/took.py", "proofs", "sh", "-c", command], cwd=copy.root, timeout=60)
+    seconds, took = (Path(os.fsdecode(copy.file(it))).read_text().splitlines() for it in ("out/seconds", "out/took"))
+    table, kinds = dict(line.split() for line in seconds), {line.split(maxsplit=2)[2]: float(line.split()[0]) for line in took}
+    is_right = table.keys() == {"other", "low"} and table["other"] == "40" and 2 <= int(table["low"]) <= 60
+    is_right = is_right and kinds.keys() == {"proofs", "tests"} and 1 <= kinds["tests"] <= 5 <= kinds["proofs"]
+    return None if ran.returncode == 7 and is_right else f"status {ran.returncode}, {table}, {kinds}"
 
 
 def words_pass(copy):

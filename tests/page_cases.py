@@ -2,7 +2,7 @@
 the source has, each page that it names is there, each crate has a page, and in ARCHITECTURE a row with its files of definitions,
 each example of the library stands in a test as it stands on its page, the table of statements in docs/WORDS.md is up to date,
 docs/definitions.py prints the definitions that it is asked for and lists each that a clause of a statement names, each place that
-docs/ROWS.md names is there, no function asks for what nobody can give, and no file that is kept is a log or names a folder of one
+docs/ROWS.md and docs/WRONG_BODIES.md name is there, no function asks for what nobody can give, and no file that is kept is a log or names a folder of one
 machine.
 
     python3 tests/page_cases.py
@@ -141,16 +141,15 @@ def lacking(path, named):
     return entries + [it for it in DEFINED.findall(named) if not re.search(rf"(?m)\b(?:fn|def|const) {it}\b|^{it} = ", text)]
 
 
-def rows():
-    """Each place of a worked row: its file, and what is named of it."""
-    page = (TOP / "docs" / "ROWS.md").read_text()
-    listed = re.findall(r"(?m)^\| (.*) \| (.*`.*) \|$", page)
-    yield "the worked rows", None if listed else "ROWS.md lists none"
-    for row, places in listed:
-        found = PLACE.findall(places)
+def places(page, heading, what):
+    """Each row of a page's tables behind a heading: whether the files of its last cell, and what is named of them, are there."""
+    listed = re.findall(r"(?m)^\| (.*) \| (.*`.*) \|$", (TOP / "docs" / page).read_text().partition(heading)[2])
+    yield f"each {what}", None if listed else f"{page} lists none"
+    for row, cell in listed:
+        found = PLACE.findall(cell)
         missing = sorted(name for path, named in found for name in lacking(path, named))
         why = f"it lacks {', '.join(missing)}" if missing else None if found else "it has no place"
-        yield f"the row: {row[:60]}", why
+        yield f"the {what}: {row[:60]}", why
 
 
 def without_space(text):
@@ -219,7 +218,8 @@ def cases():
     yield from examples()
     yield from trusted()
     yield from printed()
-    yield from rows()
+    yield from places("ROWS.md", "# Worked rows", "worked row")
+    yield from places("WRONG_BODIES.md", "## Those that", "wrong body")
     yield from contracts()
     yield from kept()
     lines = len((TOP / "docs/WORDS.md").read_text().splitlines())
