@@ -2,8 +2,8 @@
 the source has, each page that it names is there, each crate has a page, and in ARCHITECTURE a row with its files of definitions,
 each example of the library stands in a test as it stands on its page, the table of statements in docs/WORDS.md is up to date,
 docs/definitions.py prints the definitions that it is asked for and lists each that a clause of a statement names, each place that
-docs/ROWS.md and docs/WRONG_BODIES.md name is there, no function asks for what nobody can give, and no file that is kept is a log or names a folder of one
-machine.
+docs/ROWS.md and docs/WRONG_BODIES.md name is there, no function asks for what nobody can give, and no file that is kept is a log or
+names a folder of one machine.
 
     python3 tests/page_cases.py
 """

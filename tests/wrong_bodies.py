@@ -281,9 +281,9 @@ class Task:
         files = sorted((crate.folder / folder).glob("*"))
         try:
             self.before = crate.sum() if files else ""
-        except OSError as why:
-            files, lacks = [], Told(Verdict.UNTRIED, f"{why.filename} can't be read")
-            self.told.update((it.stem, lacks) for it in files)
+        except OSError as why:  # a library that isn't built, say
+            self.told.update((it.stem, Told(Verdict.UNTRIED, f"{why.filename} can't be read")) for it in files)
+            return
         for file in files:
             self.read(file)
 

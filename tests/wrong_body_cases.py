@@ -1,4 +1,4 @@
-"""Tries wrong_bodies.py itself on three small crates made for it: what it tells of wrong bodies that are refused, together and alone, that
+"""Tries wrong_bodies.py itself on small crates made for it: what it tells of wrong bodies that are refused, together and alone, that
 mean the same, that only a name refuses, that don't compile, that meet a limit, whose check is killed, that can't be applied, of a
 crate of which a contract is false; which checks it makes of them, and that what was told is kept.
 
@@ -131,6 +131,7 @@ BODIES: Dict[str, Tuple[str, str, str]] = {
     "sample/step-of_one": ("const STEP: u16 = 1;", "const STEP: u16 = 2 - 1;", STANDS),
     "limited/nine-its_check_is_killed": ("    9", "    8 // killed", f"{UNTRIED}: its check ended with status -9"),
     "limited/nine-at_a_limit": ("    9", "    7 // limit", LIMIT),
+    "above/nine-over_a_library_that_is_not_built": ("    9", "    8", UNTRIED),
     "falsely/six-of_a_false_five": ("five() + 1", "1 + five()", f"{UNTRIED}: the crate as it is isn't proved"),
     "falsely/seven-beside_a_false_five": ("    7", "    8", f"{REFUSED}falsely::seven"),
 }
@@ -151,8 +152,8 @@ exec {rattle} "$@"
 
 def make(tree: Path, rattle: str) -> None:
     """The crates with their wrong bodies, and the prover that they are tried with."""
-    sources = {"sample": SAMPLE, "limited": LIMITED, "falsely": FALSE}
-    (tree / "crates.txt").write_text("".join(f"{it}:\n" for it in sources))
+    sources = {"sample": SAMPLE, "limited": LIMITED, "falsely": FALSE, "above": LIMITED}
+    (tree / "crates.txt").write_text("sample:\nlimited:\nfalsely:\nabove: limited\n")
     for name, source in sources.items():
         (tree / f"crates/{name}/src").mkdir(parents=True)
         (tree / f"crates/{name}/wrong-bodies").mkdir()
