@@ -175,6 +175,21 @@ def times_noted(copy):
     return None if ran.returncode == 7 and is_right else f"status {ran.returncode}, {table}, {kinds}"
 
 
+def times_kept(copy):
+    """Those of a test that took nothing that was kept, and of no other."""
+    noted = "300 90 proofs\n60 0 tests\n120 40 wrong bodies\n60 20 programs\n60 30 programs\n"
+    copy.source("out/seconds", "low 600\ntlbridge 9\nother 5\n")
+    keep = [sys.executable, TOP / ".ci/took.py", "--keep"]
+    copy.source("out/took", f"# ./test \n{noted}")
+    refused = subprocess.run(keep, cwd=copy.root, stderr=subprocess.DEVNULL, timeout=60).returncode
+    copy.source("out/took", f"# ./test anew\n{noted}")
+    ran = subprocess.run(keep, cwd=copy.root, stdout=subprocess.PIPE, text=True, timeout=60)
+    seconds, took = (Path(os.fsdecode(copy.file(it))).read_text() for it in (".ci/seconds", ".ci/took"))
+    is_right = refused == 1 and (seconds, took) == ("low 600\nother 5\ntlbridge 9\n", "300 180 proofs\n60 0 tests\n120 0 wrong bodies\n120 0 programs\n")
+    is_right = is_right and ran.stdout == "10 processor minutes, 3 of the clock: proofs 5, tests 1, wrong bodies 2, programs 2\n"
+    return None if is_right else f"status {refused}, then {ran.stdout!r}, {seconds!r}, {took!r}"
+
+
 def words_pass(copy):
     """Also while the program is built."""
     for _ in range(2):
@@ -385,6 +400,7 @@ def cases(program):
         "a build that the keyboard stops": interrupted,
         "how long a build will take": time_to_go,
         "how long each crate took": times_noted,
+        "how long a whole test took": times_kept,
         "the words": words_pass,
         "an edited source": edited,
         "an edited source of a library": edited_below,
