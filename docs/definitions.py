@@ -108,15 +108,13 @@ STATEMENTS = (
     Statement(
         "judge",
         "When what was observed is right",
-        "`scoreboard::Scoreboard::judge`, clauses `exactly` and `memory`.",
+        "`scoreboard::Scoreboard::judge`, clauses `exactly`, `memory` and `known`.",
         (
             ("scoreboard", "Right", "IsRight"),
             ("scoreboard", "Boards", "opening_from"),
             ("scoreboard", "Boards", "IsReached"),
-            ("scoreboard", "Boards", "answer_to"),
             ("scoreboard", "InsideBoards", "board_of"),
-            ("scoreboard", "InsideBoards", "client_of"),
-            ("scoreboard", "Places", "wrong_place"),
+            ("scoreboard", "Boards", "MayBegin"),
             ("meaning", "Meaning", "bytes_after_all"),
         ),
     ),
@@ -140,7 +138,6 @@ STATEMENTS = (
             ("scoreboard", "Boards", "after_seen"),
             ("scoreboard", "InsideBoards", "board_of"),
             ("scoreboard", "Boards", "IsReached"),
-            ("scoreboard", "Places", "wrong_place"),
             ("scoreboard", "Boards", "opening_from"),
             ("scoreboard", "Right", "IsRight"),
         ),
@@ -152,8 +149,6 @@ STATEMENTS = (
         (
             ("scoreboard", "RealTime", "JudgesRightly"),
             ("scoreboard", "InsideBoards", "board_of"),
-            ("scoreboard", "InsideBoards", "client_of"),
-            ("scoreboard", "Places", "wrong_place"),
         ),
     ),
     Statement(
@@ -164,8 +159,72 @@ STATEMENTS = (
             ("scoreboard", "Wider", "LetsRightPass"),
             ("scoreboard", "Wider", "IsWiderAlong"),
             ("scoreboard", "InsideBoards", "board_of"),
-            ("scoreboard", "InsideBoards", "client_of"),
-            ("scoreboard", "Places", "wrong_place"),
+        ),
+    ),
+    Statement(
+        "unknown",
+        "What the scoreboard says of beats with unknown bytes",
+        "`scoreboard::Scoreboard::judge_unknown`, clauses `answer`, `state`, `known` and `board`.",
+        (
+            ("scoreboard", "Unknown", "unknown_wrong"),
+            ("scoreboard", "Unknown", "after_seen_unknown"),
+            ("scoreboard", "Unknown", "some_begun"),
+            ("scoreboard", "InsideBoards", "unknown_board"),
+            ("scoreboard", "InsideBoards", "board_of"),
+            ("scoreboard", "Boards", "wrong_at"),
+            ("scoreboard", "Boards", "after_seen"),
+        ),
+    ),
+    Statement(
+        "reset",
+        "What a reset leaves",
+        "`scoreboard::Scoreboard::reset`, clauses `state` and `rightly`.",
+        (
+            ("scoreboard", "Resets", "ResetsRightly"),
+            ("scoreboard", "Resets", "reset_on"),
+            ("scoreboard", "InsideBoards", "board_of"),
+        ),
+    ),
+    Statement(
+        "fill",
+        "What the memory began with, as a tester says it",
+        "`scoreboard::Scoreboard::fill`, clauses `filled`, `opening` and `err`.",
+        (
+            ("scoreboard", "Filling", "filled_on"),
+            ("scoreboard", "Filling", "filled_beginning"),
+            ("scoreboard", "Boards", "opening_from"),
+            ("scoreboard", "InsideBoards", "board_of"),
+            ("serial_memory", "SerialMemory", "can_fill"),
+        ),
+    ),
+    Statement(
+        "room",
+        "When the scoreboard may want memory",
+        "`scoreboard::Scoreboard::judge`, clauses `refused` and `cause`.",
+        (
+            ("scoreboard", "Room", "asks_for_room"),
+            ("scoreboard", "InsideBoards", "board_of"),
+            ("serial_memory", "SerialMemory", "rooms_of"),
+        ),
+    ),
+    Statement(
+        "places",
+        "What the scoreboard says of where bursts go",
+        "`scoreboard::AxiPlaces::judge`.",
+        (("scoreboard", "Places", "wrong_place"),),
+    ),
+    Statement(
+        "missing",
+        "What is missing at the end",
+        "`scoreboard::Scoreboard::source_due`, `scoreboard::Scoreboard::open_write`, `scoreboard::Scoreboard::open_read`, "
+        "`scoreboard::Scoreboard::writes_without_address` and `scoreboard::Scoreboard::source_begun`.",
+        (
+            ("scoreboard", "Unanswered", "sources_due"),
+            ("scoreboard", "Unanswered", "writes_open"),
+            ("scoreboard", "Unanswered", "reads_open"),
+            ("scoreboard", "Unanswered", "writes_without_address"),
+            ("scoreboard", "Unanswered", "source_begun"),
+            ("scoreboard", "InsideBoards", "board_of"),
         ),
     ),
     Statement(
@@ -179,6 +238,18 @@ STATEMENTS = (
             ("script_text", "Scripts", "text_of"),
             ("script_text", "Scripts", "text_before_failure"),
         ),
+    ),
+    Statement(
+        "score-handle",
+        "What a call of the scoreboard's handle does",
+        "`score_calls::Handle::call`.",
+        (("score_calls", "Handles", "Called"),),
+    ),
+    Statement(
+        "bridge-handle",
+        "What a call of the model's handle does",
+        "`bridge_calls::BridgeHandle::call`.",
+        (("bridge_calls", "Handles", "Called"),),
     ),
 )
 

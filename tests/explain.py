@@ -43,6 +43,12 @@ SIDES = {
     "beat-dropped": "request",
     "unknown-read": "read",
 }
+# What is missing at the end of rows of examples/scoreboard: the side, and what is said of it.
+MISSING = {
+    "end-with-a-lost-address": ("write", "no AW asks for them", "1 W beat from line 7 on"),
+    "end-with-data-alone": ("write", "2 W beats from line 8 on", "1 W beat from line 13 on"),
+    "end-with-messages-begun": ("request", "stopped after 1 beat of 2", "client 0 source 6 (line 5)"),
+}
 BROWSERS = ("chromium", "chromium-browser", "google-chrome")
 COLOURS = ("cfe3ff", "d8f5d0", "9fc4f5", "aee3a0", "dd0000")  # of Puts, Gets, writes, reads and what is wrong
 Case = Tuple[str, Optional[str]]
@@ -62,6 +68,16 @@ def sides() -> Iterator[Case]:
         found = re.search(r"(?m)^  look at the (\w+)", ran.stdout)
         why = None if found and found[1] == side and ran.returncode == 1 else f"status {ran.returncode}, {ran.stdout}{ran.stderr}"
         yield f"the side of {name}", why or misquoted(ran.stdout, run_of(name)[0].read_text().splitlines())
+
+
+def missing(folder: Path) -> Iterator[Case]:
+    """What is missing at the end of an observation: its side, what is said of it, and that it is drawn."""
+    for name, (side, *said) in MISSING.items():
+        row, page = TOP / "examples/scoreboard" / name, folder / "missing.html"
+        ran = command("explain", row.with_suffix(".in"), row.with_suffix(".out"), "--html", page)
+        is_said = f"  look at the {side}" in ran.stdout and all(it in ran.stdout for it in said)
+        is_well = ran.returncode == 1 and is_said and page.exists()
+        yield f"what is missing: {name}", None if is_well else f"status {ran.returncode}, {ran.stdout}{ran.stderr}"
 
 
 def misquoted(text: str, lines: List[str]) -> Optional[str]:
@@ -343,6 +359,7 @@ def misplaced(vcd: Path, lines: Path, verdict: Path) -> Optional[str]:
 
 def cases(folder: Path, score: str) -> Iterator[Case]:
     yield from sides()
+    yield from missing(folder)
     yield from waved(folder)
     yield from hostile(folder)
     yield from mutated(score)

@@ -28,7 +28,8 @@ ROW = re.compile(r"(?m)^\| (\w+) \| ((?:\w+, )*\w+) \| ")
 EXAMPLE = re.compile(r"(?ms)^```rust\n(.*?)^```$")
 TESTED = TOP / "crates/layer_tests/src/tests/pages.rt"
 # A call that a statement is of, and a clause of a function's head.
-CALL = re.compile(r"`(\w+)::(?:\w+::)*(\w+)`")
+CALL = re.compile(r"`(\w+)::(?:(\w+)::)?(\w+)`")
+OWNER = re.compile(r"(?m)^impl(?:<.*?>)? (?:[\w:<>, ]+ for )?(\w+)")
 CLAUSE = re.compile(r"(?ms)^ *ensures (?:(\w+) )?{(.*?)}$")
 # A clause that a caller has to meet, and what in one nobody can: no value is of an empty type, and nothing lies at null.
 ASKED = re.compile(r"(?ms)^ *requires\*? (?:\w+ )?{(.*?)}$")
@@ -43,12 +44,14 @@ ENTRY, DEFINED = re.compile(r'"([^"]+)"'), re.compile(r"`(\w+)`")
 MACHINE = re.compile(rb"(?<![\w.])/(?:home|mnt|opt|root|srv|tmp|work|Users)/\w")
 
 
-def heads(crate, call):
-    """The head of each public function of that name, which ends before its body, with the text of its file."""
+def heads(crate, call, owner=""):
+    """The head of each public function of that name, of that type where one is given, which ends before its body, with the text of its
+    file."""
     for file in (TOP / "crates" / crate / "src").rglob("*.rt"):
         text = file.read_text()
-        for head in re.findall(rf"(?ms)^ *pub(?:\(crate\))? fn {call}\b.*?^ *{{$", text):
-            yield head, text
+        for head in re.finditer(rf"(?ms)^ *pub(?:\(crate\))? fn {call}\b.*?^ *{{$", text):
+            if not owner or OWNER.findall(text[: head.start()])[-1:] == [owner]:
+                yield head[0], text
 
 
 def has_clause(crate, call, clause):
@@ -71,8 +74,8 @@ def named_in(files, clause, text):
 def rests_on(files, statement):
     """Each definition that the clauses of a statement name: of a call those that are named with it, and one without a name."""
     wanted = ["", *re.findall(r"`(\w+)`", statement)]
-    for crate, call in CALL.findall(statement):
-        for head, text in heads(crate, call):
+    for crate, owner, call in CALL.findall(statement):
+        for head, text in heads(crate, call, owner):
             for clause, body in CLAUSE.findall(head):
                 if clause in wanted:
                     yield from named_in(files, body, text)

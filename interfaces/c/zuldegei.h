@@ -46,7 +46,7 @@ typedef struct tlscore tlscore;
 enum tlscore_verdict {
     TLSCORE_OK = 0,        /* nothing is wrong */
     TLSCORE_NO_CLIENT = 1, /* there is no such client */
-    TLSCORE_REQUEST = 100, /* a request breaks a rule of channel A, from 1 OPCODE to 17 X */
+    TLSCORE_REQUEST = 100, /* a request breaks a rule of channel A, from 1 OPCODE to 17 X, or 18 UNFINISHED, which tlscore_end alone finds */
     TLSCORE_REPLY = 200,   /* a reply can't be right, from 1 UNASKED to 9 UNANSWERED, which tlscore_end alone finds */
     TLSCORE_AXI = 300      /* a rule of the AXI4 port is broken, from 1 SIZE to 13 X, 14 UNANSWERED and 15 PLACE */
 };

@@ -4,7 +4,7 @@ from enum import Enum
 from typing import Dict, List, NamedTuple, Optional, Tuple
 
 from .history import Burst, Given, History, Request, Transfer
-from .observation import AR, AW, PAGE, W, WORD, Beat, Wrong, byte_of, number, plural, spans
+from .observation import AR, AT_END, AW, PAGE, W, WORD, Beat, Wrong, byte_of, number, plural, spans
 
 MOST_LISTED = 4  # requests of a list
 
@@ -59,7 +59,7 @@ class Explainer:
     def cause(self, wrong: Wrong) -> Cause:
         """What is behind a wrong line."""
         found = self.history.of_line.get(wrong.line)
-        cause = self.unanswered(wrong) if wrong.name == "UNANSWERED" else self.of_beat(wrong, found)
+        cause = self.at_end(wrong) if wrong.name in AT_END else self.of_beat(wrong, found)
         related = (found.request,) if isinstance(found, Burst) else tuple(found.bursts) if isinstance(found, Request) else ()
         behind = [it for it in (found, *related, *cause.behind) if it is not None]
         return cause._replace(behind=tuple({id(it): it for it in behind}.values()))
@@ -69,9 +69,11 @@ class Explainer:
         return sorted(wrong, key=lambda it: (it.line, self.begun(it)))
 
     def begun(self, wrong: Wrong) -> int:
-        """The line in which an unanswered request or burst began; of any other wrong beat no line."""
-        if wrong.name != "UNANSWERED":
+        """The line in which a request or burst began that isn't over at the end; of any other wrong beat no line."""
+        if wrong.name not in AT_END:
             return 0
+        if wrong.side == "data":
+            return next((it[0].line for it in self.history.data_alone()), wrong.line)
         if wrong.side:
             burst = self.unanswered_burst(wrong)
             return burst.beat.line if burst else wrong.line
@@ -148,8 +150,12 @@ class Explainer:
 
     # ---- replies
 
-    def unanswered(self, wrong: Wrong) -> Cause:
-        """What was still due at the observation's end."""
+    def at_end(self, wrong: Wrong) -> Cause:
+        """What wasn't over at the observation's end."""
+        if wrong.name == "UNFINISHED":
+            return self.unfinished(wrong)
+        if wrong.side == "data":
+            return self.data_alone()
         if wrong.side:
             burst = self.unanswered_burst(wrong)
             return Cause(Side.ANSWER, f"A {wrong.side} of ID {wrong.id} got no answer.", self.burst_grounds(burst), (burst,))
@@ -157,6 +163,21 @@ class Explainer:
         if request is None:
             return Cause(Side.REPLY, "A reply that is due didn't come.", [])
         return self.never_replied(request)._replace(behind=(request, *request.bursts))
+
+    def unfinished(self, wrong: Wrong) -> Cause:
+        """A message that lacks beats."""
+        request = self.last_of(wrong.client, wrong.source, wrong.line, is_open=True)
+        if request is None:
+            return Cause(Side.REQUEST, "A message on channel A has begun, and isn't whole.", [])
+        sentence = f"Its message on channel A stopped after {plural(len(request.beats), 'beat')} of {request.beats_due}."
+        return Cause(Side.REQUEST, sentence, [self.named(request), *self.its_bursts(request)], (request, *request.bursts))
+
+    def data_alone(self) -> Cause:
+        """W beats for which no AW came. Each AW takes the data that came first, so that those left over may be another write's."""
+        writes = self.history.data_alone()
+        grounds = [f"{plural(len(it), 'W beat')} from {self.at(it[0].line)} on" for it in writes[:MOST_LISTED]]
+        sentence = "Data of a write came on W, and no AW asks for them: an AW is lost, here or earlier, or wasn't printed."
+        return Cause(Side.WRITE, sentence, grounds)
 
     def never_replied(self, request: Request) -> Cause:
         """How far a request came that got no whole reply."""

@@ -270,6 +270,15 @@ class History:
         if burst.is_whole:
             self.lacking.popleft()
 
+    def data_alone(self) -> List[List[Beat]]:
+        """The W beats for which no AW came, by their writes, each of which ends with its last beat."""
+        writes: List[List[Beat]] = []
+        for beat in self.early:
+            if not writes or writes[-1][-1].words[2] == "1":
+                writes.append([])
+            writes[-1].append(beat)
+        return writes
+
     def answer(self, beat: Beat) -> None:
         """Takes a B."""
         waiting = self.open.get((AW, number(beat.words[0])))

@@ -11,9 +11,10 @@ NOT_TAKEN = ("noclient", "refused", "notready", "exhausted")
 GET, INTENT, LAST_WITH_DATA, LAST_PUT = 4, 5, 3, 1
 OPERATIONS = ("PutFull", "PutPartial", "Arithmetic", "Logical", "Get", "Intent")
 BUS, PAGE, WORD = 8, 4096, 8  # bytes
+AT_END = ("UNANSWERED", "UNFINISHED")  # what is told of the end of an observation, and of no beat
 WRONG = re.compile(
     r"= wrong (?P<line>\d+) (?P<kind>client|request|axi|reply) (?P<number>\d+) (?P<name>\w+)(?: expected (?P<due>D .*?))?"
-    r"(?: client (?P<client>\d+) source (?P<source>\d+))?(?: (?P<side>write|read) (?P<id>\d+))?(?: at (?P<time>\d+))?"
+    r"(?: client (?P<client>\d+) source (?P<source>\d+))?(?: (?P<side>write|read|data)(?: (?P<id>\d+))?)?(?: at (?P<time>\d+))?"
 )
 JUDGED = re.compile(
     r"= judged (?P<beats>\d+) wrong (?P<wrong>\d+) outstanding (?P<outstanding>\d+) open (?P<open>\d+) "
@@ -186,7 +187,7 @@ def check_same(observation: Observation, verdict: Verdict) -> None:
     beats = {it.line for it in observation.beats()}
     ends = {it.line for it in observation.entries if isinstance(it, Event) and it.name == "end"}
     for wrong in verdict.wrong:
-        if wrong.line not in (ends if wrong.name == "UNANSWERED" else beats):
+        if wrong.line not in (ends if wrong.name in AT_END else beats):
             raise Fault(f"the verdict isn't of this observation: {wrong.text[:80]!r}, and line {wrong.line} isn't what it tells of")
 
 

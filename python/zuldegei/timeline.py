@@ -7,7 +7,7 @@ from string import Template
 from typing import Dict, List, Optional, Sequence
 
 from .history import Burst, History, Request
-from .observation import GET, Beat, Verdict, Wrong
+from .observation import AT_END, GET, Beat, Verdict, Wrong
 
 HERE = Path(__file__).parent
 LONGEST = 14  # characters of an operation's name in a bar
@@ -84,7 +84,7 @@ class Timeline:
             words = self.observation.lines[wrong.line].split()
             client, source = (int(it) if it.isdigit() else None for it in (words[1], words[5]))
         found = [it for it in self.history.requests if (it.client, it.source) == (client, source) and it.begun < wrong.line]
-        is_open = [it for it in found if it.ended is None] if wrong.name == "UNANSWERED" else found
+        is_open = [it for it in found if it.ended is None] if wrong.name in AT_END else found
         return is_open[-1] if is_open else None
 
     def data(self, texts: List[str], causes: Sequence[Sequence[object]]) -> dict:

@@ -7,6 +7,7 @@ mod asked;
 mod bench;
 mod bridge_bench;
 mod calls;
+mod checkers;
 mod choices;
 mod constructors;
 mod flights;

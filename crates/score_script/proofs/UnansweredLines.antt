@@ -16,7 +16,7 @@ use Rattle.scoreboard.specs.Boards.{ClientBoard, replies_open}
 use Rattle.scoreboard.specs.Flights.{InFlight, in_flight, replies_left}
 use Rattle.scoreboard.specs.Unanswered.{sources_due}
 use Rattle.score_script.specs.FindingTexts.{line_end}
-use Rattle.score_script.specs.UnansweredTexts.{burst_text, burst_words, ids_open, reply_text, reply_words}
+use Rattle.score_script.specs.UnansweredTexts.{burst_text, burst_words, data_text, data_words, ids_open, reply_text, reply_words}
 use Rattle.score_script.specs.declared.findings.Line.{Line}
 use Rattle.score_script.specs.declared.unanswered.Side.{Side}
 use Rattle.score_script.specs.declared.unanswered.Side.TheVariants.{Read, Write}
@@ -85,6 +85,13 @@ one_more f n =
     let joined : range_with_len 0 n ++ n ∷ [] ≡ range_with_len 0 (n + 1) = rw plain at (range_with_len-append-range_with_len 0 n 1) in
     ap (flat_map f) (sym joined) ∙ flat_map-append f (range_with_len 0 n) (n ∷ []) ∙ ap (λ text. flat_map f (range_with_len 0 n) ++ text) (append-nil (f n))
 
+-- the text of the next number, where it has some
+pub wrote_next : (f : ℕ → List ℕ) (n : ℕ) (before between after : Option (List ℕ)) (wrote : Bool) → f n ≢ [] → Wrote (flat_map f (range_with_len 0 n)) before between wrote → Appends between after (f n)
+    → Wrote (flat_map f (range_with_len 0 (n + 1))) before after true
+wrote_next f n before between after wrote some so_far more =
+    rw (one_more f n)
+    (Appends-trans before between after (flat_map f (range_with_len 0 n)) (f n) so_far.0 more, λ is. search rules, λ is. some_after (flat_map f (range_with_len 0 n)) (f n) some)
+
 -- where a number has text, all have some
 pub some_of : (f : ℕ → List ℕ) (a n k : ℕ) → k < n → f (a + k) ≢ [] → flat_map f (range_with_len a n) ≢ []
 some_of f a zero k below some = absurd (omega (arith, below))
@@ -100,6 +107,9 @@ reply_some line client source = some_after (reply_words line.number client sourc
 
 pub burst_some : (line : Line) (side : Side) (id : ℕ) → burst_text line side id ≢ []
 burst_some line side id = some_after (burst_words line.number side id) (line_end line.time) (end_some line.time)
+
+pub data_some : (line : Line) → data_text line ≢ []
+data_some line = some_after (data_words line.number) (line_end line.time) (end_some line.time)
 
 -- as many replies of a client are due as there are at most of all
 pub few_due : (clients : List ClientBoard) (k : ℕ) → length (sources_due (slice_get clients k)) ≤ replies_open clients

@@ -3,10 +3,10 @@ use Rattle.std.specs.Prelude.{ℕ, ◌≡◌, ◌⊎◌, ◌+◌, ◌<◌, Bool,
 use Rattle.std.specs.Str.Lines.{strip_carriage_return}
 use Rattle.axi_checker.specs.Names.{rule_number}
 use Rattle.score_script.specs.FindingTexts.{optional_text}
-use Rattle.score_script.specs.Profiles.{PolicyBoard, bursts_open, replies_open}
+use Rattle.score_script.specs.Profiles.{PolicyBoard}
 use Rattle.score_script.specs.ScoreStates.{score_of}
 use Rattle.score_script.specs.Scores.{FailsBy, Score, called_score, commanded_score, finds, finds_at_once, finds_text, line_at, score_reading, settling, wrong_command}
-use Rattle.score_script.specs.UnansweredTexts.{unanswered_text}
+use Rattle.score_script.specs.UnansweredTexts.{unanswered_code, unanswered_text}
 use Rattle.score_script.specs.declared.findings.Finding.{Finding}
 use Rattle.score_script.specs.declared.findings.Finding.TheVariants as finding
 use Rattle.score_script.specs.declared.observation.Found.{Found}
@@ -45,13 +45,10 @@ finding_code None = 0
 finding_code (Some (finding.Beat line client wrong)) = wrong_code wrong
 finding_code (Some (finding.Byte byte)) = 0
 
--- of what has no answer where the observation is over: replies come first
-abbrev pub unanswered_code : ℕ → ℕ → ℕ
-unanswered_code replies bursts = if nat_lt 0 replies then 209 else (if nat_lt 0 bursts then 314 else 0)
-
+-- of what has no answer, where it was said that the observation is over
 abbrev pub over_code : PolicyBoard → Bool → ℕ
 over_code board false = 0
-over_code board true = unanswered_code (replies_open board) (bursts_open board)
+over_code board true = unanswered_code board.board
 
 -- the first of two
 abbrev pub first_code : ℕ → ℕ → ℕ

@@ -18,6 +18,7 @@ use Rattle.score_script.specs.declared.score.Counts.{Counts}
 use Rattle.score_script.specs.declared.score.HeldBeat.{HeldBeat}
 use Rattle.burst_plan.specs.declared.Region.{Region}
 use Rattle.scoreboard.specs.Places.{wrong_place}
+use Rattle.scoreboard.specs.Unanswered.{messages_begun, writes_without_address}
 use Rattle.scoreboard.specs.declared.ObservedBeat.{ObservedBeat}
 use Rattle.scoreboard.specs.declared.ObservedBeat.TheVariants.{A, D, Axi, Drained}
 use Rattle.scoreboard.specs.declared.ReplyRule.TheVariants.{Unknown}
@@ -193,9 +194,12 @@ unclear settled line port client =
       after = record settled.1 { judged = counted settled.1.judged; wrong = counted settled.1.wrong };
     }
 
--- how much was found wrong where the observation is over: each reply that is due, and each open burst, too
+-- how much was found wrong where the observation is over: each reply that is due, each open burst, each write of which there are data alone, and each
+-- message that isn't whole, too
 abbrev pub wrong_at_end : Score → ℕ
-wrong_at_end score = with_more (with_more score.wrong (replies_open score.board)) (bursts_open score.board)
+wrong_at_end score =
+    with_more (with_more (with_more (with_more score.wrong (replies_open score.board)) (bursts_open score.board)) (writes_without_address score.board.board.axi))
+    (messages_begun score.board.board.clients)
 
 -- the lines of what has no answer, where a command of this line says that the observation is over
 abbrev pub unanswered_by : Score → ℕ → Command → List ℕ

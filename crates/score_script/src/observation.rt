@@ -3,7 +3,7 @@ ghost use Rattle.std.specs.Prelude.{◌≡◌, IfOk, None, OnOk};
 ghost use Rattle.std.specs.Io.KnownBytes.{Appends};
 ghost use Rattle.std.specs.Str.Lines.{strip_carriage_return};
 ghost use Rattle.script_text.specs.Stages.{GivesWorld, Opening, world_at};
-ghost use Rattle.score_script.specs.Observations.{CallTold, LineTold, SetUpTold, TakeTold, finding_code, first_code, found_left, next_number, nothing_found, observing_code, observing_of, observing_text, stage_in, unanswered_code, wrong_code};
+ghost use Rattle.score_script.specs.Observations.{CallTold, LineTold, SetUpTold, TakeTold, finding_code, first_code, found_left, next_number, nothing_found, observing_code, observing_of, observing_text, stage_in, wrong_code};
 ghost use Rattle.score_script.specs.Profiles.{byte_in};
 ghost use Rattle.score_script.specs.ScoreStates.{score_of};
 ghost use Rattle.score_script.specs.Scores.{counts_of, score_kind};
@@ -56,19 +56,6 @@ fn first_code(code: u32, next: u32) -> u32
         return code;
     }
     next
-}
-
-/// What has no answer where the observation is over, as such a number.
-fn unanswered_code(replies: u16, bursts: usize) -> u32
-    ensures { result ≡ unanswered_code replies bursts }
-{
-    if replies > 0 {
-        return 209;
-    }
-    if bursts > 0 {
-        return 314;
-    }
-    0
 }
 
 /// A line without the carriage return at its end, if it has one.
@@ -213,8 +200,7 @@ impl Observation {
     {
         let Found { findings, over } = self.found;
         let left = if over {
-            let counts = self.score.counts();
-            unanswered_code(counts.outstanding, counts.open_bursts)
+            self.score.unanswered_code()
         } else {
             0
         };

@@ -11,7 +11,7 @@ ghost use Rattle.score_script.specs.Scores.{found, FailsBy, Leaves, LeavesBy, be
 ghost use Rattle.score_script.specs.ScoreStates.{score_of};
 ghost use Rattle.score_script.specs.declared.score.Command.TheVariants.{Answer, Observed};
 ghost use Rattle.score_script.specs.FindingTexts.{WritesText};
-ghost use Rattle.score_script.specs.UnansweredTexts.{unanswered_text};
+ghost use Rattle.score_script.specs.UnansweredTexts.{unanswered_code, unanswered_text};
 
 use crate::fills::FillBytes;
 use crate::findings::{
@@ -19,7 +19,7 @@ use crate::findings::{
 };
 use crate::lines::{Channel, SeenBeat};
 use crate::profiles::Asked;
-use crate::unanswered::unanswered_lines;
+use crate::unanswered::{unanswered_code, unanswered_lines};
 use burst_plan::Region;
 use line_text::WriteFault;
 use score_setup::ScoreSetup;
@@ -433,6 +433,8 @@ impl Score {
         findings.own = None;
         self.wrong = with_more(self.wrong, u64::from(self.board.outstanding()));
         self.wrong = with_more(self.wrong, self.board.open_bursts() as u64);
+        self.wrong = with_more(self.wrong, self.board.writes_without_address() as u64);
+        self.wrong = with_more(self.wrong, u64::from(self.board.messages_begun()));
         self.ended = true;
         Ok(())
     }
@@ -629,6 +631,13 @@ impl Score {
         ensures { WritesText (unanswered_text (line_at (score_of self.now) number) (score_of self.now).board.board) (W.contents writer.old) (W.contents writer.new) result }
     {
         unanswered_lines(&self.line_at(number), &self.board, writer)
+    }
+
+    /// The first of these lines, as a number.
+    pub(crate) fn unanswered_code(&self) -> u32
+        ensures { result ≡ unanswered_code (score_of self.now).board.board }
+    {
+        unanswered_code(&self.board)
     }
 
     /// How much was judged and found so far, and what has no answer yet.

@@ -1,8 +1,8 @@
 //! The lines of what has no answer when an observation is over.
-ghost use Rattle.std.specs.Prelude.{◌≡◌, OnOk, slice_get};
+ghost use Rattle.std.specs.Prelude.{◌≡◌, ◌++◌, OnOk, slice_get};
 ghost use Rattle.std.specs.Io.KnownBytes.{Appends};
 ghost use Rattle.score_script.specs.FindingTexts.{WritesText};
-ghost use Rattle.score_script.specs.UnansweredTexts.{all_replies_text, burst_text, burst_words, bursts_text, ids_open, replies_text, reply_text, reply_words, side_name, unanswered_text};
+ghost use Rattle.score_script.specs.UnansweredTexts.{all_data_text, all_owed_text, burst_text, burst_words, bursts_text, data_text, data_words, ids_open, message_text, message_words, owed_text, port_text, replies_text, reply_text, reply_words, side_name, unanswered_code, unanswered_text};
 ghost use Rattle.scoreboard.specs.InsideBoards.{board_of};
 
 use crate::findings::{Line, line_end};
@@ -17,6 +17,15 @@ pub(crate) enum Side {
     Write,
     /// Reads.
     Read,
+}
+
+/// What a client may leave open.
+#[derive(Clone, Copy)]
+pub(crate) enum Owed {
+    /// The replies that are due to it.
+    Replies,
+    /// The rest of the message that it has begun.
+    Message,
 }
 
 impl Side {
@@ -123,23 +132,126 @@ fn bursts_lines<W: Write>(
     Ok(wrote)
 }
 
-/// Writes the lines of the replies that are due to any client. The answer is whether there was any.
-fn all_replies_lines<W: Write>(
-    line: &Line,
-    board: &Scoreboard,
-    writer: &mut W,
-) -> Result<bool, WriteFault>
-    ensures { WritesText (all_replies_text line.now (board_of board.now)) (W.contents writer.old) (W.contents writer.new) result }
+/// Writes that data of a write came, and no address, by the number of the line at which the observation is over.
+fn data_words<W: Write>(number: u32, writer: &mut W) -> Result<(), WriteFault>
+    ensures { OnOk result (Appends (W.contents writer.old) (W.contents writer.new) (data_words number)) }
+{
+    Ok(write!(writer, "= wrong {number} axi 14 UNANSWERED data")?)
+}
+
+/// Writes the line of data of a write whose address didn't come.
+fn data_line<W: Write>(line: &Line, writer: &mut W) -> Result<(), WriteFault>
+    ensures { OnOk result (Appends (W.contents writer.old) (W.contents writer.new) (data_text line.now)) }
+{
+    data_words(line.number, writer)?;
+    line_end(line.time, writer)
+}
+
+/// Writes a line for each write of which there are data alone. The answer is whether there was any.
+fn data_lines<W: Write>(line: &Line, board: &Scoreboard, writer: &mut W) -> Result<bool, WriteFault>
+    ensures { WritesText (all_data_text line.now (board_of board.now)) (W.contents writer.old) (W.contents writer.new) result }
 {
     let mut wrote = false;
-    for client in 0..board.clients() {
-        wrote |= replies_lines(line, board, client, writer)?;
+    for _write in 0..board.writes_without_address() {
+        data_line(line, writer)?;
+        wrote = true;
     }
     Ok(wrote)
 }
 
-/// Writes a line for each reply that is due and each open burst, by the line at which the observation is over. The answer is
-/// whether there was any.
+/// Writes that a message isn't whole, by the number of the line at which the observation is over.
+fn message_words<W: Write>(
+    number: u32,
+    client: u8,
+    source: u8,
+    writer: &mut W,
+) -> Result<(), WriteFault>
+    ensures { OnOk result (Appends (W.contents writer.old) (W.contents writer.new) (message_words number client source)) }
+{
+    Ok(write!(
+        writer,
+        "= wrong {number} request 18 UNFINISHED client {client} source {source}"
+    )?)
+}
+
+/// Writes the line of the message that a client has begun and that isn't whole, by its source, if there is one. The answer is
+/// whether there was one.
+fn message_line<W: Write>(
+    line: &Line,
+    client: u8,
+    source: Option<u8>,
+    writer: &mut W,
+) -> Result<bool, WriteFault>
+    ensures { WritesText (message_text line.now client source) (W.contents writer.old) (W.contents writer.new) result }
+{
+    let Some(source) = source else {
+        return Ok(false);
+    };
+    message_words(line.number, client, source, writer)?;
+    line_end(line.time, writer)?;
+    Ok(true)
+}
+
+/// Writes the lines of what a client leaves open. The answer is whether there was any.
+fn owed_lines<W: Write>(
+    owed: Owed,
+    line: &Line,
+    board: &Scoreboard,
+    client: u8,
+    writer: &mut W,
+) -> Result<bool, WriteFault>
+    ensures { WritesText (owed_text owed line.now (board_of board.now) client) (W.contents writer.old) (W.contents writer.new) result }
+{
+    match owed {
+        Owed::Replies => replies_lines(line, board, client, writer),
+        Owed::Message => message_line(line, client, board.source_begun(client), writer),
+    }
+}
+
+/// Writes the lines of what any client leaves open. The answer is whether there was any.
+fn all_owed_lines<W: Write>(
+    owed: Owed,
+    line: &Line,
+    board: &Scoreboard,
+    writer: &mut W,
+) -> Result<bool, WriteFault>
+    ensures { WritesText (all_owed_text owed line.now (board_of board.now)) (W.contents writer.old) (W.contents writer.new) result }
+{
+    let mut wrote = false;
+    for client in 0..board.clients() {
+        wrote |= owed_lines(owed, line, board, client, writer)?;
+    }
+    Ok(wrote)
+}
+
+/// Writes the lines of what has no answer on the AXI4 port. The answer is whether there was any.
+fn port_lines<W: Write>(line: &Line, board: &Scoreboard, writer: &mut W) -> Result<bool, WriteFault>
+    ensures { WritesText (port_text line.now (board_of board.now)) (W.contents writer.old) (W.contents writer.new) result }
+{
+    let writes = bursts_lines(line, board, Side::Write, writer)?;
+    let reads = bursts_lines(line, board, Side::Read, writer)?;
+    let data = data_lines(line, board, writer)?;
+    Ok(writes | (reads | data))
+}
+
+/// What has no answer where the observation is over, as the number of the first of its lines: 0 where all has.
+pub(crate) fn unanswered_code(board: &Scoreboard) -> u32
+    ensures { result ≡ unanswered_code (board_of board.now) }
+{
+    if board.outstanding() > 0 {
+        return 209;
+    }
+    if board.open_bursts() > 0 || board.writes_without_address() > 0 {
+        return 314;
+    }
+    if board.messages_begun() > 0 {
+        return 118;
+    }
+    0
+}
+
+/// Writes a line for each reply that is due, each open burst, each write of which there are data alone, and each message that isn't
+/// whole, by the line at which the observation is over. The answer is whether there was any.
 pub(crate) fn unanswered_lines<W: Write>(
     line: &Line,
     board: &Scoreboard,
@@ -147,8 +259,8 @@ pub(crate) fn unanswered_lines<W: Write>(
 ) -> Result<bool, WriteFault>
     ensures { WritesText (unanswered_text line.now (board_of board.now)) (W.contents writer.old) (W.contents writer.new) result }
 {
-    let replies = all_replies_lines(line, board, writer)?;
-    let writes = bursts_lines(line, board, Side::Write, writer)?;
-    let reads = bursts_lines(line, board, Side::Read, writer)?;
-    Ok(replies | (writes | reads))
+    let replies = all_owed_lines(Owed::Replies, line, board, writer)?;
+    let port = port_lines(line, board, writer)?;
+    let messages = all_owed_lines(Owed::Message, line, board, writer)?;
+    Ok(replies | (port | messages))
 }

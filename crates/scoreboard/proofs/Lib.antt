@@ -1,4 +1,5 @@
 pub mod MappedLists
+pub mod Openings
 pub mod PlacesInLists
 pub mod acceptance_order
 pub mod held

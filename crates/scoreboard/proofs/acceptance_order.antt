@@ -2,6 +2,7 @@ pub mod BoardClients
 pub mod BoardOf
 pub mod DueLists
 pub mod Fixed
+pub mod KnownBytes
 pub mod KnownLanes
 pub mod Meanings
 pub mod Owed

@@ -14,6 +14,7 @@ pub mod RealTime
 pub mod Replies
 pub mod Resets
 pub mod Right
+pub mod Room
 pub mod Telling
 pub mod Unanswered
 pub mod Unknown

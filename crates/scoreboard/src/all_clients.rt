@@ -8,11 +8,13 @@ ghost use Rattle.serial_memory.specs.SerialMemory.{doubts_of, rooms_of};
 ghost use Rattle.scoreboard.specs.InsideBoards.{ClientsHaveRoom, HaveRoomToWrite, IsMarkedAlone, client_of, footprint_of};
 ghost use Rattle.scoreboard.specs.Races.{beside_all, beside_dependent};
 ghost use Rattle.scoreboard.specs.Resets.{reset_client};
+ghost use Rattle.scoreboard.specs.Unanswered.{messages_begun};
 
 use crate::clients::Client;
 use crate::failed_bursts::{Reach, Span};
 use crate::footprint::Footprint;
 use crate::in_flight::InFlight;
+use crate::tellings::one_if;
 use score_setup::ScoreConfig;
 use serial_memory::SerialMemory;
 use std::alloc::{AllocError, Global};
@@ -42,6 +44,18 @@ pub(crate) fn outstanding_of(clients: &[Client]) -> u16
     let mut count = 0;
     for client in clients {
         count += client.outstanding();
+    }
+    count
+}
+
+/// How many of some clients, at most eight, have begun a message that isn't whole.
+pub(crate) fn begun_of(clients: &[Client]) -> u8
+    requires { length clients.now ≤ 8 }
+    ensures { result ≡ messages_begun (map client_of clients.now) }
+{
+    let mut count = 0;
+    for client in clients {
+        count += one_if(client.has_begun());
     }
     count
 }

@@ -5,9 +5,9 @@ ghost use Rattle.serial_memory.specs.SerialMemory.{byte_at};
 ghost use Rattle.scoreboard.specs.Boards.{replies_open};
 ghost use Rattle.scoreboard.specs.InsideBoards.{board_of};
 ghost use Rattle.scoreboard.specs.Telling.{telling_of};
-ghost use Rattle.scoreboard.specs.Unanswered.{reads_open, sources_due, writes_open};
+ghost use Rattle.scoreboard.specs.Unanswered.{messages_begun, reads_open, source_begun, sources_due, writes_open, writes_without_address};
 
-use crate::all_clients::outstanding_of;
+use crate::all_clients::{begun_of, outstanding_of};
 use crate::board::Scoreboard;
 use crate::{ObservedBeat, Telling};
 
@@ -53,6 +53,29 @@ impl Scoreboard {
         ensures { result ≡ slice_get (reads_open self.now.axi) place }
     {
         self.axi.open_read(place)
+    }
+
+    /// The source of the message that a client has begun and that isn't whole, if there is one.
+    pub fn source_begun(&self, client: u8) -> Option<u8>
+        ensures { result ≡ source_begun (slice_get (board_of self.now).clients client) }
+    {
+        let found = self.clients.get(usize::from(client))?;
+        found.source_begun()
+    }
+
+    /// How many clients have begun a message that isn't whole.
+    pub fn messages_begun(&self) -> u8
+        ensures { result ≡ messages_begun (board_of self.now).clients }
+    {
+        begun_of(&self.clients)
+    }
+
+    /// How many writes have data on the AXI4 port and no address, so that the data are early: each write's data end with the beat that
+    /// says that it is the last.
+    pub fn writes_without_address(&self) -> usize
+        ensures { result ≡ writes_without_address self.now.axi }
+    {
+        self.axi.writes_without_address()
     }
 
     /// The byte at an address of a good page, as the requests accepted so far leave it in order of acceptance; none outside

@@ -1,16 +1,17 @@
 //! The scoreboard.
 ghost use Rattle.std.specs.Prelude.{◌≡◌, ◌<◌, ◌≤◌, ◌%◌, ◌⊎◌, ◌↔◌, ℕ, List, [], ◌∷◌, ◌++◌, true, false, length, map, None, Some, Err, Ok, IfErr, IfOk, IfSome, IsTrue, OnErr, OnOk, slice_get};
-ghost use Rattle.std.specs.List.{range_with_len};
+ghost use Rattle.std.specs.List.{list_any, range_with_len};
 ghost use Rattle.tl_messages.specs.Operations.{has_data, reply_has_data};
 ghost use Rattle.tl_messages.specs.Requests.{bytes_given, request_of};
-ghost use Rattle.meaning.specs.Meaning.{bytes_after_all};
-ghost use Rattle.score_setup.specs.ScoreSetups.{is_valid_to_score, limits_of, lists_of, ranges_of, score_setup_fault};
+ghost use Rattle.meaning.specs.Meaning.{Bytes, bytes_after_all};
+ghost use Rattle.score_setup.specs.ScoreSetups.{is_valid_to_score, limits_of, lists_of, one_by_one, ranges_of, score_setup_fault};
 ghost use Rattle.setups.specs.Setups.{faults_of};
 ghost use Rattle.setups.specs.declared.SetupFault.TheVariants.{NoMemory};
 ghost use Rattle.subordinate.specs.Faults.{is_good, standing_at};
 ghost use Rattle.scoreboard.specs.Boards.{acting, beginning_of, client_beside, early_due, fails, footprints_of, hit_client, opening_client, opening_from};
 ghost use Rattle.scoreboard.specs.FailedBursts.{after_hit};
 ghost use Rattle.scoreboard.specs.Resets.{ResetsRightly, reset_on};
+ghost use Rattle.sparse_memory.specs.Ranges.{is_unknown_kind};
 ghost use Rattle.serial_memory.specs.SerialMemory.{HasRoomToGive, IsCheckedRequest, carried_out, doubts_of, memory_of, place_in, rooms_of};
 ghost use Rattle.scoreboard.specs.InsideBoards.{ClientsHaveRoom, HasRoomForBeat, HasRoomToWrite, HaveRoomToWrite, IsAskedBy, IsMarkedAlone, client_of, footprint_of, most_words};
 ghost use Rattle.scoreboard.specs.InTurn.{after_turn, unless_fixed};
@@ -175,7 +176,7 @@ fn mark_own(marks: &mut SerialMemory, footprint: &Footprint, request: &Request)
 }
 
 impl Scoreboard {
-    ghost use Rattle.scoreboard.specs.Boards.{Beginning, ClientBoard, IsReached, a_wrong, accepted_on, after_a, after_axi, after_d, after_seen, answer_to, beginning_of, begun_on, coming_on, continued_on, d_wrong, flight_for, given_on, has_replied, hit_on, in_turn_on, is_spoiled, joined_on, joining_on, opening_from, with_client, with_taken, with_whole, wrong_at};
+    ghost use Rattle.scoreboard.specs.Boards.{Beginning, ClientBoard, IsReached, MayBegin, a_wrong, accepted_on, after_a, after_axi, after_d, after_seen, answer_to, beginning_of, begun_on, coming_on, continued_on, d_wrong, flight_for, given_on, has_replied, hit_on, in_turn_on, is_spoiled, joined_on, joining_on, opening_from, opening_with, with_client, with_taken, with_whole, wrong_at};
     ghost use Rattle.scoreboard.specs.Flights.{no_footprint};
     ghost use Rattle.scoreboard.specs.Races.{unless_failed};
     ghost use Rattle.scoreboard.specs.InsideBoards.{IsFirstBeat, IsAcceptedBeside, IsFreeOf, IsTaken, board_of, flight_of, front_after, request_taken, span_told};
@@ -188,9 +189,10 @@ impl Scoreboard {
     ghost use Rattle.scoreboard.specs.Boards.{Beginning};
     ghost use Rattle.scoreboard.specs.Filling.{filled_beginning, filled_on};
     ghost use Rattle.scoreboard.specs.declared.Errors.{Errors};
-    ghost use Rattle.serial_memory.specs.SerialMemory.{can_fill};
+    ghost use Rattle.serial_memory.specs.SerialMemory.{can_fill, lacks_room, some_lacks_room};
     ghost use Rattle.serial_memory.specs.declared.FillFault.TheVariants.{NoMemory as NoRoom, Place};
     ghost use Rattle.scoreboard.specs.Right.{IsRight};
+    ghost use Rattle.scoreboard.specs.Room.{asks_for_room, asks_room, gives_by_now, place_of_beat};
     ghost use Rattle.scoreboard.specs.Wider.{IsWiderAlong, LetsRightPass};
     ghost use Rattle.scoreboard.specs.declared.Policy.TheVariants.{AcceptanceOrder, RealTime};
 
@@ -208,6 +210,10 @@ impl Scoreboard {
         ensures want { IfErr result (λ fault. (score_setup_fault (lists_of setup.now) ≡ Some fault) ⊎ (fault ≡ NoMemory)) }
         ensures opens { IfOk result (λ board. (board_of board ≡ opening_from errors (beginning_of (ranges_of setup.now))) × (board.policy ≡ policy)) }
         ensures unknown { IfOk result (λ board. board.unknown ≡ nothing_unknown (ranges_of setup.now).config.clients) }
+
+        // Where all first bytes are known, the board is that of the set-up page by page, with which what is said of zeros begins.
+        ensures zeros { list_any (λ range. is_unknown_kind range.kind) (ranges_of setup.now).ranges ≡ false
+            → IfOk result (λ board. board_of board ≡ opening_with errors (one_by_one (ranges_of setup.now))) }
     {
         if let Some(fault) = score_setup_fault(setup) {
             return Err(fault);
@@ -255,10 +261,11 @@ impl Scoreboard {
     }
 
     /// What is wrong with the next beat that was observed; none where nothing is. The one error is that memory was refused for a
-    /// page that a beat on channel A gives bytes: then nothing was judged, and the beat may be handed over again.
+    /// page without room to which a beat on channel A gives bytes: then nothing was judged, and the beat may be handed over again.
     ///
     /// Where requests take effect in order of acceptance, nothing is wrong with a beat, if none was before it, exactly where all
-    /// of them are right together, as far as the memory's first bytes are known. Where they take effect in real time, nothing is
+    /// of them are right together, as far as the memory's first bytes are known; and a byte that isn't marked as unknown is what the
+    /// requests leave on whatever bytes the memory began with. Where they take effect in real time, nothing is
     /// wrong with beats that are right in order of acceptance, from a memory of zeros, however errors may be told. Where these
     /// are told as this project's bridge tells them, what is said of any beat is what is said of it in order of acceptance, or
     /// nothing where that is SOURCE_BUSY, W_WITHOUT_AW or PAYLOAD, up to the first SOURCE_BUSY or W_WITHOUT_AW. And a beat of a
@@ -270,12 +277,16 @@ impl Scoreboard {
         ensures state { OnOk result (board_of self.new ≡ after_seen self.old.policy (board_of self.old) seen.now) }
         ensures refused { OnErr result (board_of self.new ≡ board_of self.old) }
         ensures grows { OnErr result (is_request seen.now ≡ true) }
+        ensures cause { OnErr result (asks_for_room self.old.policy (board_of self.old) (rooms_of self.old.memory) seen.now ≡ true) }
         ensures policy { self.new.policy ≡ self.old.policy }
         ensures unknown { self.new.unknown ≡ self.old.unknown }
         ensures exactly { IfOk result (λ wrong. self.old.policy ≡ AcceptanceOrder → (errors : Errors) (beginning : Beginning) (before : List ObservedBeat) → IsReached AcceptanceOrder (opening_from errors beginning) before (board_of self.old)
             → (wrong ≡ None) ↔ IsRight beginning (before ++ seen.now ∷ [])) }
         ensures memory { self.old.policy ≡ AcceptanceOrder → (errors : Errors) (beginning : Beginning) (before : List ObservedBeat) → IsReached AcceptanceOrder (opening_from errors beginning) before (board_of self.old)
             → (board_of self.old).memory.bytes ≡ bytes_after_all (faults_of beginning.lists) beginning.lists.regions (requests_in (observed_in before)) beginning.bytes }
+        ensures known { self.old.policy ≡ AcceptanceOrder → (errors : Errors) (beginning : Beginning) (before : List ObservedBeat) → IsReached AcceptanceOrder (opening_from errors beginning) before (board_of self.old)
+            → (start : Bytes) → MayBegin beginning start → (x : ℕ) → (board_of self.old).indeterminate x ≡ false
+            → bytes_after_all (faults_of beginning.lists) beginning.lists.regions (requests_in (observed_in before)) start x ≡ (board_of self.old).memory.bytes x }
         ensures right { IfOk result (λ wrong. self.old.policy ≡ RealTime → LetsRightPass (board_of self.old) seen.now wrong) }
         ensures wider { IfOk result (λ wrong. self.old.policy ≡ RealTime → IsWiderAlong (board_of self.old) seen.now wrong) }
         ensures rightly { IfOk result (λ wrong. self.old.policy ≡ RealTime → JudgesRightly (board_of self.old) seen.now wrong) }
@@ -292,6 +303,7 @@ impl Scoreboard {
         ensures state { OnOk result (board_of self.new ≡ after_seen self.old.policy (board_of self.old) seen.now) }
         ensures refused { OnErr result (board_of self.new ≡ board_of self.old) }
         ensures grows { OnErr result (is_request seen.now ≡ true) }
+        ensures cause { OnErr result (asks_for_room self.old.policy (board_of self.old) (rooms_of self.old.memory) seen.now ≡ true) }
         ensures policy { self.new.policy ≡ self.old.policy }
         ensures unknown { self.new.unknown ≡ self.old.unknown }
     {
@@ -311,6 +323,7 @@ impl Scoreboard {
         ensures answer { IfOk result (λ wrong. wrong ≡ a_wrong self.old.policy (slice_get (board_of self.old).clients client) beat.now) }
         ensures state { OnOk result (board_of self.new ≡ after_a self.old.policy (board_of self.old) client (slice_get (board_of self.old).clients client) beat.now) }
         ensures refused { OnErr result (board_of self.new ≡ board_of self.old) }
+        ensures cause { OnErr result (asks_room self.old.policy (board_of self.old) (rooms_of self.old.memory) (slice_get (board_of self.old).clients client) beat.now ≡ true) }
         ensures policy { self.new.policy ≡ self.old.policy }
         ensures unknown { self.new.unknown ≡ self.old.unknown }
     {
@@ -330,6 +343,7 @@ impl Scoreboard {
         ensures answer { IfOk result (λ taken. taken ≡ request_taken self.old.policy (slice_get (board_of self.old).clients client) beat.now) }
         ensures state { OnOk result (board_of self.new ≡ after_a self.old.policy (board_of self.old) client (slice_get (board_of self.old).clients client) beat.now) }
         ensures refused { OnErr result (board_of self.new ≡ board_of self.old) }
+        ensures cause { OnErr result (asks_room self.old.policy (board_of self.old) (rooms_of self.old.memory) (slice_get (board_of self.old).clients client) beat.now ≡ true) }
         ensures policy { self.new.policy ≡ self.old.policy }
         ensures unknown { self.new.unknown ≡ self.old.unknown }
         ensures request { IfOk result (λ taken. taken ≡ Ok Whole → (found : ClientBoard) → slice_get (board_of self.old).clients client ≡ Some found
@@ -355,11 +369,13 @@ impl Scoreboard {
     }
 
     /// Makes room for the page of what a beat gives, where it may act there: in order of acceptance once its message is whole. The
-    /// one error is that memory was refused.
+    /// one error is that memory was refused for this page, which has none.
     fn make_room(&mut self, beat: &ABeat, progress: Progress) -> Result<(), AllocError>
         ensures board { board_of self.new ≡ board_of self.old }
         ensures rest { self.new ≡ record self.old { memory = self.new.memory } }
         ensures room { OnOk result ((progress ≡ Whole) ⊎ (self.old.policy ≡ RealTime) → HasRoomForBeat self.old.errors self.new.memory beat.now) }
+        ensures gives { OnErr result (gives_by_now self.old.policy (Ok progress) ≡ true) }
+        ensures lacks { OnErr result (lacks_room (rooms_of self.old.memory) (place_of_beat self.old.errors (memory_of self.old.memory) beat.now) ≡ true) }
     {
         if progress == Progress::More && self.policy == Policy::AcceptanceOrder {
             return Ok(());
@@ -748,7 +764,7 @@ impl Scoreboard {
 
     /// The bytes from an address on become these, and are known: a tester says what the memory began with. So a board of which
     /// nothing was observed is one that began with them. It fails only where one of them is of no good page, or memory was
-    /// refused; then nothing has changed.
+    /// refused for the page of one, which has no room; then nothing has changed.
     pub fn fill(&mut self, address: u32, bytes: &[u8]) -> Result<(), FillFault>
         ensures filled { OnOk result (board_of self.new ≡ filled_on (board_of self.old) address bytes.now) }
         ensures opening { OnOk result ((errors : Errors) (beginning : Beginning) → board_of self.old ≡ opening_from errors beginning
@@ -757,6 +773,7 @@ impl Scoreboard {
         ensures place { can_fill (board_of self.old).memory.faults address (length bytes.now) ≡ false → result ≡ Err Place }
         ensures err { IfErr result (λ fault. ((can_fill (board_of self.old).memory.faults address (length bytes.now) ≡ false) × (fault ≡ Place))
             ⊎ ((can_fill (board_of self.old).memory.faults address (length bytes.now) ≡ true) × (fault ≡ NoRoom))) }
+        ensures cause { IfErr result (λ fault. fault ≡ NoRoom → some_lacks_room (rooms_of self.old.memory) address (length bytes.now) ≡ true) }
         ensures good { OnOk result (can_fill (board_of self.old).memory.faults address (length bytes.now) ≡ true) }
         ensures policy { self.new.policy ≡ self.old.policy }
         ensures unknown { self.new.unknown ≡ self.old.unknown }

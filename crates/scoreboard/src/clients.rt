@@ -13,6 +13,7 @@ ghost use Rattle.scoreboard.specs.InsideBoards.{HaveRoomToWrite, IsAskedBy, IsFi
 ghost use Rattle.scoreboard.specs.Races.{beside_all, beside_dependent, unless_failed};
 ghost use Rattle.scoreboard.specs.Resets.{reset_client};
 ghost use Rattle.scoreboard.specs.Telling.{flight_telling};
+ghost use Rattle.scoreboard.specs.Unanswered.{source_begun};
 
 use crate::failed_bursts::{Reach, Span};
 use crate::flights::Flights;
@@ -27,13 +28,13 @@ use std::marker::Model;
 use tl_checker::{Port, Progress, TlRule};
 use tl_messages::{ABeat, DBeat, Request};
 
-/// A client: its port, its requests in flight, whether a message has begun, and a beat of it was corrupt; the footprint of that
-/// message, which is kept where requests take effect in real time, and the beat of its reply that may come before it is whole, where
-/// errors may be told in any way; and whether the first beat of the reply that began last was denied.
+/// A client: its port, its requests in flight, the source of the message that has begun, if one has, and whether a beat of it was
+/// corrupt; the footprint of that message, which is kept where requests take effect in real time, and the beat of its reply that may
+/// come before it is whole, where errors may be told in any way; and whether the first beat of the reply that began last was denied.
 pub(crate) struct Client {
     port: Port,
     flights: Flights,
-    has_begun: bool,
+    begun: Option<u8>,
     corrupt: bool,
     coming: Footprint,
     early: Option<DBeat>,
@@ -41,7 +42,7 @@ pub(crate) struct Client {
 }
 
 impl Model for Client {
-    ghost use Rattle.std.specs.Prelude.{◌≡◌, ◌≤◌, None, is_some, length};
+    ghost use Rattle.std.specs.Prelude.{◌≡◌, ◌≤◌, None, length, option_map};
     ghost use Rattle.scoreboard.specs.InsideBoards.{ClientState, IsFrontFree, flights_of, front_corrupt};
 
     ghost Value = { ClientState };
@@ -50,7 +51,7 @@ impl Model for Client {
 
     // No whole request stands, so that the next beat may come, and a message that has begun is of a free source.
     ghost invariant = { λ c. (c.port.whole ≡ None) × (c.port.limits.max_size ≤ 12) × IsFrontFree c.port.front (flights_of c.flights)
-        × (c.has_begun ≡ is_some c.port.front) × (length c.coming.determined ≡ c.flights.room) × (c.corrupt ≡ front_corrupt c.port.front) };
+        × (c.begun ≡ option_map (λ message. message.source) c.port.front) × (length c.coming.determined ≡ c.flights.room) × (c.corrupt ≡ front_corrupt c.port.front) };
 }
 
 // Written out, so that what lets go of one calls this, and proves nothing of its parts.
@@ -59,7 +60,7 @@ impl Drop for Client {
         let Client {
             port: _,
             flights: _,
-            has_begun: _,
+            begun: _,
             corrupt: _,
             coming: _,
             early: _,
@@ -88,7 +89,7 @@ impl Client {
         Ok(Client {
             port,
             flights,
-            has_begun: false,
+            begun: None,
             corrupt: false,
             coming,
             early: None,
@@ -115,7 +116,14 @@ impl Client {
     pub(crate) fn has_begun(&self) -> bool
         ensures { result ≡ is_some self.now.front }
     {
-        self.has_begun
+        self.begun.is_some()
+    }
+
+    /// The source of the message that has begun and isn't whole, if there is one.
+    pub(crate) fn source_begun(&self) -> Option<u8>
+        ensures { result ≡ source_begun (Some (client_of self.now)) }
+    {
+        self.begun
     }
 
     /// What its port answers to a beat on channel A.
@@ -146,11 +154,11 @@ impl Client {
         self.port.take_judged(beat, busy, progress);
         match progress {
             Progress::More => {
-                self.has_begun = true;
+                self.begun = self.begun.or(Some(beat.source));
                 self.corrupt |= beat.corrupt;
             }
             Progress::Whole => {
-                self.has_begun = false;
+                self.begun = None;
                 self.corrupt = false;
                 self.port.take_whole(request);
             }
@@ -342,7 +350,7 @@ impl Client {
     {
         self.port.clear_whole();
         self.flights.clear();
-        self.has_begun = false;
+        self.begun = None;
         self.corrupt = false;
         self.coming.clear();
         self.early = None;

@@ -8,7 +8,7 @@ ghost use Rattle.config.specs.Configs.{axi_port_of};
 ghost use Rattle.score_setup.specs.ScoreSetups.{is_valid_to_score, limits_of};
 ghost use Rattle.scoreboard.specs.AxiPorts.{after_with_early, drained, none_early, port_after, port_wrong, taking, tells_no_write, wrong_with_early};
 ghost use Rattle.scoreboard.specs.FailedBursts.{answered_span};
-ghost use Rattle.scoreboard.specs.Unanswered.{reads_open, writes_open};
+ghost use Rattle.scoreboard.specs.Unanswered.{reads_open, writes_without_address, writes_open};
 
 use crate::axi_port::AxiPort;
 use crate::failed_bursts::Span;
@@ -106,6 +106,22 @@ impl EarlyPort {
         ensures { result ≡ slice_get (reads_open self.now) place }
     {
         self.axi.open_read(place)
+    }
+
+    /// How many writes have data that are early: each ends with the beat that says that it is the last.
+    pub(crate) fn writes_without_address(&self) -> usize
+        ensures { result ≡ writes_without_address self.now }
+    {
+        let _most = self.early.len();
+        let mut count = 0;
+        let mut begun = false;
+        for beat in &self.early {
+            if beat.last {
+                count += 1;
+            }
+            begun = !beat.last;
+        }
+        count + usize::from(begun)
     }
 
     /// Nothing is outstanding any more, and nothing early: what went unobserved has closed all bursts.

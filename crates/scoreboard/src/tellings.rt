@@ -25,7 +25,8 @@ pub struct Telling {
     pub due: u64,
 }
 
-fn one_if(holds: bool) -> u8
+/// 1 where it holds, else 0.
+pub(crate) fn one_if(holds: bool) -> u8
     ensures value { result ≡ one_if holds }
     ensures most { result ≤ 1 }
 {

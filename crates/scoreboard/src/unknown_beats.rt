@@ -4,6 +4,8 @@ ghost use Rattle.bus_words.specs.Lanes.{has_lane};
 ghost use Rattle.tl_messages.specs.Requests.{request_of};
 ghost use Rattle.scoreboard.specs.Boards.{a_wrong, after_seen, d_wrong, wrong_at};
 ghost use Rattle.scoreboard.specs.Observed.{is_request};
+ghost use Rattle.scoreboard.specs.Room.{asks_for_room, asks_room};
+ghost use Rattle.serial_memory.specs.SerialMemory.{rooms_of};
 ghost use Rattle.scoreboard.specs.declared.ObservedBeat.TheVariants as seen;
 ghost use Rattle.scoreboard.specs.InsideBoards.{IsTaken, board_of, unknown_board};
 ghost use Rattle.scoreboard.specs.Unknown.{after_seen_unknown, doubted_on, is_looked_at, known_of, some_begun, unknown_request, unknown_wrong, with_given};
@@ -36,6 +38,7 @@ impl Scoreboard {
         ensures state { OnOk result (unknown_board self.new ≡ after_seen_unknown self.old.policy (unknown_board self.old) seen.now lanes) }
         ensures refused { OnErr result (unknown_board self.new ≡ unknown_board self.old) }
         ensures grows { OnErr result (is_request seen.now ≡ true) }
+        ensures cause { OnErr result (asks_for_room self.old.policy (board_of self.old) (rooms_of self.old.memory) seen.now ≡ true) }
         ensures policy { self.new.policy ≡ self.old.policy }
         ensures known { lanes ≡ 0 → IfOk result (λ wrong. wrong ≡ wrong_at self.old.policy (board_of self.old) seen.now) }
         ensures board { lanes ≡ 0 → some_begun self.old.unknown ≡ false
@@ -60,6 +63,7 @@ impl Scoreboard {
         ensures answer { IfOk result (λ wrong. wrong ≡ unknown_wrong self.old.policy (board_of self.old) (seen.A client beat.now) lanes) }
         ensures state { OnOk result (unknown_board self.new ≡ after_seen_unknown self.old.policy (unknown_board self.old) (seen.A client beat.now) lanes) }
         ensures refused { OnErr result (unknown_board self.new ≡ unknown_board self.old) }
+        ensures cause { OnErr result (asks_room self.old.policy (board_of self.old) (rooms_of self.old.memory) (slice_get (board_of self.old).clients client) beat.now ≡ true) }
         ensures policy { self.new.policy ≡ self.old.policy }
     {
         let progress = match self.take_request(client, beat)? {

@@ -1,7 +1,7 @@
 -- Bytes put one after another from an address on.
 use Rattle.std.proofs.Common.{◌≡◌, ℕ, zero, suc, ◌+◌, ◌-◌, ◌%◌, ◌/◌, ◌^◌, ◌<◌, ◌==◌, Bool, true, false, not, ◌&&◌, ◌||◌, List, nat_lt, if◌then◌else◌, refl, sym, ◌∙◌, ap, arith, inl, inr}
 use Rattle.std.specs.Prelude.{slice_index}
-use Rattle.std.specs.List.{list_all, range_with_len}
+use Rattle.std.specs.List.{list_all, list_any, range_with_len}
 use Rattle.std.proofs.Math.Path.{fun_ext}
 use Rattle.std.proofs.lemmas.Bool.{and_parts, cases_lt, eq-eqb, eqb-true}
 use Rattle.std.proofs.lemmas.Bool.Decides.{nat_tests}
@@ -16,7 +16,7 @@ use Rattle.sparse_memory.specs.SparseMemory.{SparseState, has_room, is_strobed, 
 use Rattle.sparse_memory.proofs.PageLaws.{has_lane-none}
 use Rattle.meaning.specs.Meaning.{Bytes}
 use Rattle.serial_memory.specs.InsideSerial.{IsReservedAlone, IsWithinWord, filled_until}
-use Rattle.serial_memory.specs.SerialMemory.{can_fill, is_filled, is_good_byte, known_from}
+use Rattle.serial_memory.specs.SerialMemory.{can_fill, is_filled, is_good_byte, known_from, some_lacks_room}
 use Rattle.serial_memory.proofs.Words.{in_word, out_of_word}
 
 -- what holds of all numbers below another holds of each
@@ -139,3 +139,29 @@ reserved_none state = record { faults = refl; bytes = refl; doubts = refl; rooms
 
 pub reserved_then : {old between new : SparseState} → IsReservedAlone old between → IsReservedAlone between new → IsReservedAlone old new
 reserved_then first next = record { faults = next.faults ∙ first.faults; bytes = next.bytes ∙ first.bytes; doubts = next.doubts ∙ first.doubts; rooms = λ page there. next.rooms page (first.rooms page there) }
+
+-- where one of some numbers passes, some do
+some-of : (p : ℕ → Bool) (from count k : ℕ) → k < count → p (from + k) ≡ true → list_any p (range_with_len from count) ≡ true
+some-of p from zero k below passes = absurd (omega (arith, below))
+some-of p from (suc count) zero below passes =
+    let here : from ≡ from + 0 = omega arith in
+    ap (λ b. b || list_any p (range_with_len (from + 1) count)) (ap p here ∙ passes)
+some-of p from (suc count) (suc j) below passes =
+    let next : from + 1 + j ≡ from + suc j = omega arith in
+    ap (λ b. p from || b) (some-of p (from + 1) count j (omega (arith, below)) (ap p next ∙ passes)) ∙ or-true (p from)
+
+-- a page without room had none before
+without-room : {old new : SparseState} → IsReservedAlone old new → (page : ℕ) → has_room new page ≡ false → has_room old page ≡ false
+without-room {old} {new} alone page lacks = by_room (has_room old page) refl
+  where
+    by_room : (b : Bool) → has_room old page ≡ b → b ≡ false
+    by_room true there = sym (alone.rooms page there) ∙ lacks
+    by_room false absent = refl
+
+-- the page of one of so many bytes has no room, so it had none before
+pub refused-one : {old new : SparseState} (address count k number : ℕ) → IsReservedAlone old new → number ≡ (address + k) / 4096 → k < count → has_room new number ≡ false
+    → some_lacks_room (has_room old) address count ≡ true
+refused-one {old} {new} address count k number alone is below lacks =
+    let from_zero : 0 + k ≡ k = omega arith in
+    some-of (λ j. not (has_room old ((address + j) / 4096))) 0 count k below
+    (ap (λ j. not (has_room old ((address + j) / 4096))) from_zero ∙ ap not (without-room alone ((address + k) / 4096) (ap (has_room new) (sym is) ∙ lacks)))

@@ -1,6 +1,6 @@
 -- The memory that accepted requests leave, carried out whole, one at a time: what it holds, and what one request makes of it.
 use Rattle.std.specs.Prelude.{ℕ, ◌≡◌, ◌+◌, ◌-◌, ◌/◌, ◌%◌, ◌^◌, ◌≤◌, ◌==◌, Bool, true, false, not, ◌&&◌, List, length, Option, Some, None, IfSome, if◌then◌else◌, nat_le, nat_lt, slice_index}
-use Rattle.std.specs.List.{list_all, range_with_len}
+use Rattle.std.specs.List.{list_all, list_any, range_with_len}
 use Rattle.tl_messages.specs.Operations.{has_data}
 use Rattle.tl_messages.specs.Requests.{HeldMessage, WholeRequest}
 use Rattle.tl_messages.specs.declared.Operation.{Operation}
@@ -96,6 +96,15 @@ HasRoomToGive state q = has_data q.operation ≡ true → IfSome (place_in (memo
 -- the address of a good page at which an operation that gives bytes acts, if it has one
 abbrev pub place_given : Memory → Operation → ℕ → Option ℕ
 place_given memory operation address = if has_data operation then on_good_page memory.faults (translated memory.regions operation address) else None
+
+-- whether an address, if there is one, is of a page without room
+abbrev pub lacks_room : (ℕ → Bool) → Option ℕ → Bool
+lacks_room rooms None = false
+lacks_room rooms (Some address) = not (rooms (address / 4096))
+
+-- whether one of so many bytes from an address on is of a page without room
+abbrev pub some_lacks_room : (ℕ → Bool) → ℕ → ℕ → Bool
+some_lacks_room rooms address count = list_any (λ k. not (rooms ((address + k) / 4096))) (range_with_len 0 count)
 
 -- whether a page is that of an address, if there is one
 abbrev pub is_page_of : ℕ → Option ℕ → Bool

@@ -1,8 +1,8 @@
 //! What a memory began with, as a tester says it, byte by byte.
-ghost use Rattle.std.specs.Prelude.{◌≡◌, ◌+◌, ◌-◌, ◌/◌, ◌^◌, ◌<◌, ◌&&◌, ◌==◌, ℕ, true, length, not, if◌then◌else◌, OnOk};
+ghost use Rattle.std.specs.Prelude.{◌≡◌, ◌+◌, ◌-◌, ◌/◌, ◌^◌, ◌<◌, ◌&&◌, ◌==◌, ℕ, true, length, not, if◌then◌else◌, OnErr, OnOk};
 ghost use Rattle.sparse_memory.specs.SparseMemory.{bytes_in, doubts_in, faults_in, has_room};
 ghost use Rattle.serial_memory.specs.InsideSerial.{IsReservedAlone};
-ghost use Rattle.serial_memory.specs.SerialMemory.{can_fill, is_good_byte, known_from, with_filled};
+ghost use Rattle.serial_memory.specs.SerialMemory.{can_fill, is_good_byte, known_from, some_lacks_room, with_filled};
 
 use data_unit::{full_mask, place};
 use sparse_memory::SparseMemory;
@@ -36,7 +36,7 @@ fn address_behind(address: u32, k: usize) -> u32
     address + k as u32
 }
 
-/// Makes room for the pages of so many bytes from an address on. The one error is that memory was refused.
+/// Makes room for the pages of so many bytes from an address on. The one error is that memory was refused for one that has none.
 pub(crate) fn reserve_each(
     pages: &mut SparseMemory,
     address: u32,
@@ -45,6 +45,7 @@ pub(crate) fn reserve_each(
     requires { can_fill (faults_in pages.old) address count ≡ true }
     ensures rest { IsReservedAlone pages.old pages.new }
     ensures room { OnOk result ((k : ℕ) → k < count → has_room pages.new ((address + k) / 4096) ≡ true) }
+    ensures cause { OnErr result (some_lacks_room (has_room pages.old) address count ≡ true) }
 {
     for k in 0..count {
         pages.reserve(address_behind(address, k))?;

@@ -53,7 +53,7 @@ impl Drop for SerialMemory {
 
 impl SerialMemory {
     ghost use Rattle.serial_memory.specs.declared.FillFault.TheVariants.{NoMemory, Place};
-    ghost use Rattle.serial_memory.specs.SerialMemory.{byte_at, can_fill, carried_out, doubts_of, filled, is_page_of, known_from, meaning_in, memory_of, on_good_page, place_given, place_in, rooms_of};
+    ghost use Rattle.serial_memory.specs.SerialMemory.{byte_at, can_fill, carried_out, doubts_of, filled, is_page_of, known_from, lacks_room, meaning_in, memory_of, on_good_page, place_given, place_in, rooms_of, some_lacks_room};
 
     /// The memory behind a page map, of these ranges of pages and bad words, which `memory_fault` doesn't refuse; all bytes are zero,
     /// and those of ranges of unknown bytes are in doubt. No page has room. The one error is that memory was refused.
@@ -74,7 +74,8 @@ impl SerialMemory {
     }
 
     /// The bytes from an address on become these, and are known, as a tester says what the memory began with. It fails only where one
-    /// of them is of no good page, or memory was refused; then no byte has changed, and none is known that wasn't.
+    /// of them is of no good page, or memory was refused for the page of one, which has no room; then no byte has changed, and none is
+    /// known that wasn't.
     pub fn fill(&mut self, address: u32, bytes: &[u8]) -> Result<(), FillFault>
         ensures memory { OnOk result (memory_of self.new ≡ filled (memory_of self.old) address bytes.now) }
         ensures doubts { OnOk result (doubts_of self.new ≡ known_from (doubts_of self.old) address (length bytes.now)) }
@@ -84,6 +85,7 @@ impl SerialMemory {
         ensures no_fault { OnOk result (can_fill (memory_of self.old).faults address (length bytes.now) ≡ true) }
         ensures err { IfErr result (λ fault. ((can_fill (memory_of self.old).faults address (length bytes.now) ≡ false) × (fault ≡ Place))
             ⊎ ((can_fill (memory_of self.old).faults address (length bytes.now) ≡ true) × (fault ≡ NoMemory))) }
+        ensures cause { IfErr result (λ fault. fault ≡ NoMemory → some_lacks_room (rooms_of self.old) address (length bytes.now) ≡ true) }
     {
         if !can_fill(&self.pages, address, bytes.len()) {
             return Err(FillFault::Place);
@@ -96,11 +98,12 @@ impl SerialMemory {
     }
 
     /// Makes room for the page at which an operation acts, where it gives bytes, and the page is a good one that has none. The one error
-    /// is that memory was refused; then nothing has changed.
+    /// is that memory was refused for this page; then nothing has changed.
     pub fn make_room(&mut self, operation: Operation, address: u32) -> Result<(), AllocError>
         ensures memory { memory_of self.new ≡ memory_of self.old }
         ensures doubts { doubts_of self.new ≡ doubts_of self.old }
         ensures refused { OnErr result (self.new ≡ self.old) }
+        ensures cause { OnErr result (lacks_room (rooms_of self.old) (place_given (memory_of self.old) operation address) ≡ true) }
         ensures room { OnOk result ((q : WholeRequest) → q.operation ≡ operation → q.address ≡ address → HasRoomToGive self.new q) }
         ensures rooms { OnOk result ((page : ℕ) → rooms_of self.new page ≡ (rooms_of self.old page || is_page_of page (place_given (memory_of self.old) operation address))) }
     {

@@ -1,6 +1,6 @@
 -- A scoreboard that was reached by beats of which none was wrong holds what was observed, which is right; and the next beat is wrong exactly
 -- where what was observed with it isn't.
-use Rattle.std.proofs.Common.{◌≡◌, ℕ, List, [], ◌∷◌, ◌++◌, length, arith, Option, Some, None, ◌⊎◌, inl, inr, refl, sym, ◌∙◌, ap, subst}
+use Rattle.std.proofs.Common.{◌≡◌, ℕ, Bool, false, List, [], ◌∷◌, ◌++◌, length, arith, Option, Some, None, ◌⊎◌, inl, inr, refl, sym, ◌∙◌, ap, subst}
 use Rattle.std.specs.Prelude.{◌↔◌, slice_get}
 use Rattle.std.proofs.lemmas.List.{append-nil, append_assoc, length-append, nil_from_length}
 use Rattle.std.proofs.lemmas.Option.{slice_get_within}
@@ -8,9 +8,9 @@ use Rattle.bus_words.proofs.PlaceChanges.{all-append}
 use Rattle.bus_words.proofs.StoredPlaces.{there_is}
 use Rattle.tl_messages.specs.declared.ABeat.{ABeat}
 use Rattle.tl_messages.specs.declared.DBeat.{DBeat}
-use Rattle.meaning.specs.Meaning.{bytes_after_all}
+use Rattle.meaning.specs.Meaning.{Bytes, bytes_after_all}
 use Rattle.setups.specs.Setups.{faults_of}
-use Rattle.scoreboard.specs.Boards.{Beginning, Board, ClientBoard, IsReached, a_wrong, after_a, after_all, after_d, after_seen, answer_to, d_wrong, opening_from, wrong_at}
+use Rattle.scoreboard.specs.Boards.{Beginning, Board, ClientBoard, IsReached, MayBegin, a_wrong, after_a, after_all, after_d, after_seen, answer_to, d_wrong, opening_from, wrong_at}
 use Rattle.scoreboard.specs.Observed.{Observed, nothing_observed, observed_in, requests_in, with_seen}
 use Rattle.scoreboard.specs.Right.{HasClient, IsContiguous, IsRight, IsRightNow}
 use Rattle.scoreboard.specs.declared.Errors.{Errors}
@@ -19,6 +19,7 @@ use Rattle.scoreboard.specs.declared.ObservedBeat.{ObservedBeat}
 use Rattle.serial_memory.specs.SerialMemory.{Memory}
 use Rattle.scoreboard.specs.declared.ObservedBeat.TheVariants.{A, D, Axi as OnAxi, Drained}
 use Rattle.scoreboard.proofs.acceptance_order.BoardOf.{IsBoardOf, board_opens, right_opens}
+use Rattle.scoreboard.proofs.acceptance_order.KnownBytes.{all_well, known_after_all}
 use Rattle.scoreboard.proofs.acceptance_order.ReplySteps.{axi_right, next_contiguous, reply_right, step_axi, step_drained, step_reply}
 use Rattle.scoreboard.proofs.acceptance_order.RequestSteps.{request_right, step_request}
 use Rattle.scoreboard.proofs.acceptance_order.SeenLists.{all_parts, cut_of, observed-append}
@@ -143,6 +144,17 @@ right_exactly errors beginning before old seen reached = (
 -- and holds the bytes that the accepted requests leave
 pub memory_reached : (errors : Errors) (beginning : Beginning) (before : List ObservedBeat) (board : Board) → IsReached AcceptanceOrder (opening_from errors beginning) before board → board.memory.bytes ≡ bytes_after_all (faults_of beginning.lists) beginning.lists.regions (requests_in (observed_in before)) beginning.bytes
 memory_reached errors beginning before board reached = ap (λ (m : Memory). m.bytes) (reached_holds errors beginning before board reached).held.memory
+
+-- and where a byte is known, it is what they leave whatever the memory began with
+pub known_reached : (errors : Errors) (beginning : Beginning) (before : List ObservedBeat) (board : Board) → IsReached AcceptanceOrder (opening_from errors beginning) before board
+    → (start : Bytes) → MayBegin beginning start → (x : ℕ) → board.indeterminate x ≡ false
+    → bytes_after_all (faults_of beginning.lists) beginning.lists.regions (requests_in (observed_in before)) start x ≡ board.memory.bytes x
+known_reached errors beginning before board reached start begins x known =
+    let requests = requests_in (observed_in before) in
+    let held = (reached_holds errors beginning before board reached).held in
+    let well = all_well beginning.lists (observed_in before).messages requests held.right.as_many held.right.spelled in
+    known_after_all beginning.lists beginning.unknown requests beginning.bytes start well begins.known x (sym (ap (λ (unknown : ℕ → Bool). unknown x) held.unknown) ∙ known)
+    ∙ sym (ap (λ (m : Memory). m.bytes x) held.memory)
 
 -- ---- whole lists
 

@@ -1,7 +1,8 @@
 -- A message that has begun is of a source to which no reply is due, and stays so.
-use Rattle.std.proofs.Common.{◌≡◌, ℕ, ◌≤◌, Bool, true, false, List, [], ◌∷◌, Option, Some, None, Result, Ok, refl, sym, ◌∙◌, ap, arith}
-use Rattle.std.specs.Prelude.{◌||◌, is_some}
+use Rattle.std.proofs.Common.{◌≡◌, ℕ, ◌≤◌, Bool, false, List, [], ◌∷◌, Option, Some, None, Result, Ok, refl, sym, ◌∙◌, ap, arith}
+use Rattle.std.specs.Prelude.{◌||◌, is_some, option_map}
 use Rattle.std.specs.List.{list_any}
+use Rattle.std.specs.Option.{option_or}
 use Rattle.std.proofs.lemmas.Bool.{or_parts}
 use Rattle.bus_words.specs.Places.{without_first}
 use Rattle.tl_messages.specs.Requests.{HeldMessage}
@@ -43,15 +44,27 @@ joined_free policy limits (Some held) beat flights told free is = free
 corrupt_joined : (limits : TlPortLimits) (front : Option HeldMessage) (beat : ABeat) → (front_corrupt front || beat.corrupt) ≡ (joined limits front beat).corrupt
 corrupt_joined limits front beat = grind arith
 
+-- its source is that of the message that had begun, or else the beat's
+source_joined : (limits : TlPortLimits) (front : Option HeldMessage) (beat : ABeat) → option_or (option_map (λ (message : HeldMessage). message.source) front) (Some beat.source) ≡ Some (joined limits front beat).source
+source_joined limits None beat = refl
+source_joined limits (Some held) beat = refl
+
+-- a message has begun where it has a source
+pub some_source : (front : Option HeldMessage) → is_some (option_map (λ (message : HeldMessage). message.source) front) ≡ is_some front
+some_source None = refl
+some_source (Some held) = refl
+
 -- a port that has taken a beat, of a message of which more are to come
-pub more_right : (policy : Policy) (port taken : PortState) (beat : ABeat) (flights : Flights) (answer : Result Progress TlRule) (corrupt : Bool) → port.whole ≡ None → port.limits.max_size ≤ 12
-    → IsFrontFree port.front flights → corrupt ≡ front_corrupt port.front → answer ≡ judged port.limits port.front beat (is_busy policy flights beat.source) → taken ≡ port_after port beat answer
-    → answer ≡ Ok More → (taken.whole ≡ None) × (taken.limits.max_size ≤ 12) × IsFrontFree taken.front flights × (true ≡ is_some taken.front)
+pub more_right : (policy : Policy) (port taken : PortState) (beat : ABeat) (flights : Flights) (answer : Result Progress TlRule) (corrupt : Bool) (begun : Option ℕ) → port.whole ≡ None → port.limits.max_size ≤ 12
+    → IsFrontFree port.front flights → begun ≡ option_map (λ (message : HeldMessage). message.source) port.front → corrupt ≡ front_corrupt port.front → answer ≡ judged port.limits port.front beat (is_busy policy flights beat.source) → taken ≡ port_after port beat answer
+    → answer ≡ Ok More → (taken.whole ≡ None) × (taken.limits.max_size ≤ 12) × IsFrontFree taken.front flights
+    × (option_or begun (Some beat.source) ≡ option_map (λ (message : HeldMessage). message.source) taken.front)
     × ((corrupt || beat.corrupt) ≡ front_corrupt taken.front)
-more_right policy port taken beat flights answer corrupt none small free told is becomes more =
+more_right policy port taken beat flights answer corrupt begun none small free of told is becomes more =
     let after = becomes ∙ ap (port_after port beat) more in
+    let named = ap (λ (source : Option ℕ). option_or source (Some beat.source)) of ∙ source_joined port.limits port.front beat in
     let marked = ap (λ b. b || beat.corrupt) told ∙ corrupt_joined port.limits port.front beat in
-    rw after (none, small, joined_free policy port.limits port.front beat flights More free (sym is ∙ more), refl, marked)
+    rw after (none, small, joined_free policy port.limits port.front beat flights More free (sym is ∙ more), named, marked)
 
 -- a first beat that is taken, of several, names a Put, and has an aligned range
 pub first_taken : (limits : TlPortLimits) (front : Option HeldMessage) (beat : ABeat) (busy : Bool) → limits.max_size ≤ 12 → front ≡ None

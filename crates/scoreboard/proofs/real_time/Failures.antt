@@ -1,5 +1,5 @@
 -- Requests of which a beat was corrupt, or whose access fails: what they may leave, where they act, and that they tell an error on any bytes alike.
-use Rattle.std.proofs.Common.{◌≡◌, ℕ, ◌-◌, Bool, true, false, ◌||◌, List, [], ◌∷◌, map, if◌then◌else◌, inl, inr, ◌⊎◌, refl, sym, ◌∙◌, ap, arith}
+use Rattle.std.proofs.Common.{◌≡◌, ℕ, Bool, true, false, ◌||◌, List, [], ◌∷◌, map, if◌then◌else◌, inl, inr, ◌⊎◌, refl, sym, ◌∙◌, ap, arith}
 use Rattle.std.specs.Prelude.{is_none, is_some}
 use Rattle.std.specs.List.{list_any, range_with_len}
 use Rattle.std.proofs.Math.Bool.{or-true}

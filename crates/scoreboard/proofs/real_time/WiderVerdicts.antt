@@ -18,7 +18,7 @@ use Rattle.tl_checker.specs.declared.TlRule.TheVariants.{SourceBusy}
 use Rattle.axi_checker.specs.declared.AxiBeat.{AxiBeat}
 use Rattle.axi_checker.specs.declared.AxiBeat.TheVariants.{Ar as OnAr, Aw as OnAw, B as OnB, R as OnR, W as OnW}
 use Rattle.axi_checker.specs.Rules.{axi_fault}
-use Rattle.scoreboard.specs.AxiPorts.{PortBoard, none_early, tells_no_write, wrong_in_order, wrong_with_early}
+use Rattle.scoreboard.specs.AxiPorts.{PortBoard, tells_no_write, wrong_in_order, wrong_with_early}
 use Rattle.scoreboard.specs.Boards.{Board, ClientBoard, a_wrong, answer_to, d_wrong, is_payload, next_to, reply_rules, told_to, unless_indeterminate, wrong_at, wrong_beat, wrong_by, wrong_reply, wrong_request}
 use Rattle.scoreboard.specs.Flights.{Footprint, InFlight, begun_is_of, is_of_source, next_reply}
 use Rattle.scoreboard.specs.Wider.{TellsNoMore, board_alone, client_alone, flight_alone, tells_apart, tells_busy, tells_payload}

@@ -1,9 +1,9 @@
 -- Each turn makes room for the page of one byte.
-use Rattle.std.proofs.Common.{◌+◌, ◌/◌, ◌||◌, ◌==◌, arith, ap, ◌∙◌}
+use Rattle.std.proofs.Common.{◌≡◌, ◌+◌, ◌/◌, ◌||◌, ◌==◌, Err, false, arith, ap, rules, ◌∙◌}
 use Rattle.subordinate.specs.Faults.{Faults, is_good, standing_at}
-use Rattle.sparse_memory.specs.SparseMemory.{faults_in}
+use Rattle.sparse_memory.specs.SparseMemory.{faults_in, has_room}
 use Rattle.serial_memory.specs.InsideSerial.{IsReservedAlone}
-use Rattle.serial_memory.proofs.FilledBytes.{good-byte, reserved_none, reserved_then, room-more}
+use Rattle.serial_memory.proofs.FilledBytes.{good-byte, refused-one, reserved_none, reserved_then, room-more}
 use Rattle.serial_memory.proofs.filling.reserve_each.Goals as goal
 
 pub loop-k-init : goal.loop-k-init
@@ -34,3 +34,9 @@ loop-k-preserved c = (
           doubts = c.reserve.ensures.doubts;
           rooms = λ page there. c.in_ok-reserve.ensures.room page ∙ ap (λ b. b || page == c.address_behind.result / 4096) there;
         }
+
+pub returns-in_err-reserve-clause-cause : goal.returns-in_err-reserve-clause-cause
+returns-in_err-reserve-clause-cause c =
+    let same : c.from_residual.result ≡ Err c.in_err-reserve.field-0.0 = search rules in
+    let lacks : has_room c.loop-k.pages (c.address_behind.result / 4096) ≡ false = grind (arith, c.in_err-reserve.ensures.has_room) in
+    rw same (refused-one c.args.address c.args.count c.loop-k.k (c.address_behind.result / 4096) c.loop-k.invariant.0 (ap (λ a. a / 4096) c.address_behind.ensures) c.loop-k-test.true lacks)

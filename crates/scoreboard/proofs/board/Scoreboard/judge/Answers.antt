@@ -8,7 +8,7 @@ use Rattle.scoreboard.specs.RealTime.{JudgesRightly}
 use Rattle.scoreboard.specs.Wider.{IsWiderAlong, LetsRightPass}
 use Rattle.scoreboard.specs.declared.Policy.{Policy}
 use Rattle.scoreboard.specs.declared.Wrong.{Wrong}
-use Rattle.scoreboard.proofs.acceptance_order.Reached.{memory_reached, right_exactly}
+use Rattle.scoreboard.proofs.acceptance_order.Reached.{known_reached, memory_reached, right_exactly}
 use Rattle.scoreboard.proofs.real_time.JudgedRightly.{judges_rightly}
 use Rattle.scoreboard.proofs.real_time.RightRuns.{lets_right_pass}
 use Rattle.scoreboard.proofs.real_time.WiderRuns.{is_wider}
@@ -29,6 +29,9 @@ returns-clause-exactly c =
 
 pub returns-clause-memory : goal.returns-clause-memory
 returns-clause-memory c ordered errors beginning before reached = memory_reached errors beginning before (board_of c.args.self.now) reached
+
+pub returns-clause-known : goal.returns-clause-known
+returns-clause-known c ordered errors beginning before reached = known_reached errors beginning before (board_of c.args.self.now) reached
 
 pub returns-clause-right : goal.returns-clause-right
 returns-clause-right c =
