@@ -1,8 +1,8 @@
 """The free memory and the predictor of interfaces/systemverilog, over the testbench of examples/testbench/rtl under Verilator. In front of
 the memory the right bridges aren't blamed, by what each promises; and there are faults that are told in front of it, and hidden where it
 keeps all in order. The predictor finds nothing wrong of the right bridge, and a fault at the time at which tlscore finds the first wrong
-reply of the same run, where it also stops. Each call of the model by DPI-C gives what it should. Without Verilator that is said, and
-nothing is tried.
+reply of the same run, where it also stops. Each call of the model by DPI-C gives what it should. The comparison of replies, which needs
+no library, takes an x as it should under Icarus. A simulator that isn't installed is named, and what needs it isn't tried.
 
     python3 tests/bridge_process_rtl.py TLSCORE [--seeds N] [--library FOLDER] [--jobs N]
 """
@@ -23,6 +23,7 @@ from in_process_rtl import SYSTEMVERILOG, TOP, UNOPTIMIZED, built, run
 
 MEMORY, PREDICTOR = SYSTEMVERILOG / "zuldegei_axi_memory.sv", SYSTEMVERILOG / "zuldegei_predictor.sv"
 PACKAGE, BIND = SYSTEMVERILOG / "zuldegei_pkg.sv", SYSTEMVERILOG / "example_predictor_bind.sv"
+REPLIES = SYSTEMVERILOG / "zuldegei_reply_pkg.sv"
 # Faults that a memory which answers in order hides; by `profile tilelink` the first is none.
 HIDDEN = ("UNGUARDED", "READS_MIXED", "WRITES_MIXED")
 BY_ORDER_ALONE = ("UNGUARDED",)
@@ -63,7 +64,7 @@ def made(bench: Bench, library: Path, folder: Path) -> Path:
     """The testbench, in a folder of its own."""
     room = Path(tempfile.mkdtemp(dir=folder))
     files = [it for it in run.FILES if it != "memory.sv"] + [str(MEMORY)]
-    files += [str(it) for it in (PACKAGE, PREDICTOR, BIND, library / "libzuldegei.a")] if bench.predicts else []
+    files += [str(it) for it in (PACKAGE, REPLIES, PREDICTOR, BIND, library / "libzuldegei.a")] if bench.predicts else []
     words = ["verilator", "--cc", "--exe", "--main", "--timing", "-Wno-fatal", f"-DFREE_MEMORY={bench.order}"]
     words += run.Bench(bench.bridge, run.Asked(), bug=bench.bug, habit=bench.habit).defines
     built([*words, "--top-module", "testbench", "-Mdir", str(room), "-o", "bench", *files], run.HERE, bench.name)
@@ -123,7 +124,23 @@ def calls(library: Path, folder: Path) -> Iterator[Case]:
     yield "the calls by DPI-C", None if lines == ["looked at 44"] and ran.returncode == 0 else f"status {ran.returncode}: {lines[:3]}"
 
 
-def cases(given: argparse.Namespace) -> Iterator[Case]:
+def replies() -> Iterator[Case]:
+    """The comparison of replies, by four states."""
+    if not shutil.which("iverilog"):
+        print("skipped: how the predictor compares replies with x, as iverilog isn't installed")
+        return
+    with tempfile.TemporaryDirectory() as room:
+        bench = Path(room, "replies.vvp")
+        words = ["iverilog", "-g2012", "-s", "replies", "-o", str(bench), str(REPLIES), str(TOP / "tests/replies.sv")]
+        built(words, Path(room), "the comparison of replies")
+        ran = subprocess.run(["vvp", "-n", bench], stdout=subprocess.PIPE, text=True, timeout=60, check=False)
+    lines = ran.stdout.splitlines()
+    is_well = lines == ["compared 4010"] and ran.returncode == 0
+    yield "the comparison of replies", None if is_well else f"status {ran.returncode}, {len(lines)} lines: {lines[:3]}"
+
+
+def in_verilator(given: argparse.Namespace) -> Iterator[Case]:
+    """What needs the library, in the simulator."""
     if not shutil.which("verilator"):
         print("skipped: the free memory and the predictor in the simulator, as verilator isn't installed")
         return
@@ -133,6 +150,11 @@ def cases(given: argparse.Namespace) -> Iterator[Case]:
         programs = pool.map(lambda it: made(it, library, folder), BENCHES)
         for found in pool.map(lambda it: [*tried(*it, given)], zip(BENCHES, programs)):
             yield from found
+
+
+def cases(given: argparse.Namespace) -> Iterator[Case]:
+    yield from replies()
+    yield from in_verilator(given)
 
 
 def main() -> int:
