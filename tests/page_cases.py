@@ -2,8 +2,8 @@
 the source has, each page that it names is there, each crate has a page, and in ARCHITECTURE a row with its files of definitions,
 each example of the library stands in a test as it stands on its page, the table of statements in docs/WORDS.md is up to date,
 docs/definitions.py prints the definitions that it is asked for and lists each that a clause of a statement names, each place that
-docs/ROWS.md and docs/WRONG_BODIES.md name is there, no function asks for what nobody can give, and no file that is kept is a log or
-names a folder of one machine.
+docs/ROWS.md and docs/WRONG_BODIES.md name is there, docs/RULES.md has each rule, with its definition, a test and a wrong body, no
+function asks for what nobody can give, and no file that is kept is a log or names a folder of one machine.
 
     python3 tests/page_cases.py
 """
@@ -11,12 +11,14 @@ names a folder of one machine.
 import re
 import subprocess
 import sys
+from collections import Counter
 from pathlib import Path
 
 TOP = Path(__file__).resolve().parent.parent
 sys.path.insert(0, str(TOP / "docs"))
 sys.dont_write_bytecode = True
 
+import body_edits  # noqa: E402
 import definitions  # noqa: E402
 from ends import told  # noqa: E402
 
@@ -40,6 +42,15 @@ GUARANTEE = re.compile(r"(?m)^- .*(?:\n  .*)*")
 # A place of a worked row: a file, and what is named of it up to the next place: entries and comments in quotes, functions and tables.
 PLACE = re.compile(r"`((?:[\w-]+/)+[\w.-]+)`([^;]*)")
 ENTRY, DEFINED = re.compile(r'"([^"]+)"'), re.compile(r"`(\w+)`")
+# What has to come of a file stands beside it, by the ends of their names.
+WANTED = {".script": ".trace", ".in": ".out"}
+# A table of a page, with its head; in docs/RULES.md the rule of a row, and a wrong body that is another rule's.
+TABLE = re.compile(r"(?m)^\| (.*) \|\n\|[-|]+\|\n((?:\| .* \|\n)+)")
+RULE, OTHERS = re.compile(r"^\| (\d+ \w+)"), re.compile(r"as (\d+): (.*)")
+# A rule's number where it is defined, its name, both, and both of what is missing at the end.
+NUMBERED, CALLED = re.compile(r"(?m)^\w+ (\w+) = (\d+)$"), re.compile(r'(?m)^\w+ (\w+) = codes "(\w+)"$')
+SAID = re.compile(r'(\w+) = rule_words number \(codes "(?:request|axi)"\) (\d+) \(codes "(\w+)"\)')
+MISSING = re.compile(r'codes "(?:request|reply|axi)" ∷ codes "(\d+)" ∷ codes ("(\w+)")')
 # A folder of one machine, in which a path goes on.
 MACHINE = re.compile(rb"(?<![\w.])/(?:home|mnt|opt|root|srv|tmp|work|Users)/\w")
 
@@ -134,25 +145,105 @@ def tables():
 
 
 def lacking(path, named):
-    """What a file of a worked row lacks, of what is named of it; a script has its trace beside it."""
-    files = [TOP / path, *([(TOP / path).with_suffix(".trace")] if path.endswith(".script") else [])]
+    """What a file that a page names lacks, of what is named of it; a script has its trace beside it, an observation its text."""
+    beside = WANTED.get(Path(path).suffix)
+    files = [TOP / path, *([(TOP / path).with_suffix(beside)] if beside else [])]
     absent = [it.name for it in files if not it.is_file()]
     if absent:
         return absent
     text = files[0].read_text()
     entries = [it for it in ENTRY.findall(named) if not any(form in text for form in (f'"{it}"', f"// {it}\n", f"# {it}\n"))]
-    return entries + [it for it in DEFINED.findall(named) if not re.search(rf"(?m)\b(?:fn|def|const) {it}\b|^{it} = ", text)]
+    defined = r"(?m)\b(?:fn|def|const|record|abbrev pub) {0}\b|^{0} = "
+    return entries + [it for it in DEFINED.findall(named) if not re.search(defined.format(it), text)]
+
+
+def not_there(cell):
+    """How files that a cell names, or what is named of them, aren't there; or that it names none."""
+    found = PLACE.findall(cell)
+    missing = sorted(name for path, named in found for name in lacking(path, named))
+    return f"it lacks {', '.join(missing)}" if missing else None if found else "it has no place"
 
 
 def places(page, heading, what):
     """Each row of a page's tables behind a heading: whether the files of its last cell, and what is named of them, are there."""
     listed = re.findall(r"(?m)^\| (.*) \| (.*`.*) \|$", (TOP / "docs" / page).read_text().partition(heading)[2])
     yield f"each {what}", None if listed else f"{page} lists none"
-    for row, cell in listed:
-        found = PLACE.findall(cell)
-        missing = sorted(name for path, named in found for name in lacking(path, named))
-        why = f"it lacks {', '.join(missing)}" if missing else None if found else "it has no place"
-        yield f"the {what}: {row[:60]}", why
+    yield from ((f"the {what}: {row[:60]}", not_there(cell)) for row, cell in listed)
+
+
+def rule_names():
+    """Each rule, by its number and its name, with what a definition names it by: its value, or else its name as it is told."""
+    for crate in ("tl_checker", "axi_checker", "scoreboard"):
+        text = (TOP / f"crates/{crate}/specs/Names.antt").read_text()
+        names = dict(CALLED.findall(text))
+        yield from ((f"{number} {names[value]}", value) for value, number in NUMBERED.findall(text))
+    found, unanswered = ((TOP / f"crates/score_script/specs/{it}.antt").read_text() for it in ("FindingTexts", "UnansweredTexts"))
+    yield from ((f"{number} {name}", value) for value, number, name in SAID.findall(found))
+    yield from ((f"{number} {name}", value) for number, value, name in MISSING.findall(unanswered))
+
+
+def rule_tables(column):
+    """The rows of each table of docs/RULES.md that has such a column: the rule, and the other cells."""
+    for head, rows in TABLE.findall((TOP / "docs/RULES.md").read_text()):
+        if column in head.split(" | "):
+            yield [["".join(RULE.findall(row)[:1]), *row[2:-2].split(" | ")[1:]] for row in rows.splitlines()]
+
+
+def undefined(cell, value):
+    """How a cell doesn't name definitions of a rule, one of which names its value."""
+    found = [(TOP / path, DEFINED.findall(named) if path.endswith(".antt") else []) for path, named in PLACE.findall(cell)]
+    if not all(names for _, names in found):
+        return "it names a file without a definition"
+    text = "\n".join(passage(path, name) for path, names in found for name in names)
+    return None if re.search(rf"(?<!\w){value}(?!\w)", text) else f"none of them names {value}"
+
+
+def wanted_by(path, named):
+    """What a test wants: what stands beside its file, or in it behind the entry that is named, up to the next, or in all of it."""
+    beside = WANTED.get(Path(path).suffix)
+    if beside:
+        return (TOP / path).with_suffix(beside).read_text()
+    text, entry = (TOP / path).read_text(), ENTRY.search(named)
+    if entry:
+        return text.partition(entry[0])[2].partition('\n    "')[0]
+    return text if DEFINED.search(named) else ""
+
+
+def untold(cell, rule):
+    """How a cell doesn't name tests that want a rule told, by its number and its name."""
+    told_there = rf"\b{rule}\b".replace(" ", r"\W+")
+    silent = [path for path, named in PLACE.findall(cell) if not re.search(told_there, wanted_by(path, named))]
+    return f"{', '.join(silent)} doesn't tell it there" if silent else None
+
+
+def unturned(cell, others):
+    """How a cell doesn't name wrong bodies that turn a line of a function; another rule's is the one that its own row has."""
+    other = OTHERS.match(cell)
+    if other and others.get(other[1]) != other[2]:
+        return f"that of rule {other[1]} is another"
+    try:
+        edits = [body_edits.read((TOP / path).parent.parent, TOP / path) for path, _ in PLACE.findall(cell)]
+    except body_edits.Unusable as why:
+        return str(why)
+    return None if all(it.functions for it in edits) else "it turns no line of a function"
+
+
+def rules():
+    """Each rule that has a number and a name, where docs/RULES.md has a row of where it is broken and one of its places; then each
+    of these places, where it is there and the rule's."""
+    values = dict(rule_names())
+    broken, placed = (Counter(rule for rows in rule_tables(it) for rule, *_ in rows) for it in ("broken where", "definition"))
+    for rule in sorted({*values, *broken, *placed}):
+        faults = [] if rule in values else ["no checker has it"]
+        counts = (("where it is broken", broken[rule]), ("its places", placed[rule]))
+        faults += [f"it has {count} rows of {what}" for what, count in counts if count != 1]
+        yield f"the rule {rule}", ", ".join(faults) or None
+    for rows in rule_tables("definition"):
+        bodies = {rule.partition(" ")[0]: body for rule, _, _, body in rows}
+        for rule, definition, test, body in rows:
+            yield f"the definition of rule {rule}", not_there(definition) or undefined(definition, values.get(rule))
+            yield f"the test of rule {rule}", not_there(test) or untold(test, rule)
+            yield f"the wrong body of rule {rule}", not_there(body) or unturned(body, bodies)
 
 
 def without_space(text):
@@ -223,6 +314,7 @@ def cases():
     yield from printed()
     yield from places("ROWS.md", "# Worked rows", "worked row")
     yield from places("WRONG_BODIES.md", "## Those that", "wrong body")
+    yield from rules()
     yield from contracts()
     yield from kept()
     lines = len((TOP / "docs/WORDS.md").read_text().splitlines())
