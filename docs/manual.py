@@ -13,10 +13,14 @@ from pathlib import Path
 from typing import Dict, Iterator, List, Tuple
 
 TOP = Path(__file__).resolve().parent.parent
-# The programs: the page of each, what it does, and how it is called.
+# The programs: the page of each, what it does, and each way in which it is called.
 PROGRAMS = {
-    "tlbridge": ("SCRIPT", "run scripts on a model of a TileLink to AXI4 bridge", "tlbridge [run | check | threads] <SCRIPT"),
-    "tlscore": ("SCOREBOARD", "tell which beat at the ports of a TileLink to AXI4 bridge is wrong", "tlscore <OBSERVATION"),
+    "tlbridge": ("SCRIPT", "run scripts on a model of a TileLink to AXI4 bridge", ("tlbridge [run | check | threads] <SCRIPT",)),
+    "tlscore": (
+        "SCOREBOARD",
+        "tell which beat at the ports of a TileLink to AXI4 bridge is wrong",
+        ("tlscore <OBSERVATION", "tlscore --version"),
+    ),
 }
 COMMANDS = {
     "zuldegei-waves": "read the beats from a dump of a bridge's ports",
@@ -204,8 +208,8 @@ def whole(name: str, what: str, sections: List[str], date: str) -> str:
 
 def pages(date: str) -> Iterator[Tuple[str, str]]:
     """Each manual page: its name and its text."""
-    for name, (page, what, called) in PROGRAMS.items():
-        synopsis = [".SH SYNOPSIS", literal(called)]
+    for name, (page, what, calls) in PROGRAMS.items():
+        synopsis = [".SH SYNOPSIS", "\n.br\n".join(map(literal, calls))]
         text = LAUNCHED.sub(r"\1", (TOP / f"docs/{page}.md").read_text())
         yield f"{name}.1", whole(name, what, [*synopsis, *of_page(text)], date)
     for name, what in COMMANDS.items():

@@ -4,8 +4,8 @@ import subprocess
 from dataclasses import dataclass
 from itertools import zip_longest
 
-# Lines on standard error, as docs/SCRIPT.md has them.
-USAGE = b"usage: tlbridge run, check or threads\n"
+# Lines on standard error, as docs/SCRIPT.md has them, and docs/SCOREBOARD.md.
+USAGE, SCORE_USAGE = b"usage: tlbridge run, check or threads\n", b"usage: tlscore [--version]\n"
 READ, WRITE = b"read fault\n", b"write fault\n"
 MEMORY, SPAWN = b"out of memory\n", b"thread fault: 3 Spawn\n"
 

@@ -172,10 +172,13 @@ def compiled(root: Path, room: Path) -> Iterator[Case]:
 
 
 def commands(root: Path, home: Path) -> Iterator[Case]:
-    """Each command runs from where it stands, and so do the example in Python and the scoreboard in Python."""
+    """Each command runs from where it stands and tells its version, as tlscore does; example and scoreboard in Python run too."""
     for module in MODULES:
         done = ran([str(root / f"bin/zuldegei-{module}"), "--help"], home, BARE)
         yield f"zuldegei-{module}", why(done) or (None if done.stdout.startswith(f"usage: zuldegei-{module} ") else done.stdout)
+    for name in ("tlscore", *(f"zuldegei-{it}" for it in MODULES)):
+        done = ran([str(root / f"bin/{name}"), "--version"], home, BARE)
+        yield f"{name} --version", why(done) or (None if done.stdout == f"{name} {VERSION}\n" else done.stdout)
     bench = str(root / "share/doc/zuldegei/examples/testbench/random_bench.py")
     done = ran(["python3", "-B", bench, "--program", str(root / "bin/tlbridge"), "--steps", "200", "7"], home, BARE)
     yield "the example in Python", why(done)

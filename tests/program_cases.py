@@ -20,7 +20,7 @@ import client  # noqa: E402
 import launcher_cases  # noqa: E402
 import random_bench  # noqa: E402
 import script_cases  # noqa: E402
-from ends import READ, USAGE, WRITE, Ended, started  # noqa: E402
+from ends import READ, SCORE_USAGE, USAGE, WRITE, Ended, started  # noqa: E402
 
 FIRST = (TOP / "examples/first.script").read_bytes()
 TRACE = (TOP / "examples/first.trace").read_bytes()
@@ -36,6 +36,9 @@ LARGE_GET, INTENT = b"a 0 4 0 12 0 0 ff 0 0\n", b"a 0 5 0 3 0 8 ff 0 0\n"
 ONE_LIVE = b"config 1 1 16 2 16 12 h\nregion 0 4 10 gpah\npage 10 4 good\n"
 HINTED = b"D 0 2 0 3 0 0 0000000000000000 0\n"
 MOST_STEPS = ONE_LIVE + LARGE_GET * 189 + GET * 6 + INTENT * 4
+VERSION = (TOP / "VERSION").read_text().strip()
+# The commands of the package, each with its module.
+COMMANDS = re.findall(r'(?m)^(zuldegei-[\w-]+) = "(zuldegei\.\w+):main"$', (TOP / "python/pyproject.toml").read_text())
 # A script on a page, by its word, and, by its status, its trace, or its line on standard error where it has no trace.
 SHOWN = re.compile(r"(?m)^```script (\w+)\n((?:(?!```).*\n)*)```\n\n```(trace|fault) (\d)\n((?:(?!```).*\n)*)```$")
 
@@ -220,6 +223,28 @@ REDIRECTED = {
     "all three closed": ('exec "$0" run <&- >&- 2>&-', b"", 3, b"", b""),
 }
 
+# Words that tlscore refuses.
+REFUSED_WORDS = {
+    "a word": ["run"],
+    "an empty word": [""],
+    "a word that --version begins with": ["--versio"],
+    "a word that begins with --version": ["--version="],
+    "--version in capitals": ["--VERSION"],
+    "version": ["version"],
+    "-V": ["-V"],
+    "-h": ["-h"],
+    "--help": ["--help"],
+    "--": ["--"],
+    "--version twice": ["--version", "--version"],
+    "a second word after --version": ["--version", "x"],
+    "an empty word after --version": ["--version", ""],
+    "-- before --version": ["--", "--version"],
+    "--version and two words": ["--version", "x", "y"],
+    "a word that isn't UTF-8": [b"r\xfcn"],
+    "a second word that isn't UTF-8": ["--version", b"\xff"],
+    "a word of 100,000 bytes": ["x" * 100_000],
+}
+
 
 def of_table(program):
     for name, (words, given, *wanted) in TABLE.items():
@@ -318,7 +343,9 @@ def of_scores(program):
         given, name = row.read_bytes(), f"tlscore: {row.stem}"
         yield name, lambda g=given, x=wanted: started([score], g).wrong(*x)
         yield f"{name} with CR LF", lambda g=given.replace(b"\n", b"\r\n"), x=wanted: started([score], g).wrong(*x)
-    yield "tlscore: a word", lambda: started([score, "run"], b"").wrong(6, b"", b"usage: tlscore\n")
+    for name, words in REFUSED_WORDS.items():
+        given = (TOP / "examples/scoreboard/right.in").read_bytes()
+        yield f"tlscore: {name}", lambda w=words, g=given: started([score, *w], g).wrong(6, b"", SCORE_USAGE)
     for script in (*sorted(TOP.glob("examples/*.script")), *sorted(TOP.glob("tests/rows/**/*.script"))):
         if not script.stem.startswith(("check", "threads")) and not script.with_suffix(".fault").exists():
             given = script_cases.setup_of(script.read_bytes()) + script.with_suffix(".trace").read_bytes()
@@ -328,6 +355,31 @@ def of_scores(program):
     ):
         given = (TOP / "examples/scoreboard/right.in").read_bytes()
         yield f"tlscore {how}", lambda h=how, g=given, x=wanted: started(["sh", "-c", f'"$0" {h}', score], g).wrong(*x)
+
+
+def of_versions(program):
+    """The version that tlscore and the commands of the package print: that of the file VERSION, behind their names."""
+    score, line = score_of(program), f"tlscore {VERSION}\n".encode()
+    yield "tlscore: the version", lambda: started([score, "--version"], b"").wrong(0, line, b"")
+    yield "tlscore: the version, and input that isn't read", lambda: unread([score, "--version"], 0, line, b"")
+    yield "tlscore: a word, and input that isn't read", lambda: unread([score, "run"], 6, b"", SCORE_USAGE)
+    for how, *wanted in (("<&-", 0, line, b""), ("2>&-", 0, line, b""), (">&-", 3, b"", WRITE), (">/dev/full", 3, b"", WRITE)):
+        yield f"tlscore --version {how}", lambda h=how, x=wanted: started(["sh", "-c", f'"$0" --version {h}', score], b"").wrong(*x)
+    yield "tlscore: the version, to a pipe whose reader is gone", lambda: reader_gone(score, "--version", b"")
+    yield "the commands of the package", lambda: None if COMMANDS else "pyproject.toml lists none"
+    for name, module in COMMANDS:
+        words = ["env", f"PYTHONPATH={TOP / 'python'}", sys.executable, "-B", "-m", module, "--version"]
+        yield f"{name} --version", lambda w=words, n=name: started(w, b"").wrong(0, f"{n} {VERSION}\n".encode(), b"")
+
+
+def unread(words, *wanted):
+    """A pipe with a byte in it, which is still there when the program has ended."""
+    reads, writes = os.pipe()
+    with open(reads, "rb") as left:
+        with open(writes, "wb") as given:
+            given.write(b"x")
+        ran = subprocess.run(words, stdin=left, capture_output=True, timeout=120)
+        return Ended.of(ran).wrong(*wanted) or (None if left.read() == b"x" else "it reads its input")
 
 
 def of_right(ran):
@@ -344,7 +396,7 @@ def main(program):
         print("the program isn't built: ./tlbridge builds it, and so does ./test\n0 passed, 1 failed")
         return 1
     passed = failed = 0
-    for cases in (of_examples, of_pages, of_table, of_scripts, of_pipes, of_scores, launcher_cases.cases):
+    for cases in (of_examples, of_pages, of_table, of_scripts, of_pipes, of_scores, of_versions, launcher_cases.cases):
         for name, case in cases(program):
             try:
                 why = case()

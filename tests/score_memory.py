@@ -3,18 +3,20 @@
 Words that can't be had come first (status 6), then want of memory before any text (status 4). A page takes room where a line
 says what it began with, or with the first request that gives it bytes, and with no other: by `profile bridge` at its last beat, by `profile tilelink` at its first. Where
 memory is refused there, the program ends with status 4 behind the text of the lines before. Where one growth alone is refused a
-vector may ask once more, for just what it needs, and so grow sooner again: then nothing is wanting.
+vector may ask once more, for just what it needs, and so grow sooner again: then nothing is wanting. With the word `--version` room
+is wanted for the words and the line alone, and nothing is read.
 
     python3 tests/score_memory.py TLSCORE
 """
 
 import sys
+from pathlib import Path
 from typing import NamedTuple
 
-from ends import MEMORY, told
+from ends import MEMORY, SCORE_USAGE, told
 from shim import Shim
 
-USAGE = b"usage: tlscore\n"
+VERSION = (Path(__file__).resolve().parent.parent / "VERSION").read_text().strip()
 SETUP = "config 2 4 16 2 16 12 hh", "region 0 4 10 gpah", "page 10 4 good"
 BRIDGE, TILELINK = PROFILES = "bridge", "tilelink"
 
@@ -89,7 +91,7 @@ def wrong_end(ran, ends):
     if place is None:
         return f"status {ran.status} behind {len(ran.text)} bytes of text that end in {ran.text[-80:]!r}"
     del ends[:place]
-    return ran.wrong(ran.status, ran.text, USAGE if ran.status == 6 else MEMORY)
+    return ran.wrong(ran.status, ran.text, SCORE_USAGE if ran.status == 6 else MEMORY)
 
 
 def growths(shim, script, profile, chosen=None):
@@ -112,11 +114,28 @@ def growths(shim, script, profile, chosen=None):
     print(f"profile {profile}: {asked if not chosen else len(calls)} of {asked} growths refused")
 
 
+def growths_of_version(shim):
+    """Growths refused where the version is asked for: the words can't be had, or the room for its line."""
+    words, line, seen = ["--version"], f"tlscore {VERSION}\n".encode(), set()
+    free, ends = shim.run(words, b""), [(6, b""), (4, b"")]
+    yield "no growth refused", free.wrong(0, line, b"") or ("it reads" if free.counts["read"] else None)
+    asked, wanted = free.counts["growth"], set(ends)
+    for _, alone, ran, name in shim.refused(words, b"", "growth", asked):
+        if alone and ran.status == 0 and ran.counts["growth"] > asked:
+            yield name, ran.wrong(0, line, b"")
+            continue
+        seen.add((ran.status, ran.text))
+        yield name, wrong_end(ran, ends)
+    yield "each end was seen", None if seen == wanted else f"{len(seen ^ wanted)} of {len(wanted)} weren't, or others were"
+    print(f"--version: {asked} of {asked} growths refused")
+
+
 def cases(program):
     shim = Shim(program)
     for profile in PROFILES:
         script = Script(SETUP, LINES, LAST)
         yield from ((f"profile {profile}: {name}", why) for name, why in growths(shim, script, profile))
+    yield from ((f"--version: {name}", why) for name, why in growths_of_version(shim))
 
 
 if __name__ == "__main__":

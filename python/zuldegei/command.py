@@ -6,6 +6,8 @@ import os
 import sys
 from typing import Callable, NoReturn
 
+from . import __version__
+
 
 class Status(enum.IntEnum):
     """How a command ends: as tlscore does, and as a shell has it of one that was interrupted."""
@@ -37,7 +39,9 @@ class Words(argparse.ArgumentParser):
 
 def words_of(name: str, description: str, more: str = "") -> Words:
     """The words of a command, with a page of its own, which is printed as it stands."""
-    return Words(prog=name, description=description, epilog=more, formatter_class=argparse.RawDescriptionHelpFormatter)
+    words = Words(prog=name, description=description, epilog=more, formatter_class=argparse.RawDescriptionHelpFormatter)
+    words.add_argument("--version", action="version", version=f"%(prog)s {__version__}", help="print name and version and exit")
+    return words
 
 
 def one_line(text: object) -> str:

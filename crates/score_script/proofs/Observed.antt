@@ -8,7 +8,6 @@ use Rattle.score_script.specs.Observations.{LineTold, Observing, SetUpState, obs
 use Rattle.score_script.specs.Scores.{FailsBy, Score, score_kind, score_reading, wrong_command}
 use Rattle.score_script.specs.declared.profiles.Asked.{Asked}
 use Rattle.score_script.specs.declared.score.Command.{Command}
-use Rattle.score_script.specs.declared.score.Command.TheVariants as command
 use Rattle.score_setup.specs.ScoreSetups.{RangeLists}
 use Rattle.script_text.specs.Scripts.{LineStep, line_step}
 use Rattle.script_text.specs.Stages.{Running, Stage, command_step, nothing_written}

@@ -1,1 +1,3 @@
 pub mod Endings
+pub mod Version
+pub mod Words

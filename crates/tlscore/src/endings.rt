@@ -14,9 +14,9 @@ use std::alloc::Global;
 use std::io::{BufWriter, Read, Write};
 use subordinate::DeviceFault;
 
-/// Flushes the output of an input that ended so, where the buffer isn't empty. Output that can't be flushed is a write fault.
+/// Flushes the output of what ended so, where the buffer isn't empty. Output that can't be flushed is a write fault.
 #[tactic(auto, using(crate::proofs::Held::no_byte))]
-fn flushed<W: Write + Drop>(
+pub(crate) fn flushed<W: Write + Drop>(
     ending: Result<bool, ScriptFault>,
     writer: &mut BufWriter<W>,
 ) -> Result<bool, ScriptFault>

@@ -1,9 +1,9 @@
 //! The program: it reads what was observed at the ports of a bridge, and prints each beat that can't be right.
 #![tactic(auto)]
 
-ghost use Rattle.std.specs.Prelude.{◌≤◌, ◌↔◌, IsSomeAnd, IsTrue, vec_len};
-
 mod endings;
+mod tasks;
+mod version;
 
 use endings::{scored, status_of};
 use script_text::ScriptFault;
@@ -12,8 +12,10 @@ use std::env;
 use std::io::{BufWriter, Read, Write};
 use std::process::ExitCode;
 use std::rt::Env;
+use tasks::{Task, task_of};
+use version::version_told;
 
-/// The exit status where there is a word.
+/// The exit status where the words are refused.
 const BAD_WORDS: u8 = 6;
 
 fn words_given<R: Env + AllocGlobal>(rt: &R) -> Option<Vec<String>> {
@@ -21,18 +23,9 @@ fn words_given<R: Env + AllocGlobal>(rt: &R) -> Option<Vec<String>> {
     args.collect(rt.alloc()).ok()
 }
 
-/// Whether the program's name is the only word.
-fn is_bare(words: Option<Vec<String>>) -> bool
-    ensures { IsTrue result ↔ IsSomeAnd words (λ given. vec_len given ≤ 1) }
-{
-    match words {
-        None => false,
-        Some(words) => words.len() <= 1,
-    }
-}
-
-/// Judges the input.
-fn read_input<R: Read, W: Write + Drop>(
+/// Does what is asked.
+fn carried_out<R: Read, W: Write + Drop>(
+    task: Task,
     alloc: Global,
     reader: &mut R,
     output: W,
@@ -40,15 +33,18 @@ fn read_input<R: Read, W: Write + Drop>(
     let Ok(mut writer) = BufWriter::new(alloc, output) else {
         return Err(ScriptFault::NoMemory);
     };
-    scored(alloc, reader, &mut writer)
+    match task {
+        Task::Judge => scored(alloc, reader, &mut writer),
+        Task::Version => version_told(&mut writer),
+    }
 }
 
 fn main(rt: HostRuntime) -> ExitCode {
-    if !is_bare(words_given(&rt)) {
-        let _ = eprintln!(rt; "usage: tlscore");
+    let Some(task) = task_of(words_given(&rt)) else {
+        let _ = eprintln!(rt; "usage: tlscore [--version]");
         return ExitCode::from(BAD_WORDS);
-    }
-    let ending = read_input(rt.alloc(), &mut rt.reader(), rt.stdout());
+    };
+    let ending = carried_out(task, rt.alloc(), &mut rt.reader(), rt.stdout());
     if let Err(fault) = ending {
         let _ = eprintln!(rt; "{fault}");
     }

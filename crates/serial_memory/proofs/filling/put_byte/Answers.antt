@@ -1,6 +1,6 @@
 -- One byte of its word is strobed.
 use Rattle.std.proofs.Common.{◌∙◌}
-use Rattle.sparse_memory.specs.SparseMemory.{bytes_in, doubts_in, put_word}
+use Rattle.sparse_memory.specs.SparseMemory.{bytes_in, doubts_in}
 use Rattle.serial_memory.proofs.FilledBytes.{byte-known, byte-put}
 use Rattle.serial_memory.proofs.filling.put_byte.Goals as goal
 
