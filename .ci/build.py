@@ -72,14 +72,20 @@ class Crate:
 
 
 def crates_of(program):
-    """A program and each crate that it stands on, the lowest first."""
+    """A program and each crate that it stands on, the lowest first, in whatever order the list names them."""
     lines = [line for line in Path("crates.txt").read_text().splitlines() if line and not line.startswith("#")]
     listed, crates = {line.split(":")[0].split()[0]: line for line in lines}, {}
     known = dict(line.split() for table in TABLES if table.exists() for line in table.read_text().splitlines())
-    for name in (*listed[program].split(":")[1].split(), program):
-        if name in listed:
-            below = [crates[it] for it in listed[name].split(":")[1].split() if it in listed]
-            crates[name] = Crate(listed[name], below, name == program, float(known.get(name, 30)))
+
+    def put_behind_those_below(name):
+        below = [it for it in listed[name].split(":")[1].split() if it in listed]
+        for it in below:
+            if it not in crates:
+                put_behind_those_below(it)
+        lowest_first = [crate for crate in crates.values() if crate.name in below]
+        crates[name] = Crate(listed[name], lowest_first, name == program, float(known.get(name, 30)))
+
+    put_behind_those_below(program)
     return [*crates.values()]
 
 

@@ -162,6 +162,26 @@ def time_to_go(copy):
     return None if table == "low 1\ntlbridge 1\n" else f"it noted {table!r}"
 
 
+def named_in_any_order(copy):
+    """The list names a crate ahead of one that it stands on."""
+    copy.source("crates.txt", "tlbridge: other low\nother: low\nlow:\n")
+    return runs(copy.call(), builds=["lib low", "lib other", "run tlbridge"])
+
+
+def built_in_order(copy):
+    """By this repository's own list: what each program is built of stands behind all that it stands on."""
+    code = "import build, sys; [print(it.name, *(below.name for below in it.below)) for it in build.crates_of(sys.argv[1])]"
+    for program in ("tlbridge", "tlscore", "zuldegei"):
+        env = {**os.environ, "PYTHONPATH": ".ci"}
+        ran = subprocess.run([sys.executable, "-c", code, program], cwd=TOP, env=env, capture_output=True, text=True)
+        lines = [line.split() for line in ran.stdout.splitlines()]
+        names = [line[0] for line in lines]
+        early = [name for at, (name, *below) in enumerate(lines) if not {*below} <= {*names[:at]}]
+        if ran.returncode or names[-1:] != [program] or len(names) < 20 or early:
+            return f"{program}: {ran.stderr[-200:]!r}, {len(names)} crates, too early {early}"
+    return None
+
+
 def times_noted(copy):
     """While another command proves: of each crate, but not of its tests; of a processor by kind; the command's status stays."""
     copy.source("out/seconds", "other 40\n")
@@ -399,6 +419,8 @@ def cases(program):
         "a build that goes on": goes_on,
         "a build that the keyboard stops": interrupted,
         "how long a build will take": time_to_go,
+        "a list in any order": named_in_any_order,
+        "this repository's own list": built_in_order,
         "how long each crate took": times_noted,
         "how long a whole test took": times_kept,
         "the words": words_pass,
