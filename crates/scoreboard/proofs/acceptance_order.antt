@@ -4,11 +4,14 @@ pub mod DueLists
 pub mod Fixed
 pub mod KnownBytes
 pub mod KnownLanes
+pub mod Lasts
+pub mod LeftOut
 pub mod Meanings
 pub mod Owed
 pub mod Reached
 pub mod ReplySteps
 pub mod RequestBeats
 pub mod RequestSteps
+pub mod ResetInOrder
 pub mod SeenLists
 pub mod Told

@@ -15,14 +15,15 @@ use Rattle.config.specs.Configs.{axi_port_of, port_of}
 use Rattle.meaning.specs.Meaning.{Bytes, bytes_after_all}
 use Rattle.setups.specs.Setups.{faults_of}
 use Rattle.scoreboard.specs.Boards.{Beginning, Board, ClientBoard, opening_client, opening_from}
-use Rattle.scoreboard.specs.Flights.{Footprint}
+use Rattle.scoreboard.specs.Flights.{Footprint, InFlight}
 use Rattle.scoreboard.specs.InTurn.{DueBeat, dues_of}
 use Rattle.scoreboard.specs.Observed.{Observed, nothing_observed, requests_in}
 use Rattle.scoreboard.specs.Right.{IsRightNow, acts, is_of, replies_from, replies_to, unknown_after, unknown_after_all}
 use Rattle.scoreboard.specs.declared.Errors.{Errors}
 use Rattle.serial_memory.specs.SerialMemory.{Memory, carried_out, meaning_in}
 use Rattle.scoreboard.proofs.acceptance_order.DueLists.{AreDues, AreOf}
-use Rattle.scoreboard.proofs.acceptance_order.Owed.{IsOwed, eqb_same, flying}
+use Rattle.scoreboard.proofs.acceptance_order.Lasts.{IsOfLast}
+use Rattle.scoreboard.proofs.acceptance_order.Owed.{IsOwed, eqb_same, flying, flying_of}
 use Rattle.scoreboard.proofs.acceptance_order.SeenLists.{bytes_after_all-append, pairs-append, pairs-count, shown_to-append, unknown_after_all-append}
 use Rattle.scoreboard.proofs.acceptance_order.Told.{told_nothing}
 
@@ -34,6 +35,7 @@ pub record IsClientOf (beginning : Beginning) (observed : Observed) (number : �
   pub front : client.front ≡ held_of number (observed.begun number)
   pub dues : AreDues (flying client.flights)
   pub owed : (source : ℕ) → IsOwed (replies_to beginning observed number source) (observed.told number source) client.flights source
+  pub lasts : (source : ℕ) (flight : InFlight) → flying_of client.flights source ≡ Some flight → IsOfLast beginning.lists number source (requests_in observed) flight.footprint
 
 -- the memory as the requests leave it
 abbrev pub memory_left : Beginning → List WholeRequest → Memory

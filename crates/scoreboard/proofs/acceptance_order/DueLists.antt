@@ -51,7 +51,7 @@ due_found source (first ∷ flights) flight dues found = grind (arith, found, du
 -- ---- one taken out
 
 -- none is left of its source
-none_more : (source : ℕ) (flights : List InFlight) → AreDues flights → find (is_of_source source) (without_first (is_of_source source) flights) ≡ None
+pub none_more : (source : ℕ) (flights : List InFlight) → AreDues flights → find (is_of_source source) (without_first (is_of_source source) flights) ≡ None
 none_more source [] dues = refl
 none_more source (flight ∷ flights) dues = grind (arith, dues.1, eqb-true flight.source source, none_more source flights dues.2)
 

@@ -3,7 +3,7 @@ use Rattle.std.proofs.Common.{◌≡◌, Bool, ℕ, ◌==◌, true, false, ◌&&
 use Rattle.std.specs.Prelude.{◌≢◌, is_some, nat_lt}
 use Rattle.std.specs.List.{find}
 use Rattle.std.specs.Option.{option_to_list}
-use Rattle.std.proofs.lemmas.Bool.{eq-eqb, eqb-true}
+use Rattle.std.proofs.lemmas.Bool.{eq-eqb, eqb-true, ne_eqb}
 use Rattle.std.proofs.lemmas.Bool.Decides.{eqb_tells, nat_tests}
 use Rattle.std.specs.Cmp.{booleans_Decides}
 use Rattle.std.proofs.lemmas.List.{append_assoc}
@@ -225,17 +225,24 @@ flying_with flights flight = sym (append_assoc (option_to_list flights.begun) fl
 pub flying_more : (flights : Flights) (flight : InFlight) → AreDues (flying flights) → IsDue flight → flying_of flights flight.source ≡ None → AreDues (flying (with_flight flight flights))
 flying_more flights flight dues due none = subst AreDues (sym (flying_with flights flight)) (dues_with (flying flights) flight dues due none)
 
+-- of its own source, of which none was, it is found
+pub flying_own : (flights : Flights) (flight : InFlight) → flying_of flights flight.source ≡ None → flying_of (with_flight flight flights) flight.source ≡ Some flight
+flying_own flights flight none =
+    ap (find (is_of_source flight.source)) (flying_with flights flight) ∙ find-append (is_of_source flight.source) (flying flights) (flight ∷ []) ∙ rw (none, eqb_same flight.source) refl
+
+-- and of another what was
+pub flying_other : (flights : Flights) (flight : InFlight) (other : ℕ) → other ≢ flight.source → flying_of (with_flight flight flights) other ≡ flying_of flights other
+flying_other flights flight other differs = ap (find (is_of_source other)) (flying_with flights flight) ∙ find-append-fails (is_of_source other) (flying flights) flight (ne_eqb flight.source other (λ same. differs (sym same)))
+
 -- of a source of which nothing was left
 pub owed_own : (flights : Flights) (flight : InFlight) (replies : List (List DueBeat)) (told : List DBeat) → flying_of flights flight.source ≡ None → IsOwed replies told flights flight.source
     → IsOwed (replies ++ dues_of flight.footprint flight.beats ∷ []) told (with_flight flight flights) flight.source
 owed_own flights flight replies told none owed =
     let left = owed.left_is ∙ ap beats_in none in
     let on = told-reply replies told (dues_of flight.footprint flight.beats) owed.is_told left in
-    let found_last : flying_of (with_flight flight flights) flight.source ≡ Some flight =
-    ap (find (is_of_source flight.source)) (flying_with flights flight) ∙ find-append (is_of_source flight.source) (flying flights) (flight ∷ []) ∙ rw (none, eqb_same flight.source) refl in
     record {
       is_told = on.is_told;
-      left_is = on.left_is ∙ sym (ap beats_in found_last);
+      left_is = on.left_is ∙ sym (ap beats_in (flying_own flights flight none));
       has_begun = λ partly. absurd (omega (arith, partly.some_told, ap length on.left_is, ap length (last_of-append replies (dues_of flight.footprint flight.beats))));
       partly = λ is. absurd (omega (arith, (owed.partly is).some_left, ap length left));
     }

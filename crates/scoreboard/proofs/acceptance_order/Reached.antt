@@ -114,6 +114,10 @@ holds_after beginning before (seen ∷ rest) middle board holds (none, more) =
 reached_holds : (errors : Errors) (beginning : Beginning) (before : List ObservedBeat) (board : Board) → IsReached AcceptanceOrder (opening_from errors beginning) before board → Holds beginning before board
 reached_holds errors beginning before board reached = holds_after beginning [] before (opening_from errors beginning) board (record { held = board_opens errors beginning; right = right_nothing beginning }) reached
 
+-- and what was observed is held there
+pub held_when_reached : (errors : Errors) (beginning : Beginning) (before : List ObservedBeat) (board : Board) → IsReached AcceptanceOrder (opening_from errors beginning) before board → IsBoardOf beginning (observed_in before) board
+held_when_reached errors beginning before board reached = (reached_holds errors beginning before board reached).held
+
 -- ---- the next beat
 
 -- a beat that may come isn't wrong

@@ -9,12 +9,13 @@ use Rattle.axi_checker.specs.Rules.{axi_fault, first_axi_fault, open_after_all}
 use Rattle.config.specs.Configs.{axi_port_of}
 use Rattle.scoreboard.specs.AxiPorts.{PortBoard, after_in_order, drained, wrong_axi, wrong_in_order}
 use Rattle.scoreboard.specs.Boards.{Beginning, Board, ClientBoard, client_after, client_cut, early_after, told_to, with_client, wrong_reply}
-use Rattle.scoreboard.specs.Flights.{Flights, flights_after, next_reply}
-use Rattle.scoreboard.specs.Observed.{Observed, with_axi_beat, with_reply_beat}
+use Rattle.scoreboard.specs.Flights.{Flights, InFlight, flights_after, next_reply}
+use Rattle.scoreboard.specs.Observed.{Observed, requests_in, with_axi_beat, with_reply_beat}
 use Rattle.scoreboard.specs.declared.Policy.TheVariants.{AcceptanceOrder}
 use Rattle.scoreboard.specs.Right.{IsFree, IsPartly, IsRightNow, IsTold, left_of, replies_to}
 use Rattle.scoreboard.proofs.acceptance_order.BoardOf.{IsBoardOf, IsClientOf}
-use Rattle.scoreboard.proofs.acceptance_order.Owed.{Comes, IsOwed, as_untold, dues_after, eqb_same, left_before, left_comes, owed_after, owed_beside, right_comes, same_or_not, uncut}
+use Rattle.scoreboard.proofs.acceptance_order.Lasts.{IsOfLast, was_in_flight}
+use Rattle.scoreboard.proofs.acceptance_order.Owed.{Comes, IsOwed, as_untold, dues_after, eqb_same, flying, flying_of, left_before, left_comes, owed_after, owed_beside, right_comes, same_or_not, uncut}
 use Rattle.scoreboard.proofs.acceptance_order.RequestSteps.{board_with, client_kept}
 use Rattle.scoreboard.proofs.acceptance_order.SeenLists.{axi_fault-append, open_after_all-append}
 use Rattle.scoreboard.proofs.acceptance_order.Told.{left-beat}
@@ -40,10 +41,19 @@ owed_told beginning observed number client beat to source = elim (same_or_not so
   | inr differs ↦ rw (told_other observed number beat number source (inr differs)) (owed_beside client.flights beat source to.comes differs (to.of.owed source))
 ]
 
+-- what is in flight then was before
+lasts_told : (beginning : Beginning) (observed : Observed) (number : ℕ) (client : ClientBoard) (beat : DBeat) → ComesTo beginning observed number client beat → (source : ℕ) (flight : InFlight)
+    → flying_of (flights_after client.flights beat.source) source ≡ Some flight → IsOfLast beginning.lists number source (requests_in observed) flight.footprint
+lasts_told beginning observed number client beat to source flight is =
+    let comes = to.comes in
+    let there = rw (sym comes.own) at comes.found in
+    let was = was_in_flight (flying client.flights) comes.flight comes.rest source flight to.of.dues there (rw (comes.flying_is, sym comes.own) at is) in
+    subst (IsOfLast beginning.lists number source (requests_in observed)) was.same (to.of.lasts source was.flight was.found)
+
 client_told : (beginning : Beginning) (observed : Observed) (number : ℕ) (client : ClientBoard) (beat : DBeat) → ComesTo beginning observed number client beat
     → IsClientOf beginning (with_reply_beat number beat observed) number (record client { flights = flights_after client.flights beat.source; early = early_after client beat.source; told = unwrap_or (told_to client) beat.denied })
 client_told beginning observed number client beat to =
-    record { limits = to.of.limits; front = to.of.front; dues = dues_after client.flights beat to.of.dues to.comes; owed = owed_told beginning observed number client beat to }
+    record { limits = to.of.limits; front = to.of.front; dues = dues_after client.flights beat to.of.dues to.comes; owed = owed_told beginning observed number client beat to; lasts = lasts_told beginning observed number client beat to }
 
 right_told : (beginning : Beginning) (observed : Observed) (number : ℕ) (client : ClientBoard) (beat : DBeat) → ComesTo beginning observed number client beat → IsRightNow beginning observed
     → IsRightNow beginning (with_reply_beat number beat observed)
@@ -77,7 +87,7 @@ step_reply beginning observed board number client beat of there none =
     subst (λ (flights : Flights). IsBoardOf beginning (with_reply_beat number beat observed) (with_client number (client_after beat (record client { flights = flights })) board))
     (sym (uncut client.flights beat to.comes))
     (board_with number client _ board.memory board.indeterminate of there (client_told beginning observed number client beat to)
-    (λ other found differs was. client_kept was refl (λ source. refl) (λ source. told_other observed number beat other source (inl differs))) of.memory of.unknown refl
+    (λ other found differs was. client_kept was refl (λ source. refl) (λ source. told_other observed number beat other source (inl differs)) (λ source. refl)) of.memory of.unknown refl
     (right_told beginning observed number client beat to of.right))
   where
     to : ComesTo beginning observed number client beat
@@ -114,7 +124,7 @@ with_port : {beginning : Beginning} {observed : Observed} {board : Board} (beats
 with_port beats port of limits open_bursts none =
     record {
       count = of.count;
-      clients = λ number client there. client_kept (of.clients number client there) refl (λ source. refl) (λ source. refl);
+      clients = λ number client there. client_kept (of.clients number client there) refl (λ source. refl) (λ source. refl) (λ source. refl);
       memory = of.memory;
       unknown = of.unknown;
       limits = limits ∙ of.limits;

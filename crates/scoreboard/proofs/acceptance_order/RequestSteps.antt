@@ -1,6 +1,6 @@
 -- A beat on channel A that isn't wrong: what is held then is what was observed then, and it is right.
 use Rattle.std.proofs.Common.{◌≡◌, ℕ, ◌==◌, Bool, true, false, ◌&&◌, List, [], ◌∷◌, ◌++◌, length, zip, Some, None, Result, Ok, Err, if◌then◌else◌, ◌⊎◌, inl, inr, refl, sym, ◌∙◌, ap, ap₂, subst, arith}
-use Rattle.std.proofs.lemmas.Bool.{ne_eqb}
+use Rattle.std.proofs.lemmas.Bool.{eq-eqb, ne_eqb}
 use Rattle.std.specs.Prelude.{◌≢◌, is_some, option_map, slice_get, slice_set}
 use Rattle.std.proofs.lemmas.List.{length-append, length-set}
 use Rattle.std.proofs.lemmas.Option.{slice_get_within}
@@ -21,7 +21,7 @@ use Rattle.responses.specs.Shown.{Reply, shown}
 use Rattle.config.specs.Configs.{port_of}
 use Rattle.meaning.specs.InTurn.{IsSpelled, AcceptedMessage}
 use Rattle.scoreboard.specs.Boards.{Beginning, Board, ClientBoard, accepted_on, answer_to, answered_on, flight_for, with_accepted, with_client, wrong_request}
-use Rattle.scoreboard.specs.Flights.{Footprint, InFlight, is_busy}
+use Rattle.scoreboard.specs.Flights.{Footprint, InFlight, is_busy, with_flight}
 use Rattle.scoreboard.specs.InTurn.{after_turn, unless_fixed}
 use Rattle.scoreboard.specs.Races.{alone}
 use Rattle.scoreboard.specs.Observed.{Observed, is_complete, requests_in, with_begun, with_message, with_request_beat}
@@ -30,7 +30,8 @@ use Rattle.scoreboard.specs.declared.Policy.TheVariants.{AcceptanceOrder}
 use Rattle.serial_memory.specs.SerialMemory.{Memory, meaning_in, place_in}
 use Rattle.scoreboard.proofs.acceptance_order.BoardOf.{IsBoardOf, IsClientOf, IsWith, dues_given, given_after, memory_left, memory_with, replies_to-other, replies_to-own, shown_some, shown_source, unknown_left, unknown_with}
 use Rattle.scoreboard.proofs.acceptance_order.DueLists.{IsDue}
-use Rattle.scoreboard.proofs.acceptance_order.Owed.{eqb_same, flying_more, free-left, left-free, none_flying, owed_other, owed_own, same_or_not}
+use Rattle.scoreboard.proofs.acceptance_order.Lasts.{IsWhere, last_request, last_with}
+use Rattle.scoreboard.proofs.acceptance_order.Owed.{eqb_same, flying_more, flying_of, flying_other, flying_own, free-left, left-free, none_flying, owed_other, owed_own, same_or_not}
 use Rattle.scoreboard.proofs.acceptance_order.RequestBeats.{EndsHere, GoesOn, IsFreeFor, ends_here, goes_on, may_end, may_go_on}
 use Rattle.scoreboard.proofs.acceptance_order.SeenLists.{all_parts, requests_of-append, zip-append}
 use Rattle.scoreboard.proofs.acceptance_order.Fixed.{dues_unless_fixed}
@@ -45,9 +46,16 @@ at_client P number beats old own others client = grind (arith, own, others)
 
 -- a client of which the same was observed
 pub client_kept : {beginning : Beginning} {old new : Observed} {number : ℕ} {client : ClientBoard} → IsClientOf beginning old number client → new.begun number ≡ old.begun number
-    → ((source : ℕ) → replies_to beginning new number source ≡ replies_to beginning old number source) → ((source : ℕ) → new.told number source ≡ old.told number source) → IsClientOf beginning new number client
-client_kept {number = number} of begun replies told =
-    record { limits = of.limits; front = of.front ∙ ap (held_of number) (sym begun); dues = of.dues; owed = λ source. rw (replies source, told source) (of.owed source) }
+    → ((source : ℕ) → replies_to beginning new number source ≡ replies_to beginning old number source) → ((source : ℕ) → new.told number source ≡ old.told number source)
+    → ((source : ℕ) → last_request number source (requests_in new) ≡ last_request number source (requests_in old)) → IsClientOf beginning new number client
+client_kept {number = number} of begun replies told lasts =
+    record {
+      limits = of.limits;
+      front = of.front ∙ ap (held_of number) (sym begun);
+      dues = of.dues;
+      owed = λ source. rw (replies source, told source) (of.owed source);
+      lasts = λ source flight is. let was = of.lasts source flight is in record { request = was.request; last = lasts source ∙ was.last; where_it_acts = was.where_it_acts };
+    }
 
 -- the board where a client's part changed, and the memory
 pub board_with : {beginning : Beginning} {old new : Observed} {board : Board} (number : ℕ) (client changed : ClientBoard) (memory : Memory) (unknown : ℕ → Bool) → IsBoardOf beginning old board → slice_get board.clients number ≡ Some client
@@ -93,8 +101,8 @@ board_more : (beginning : Beginning) (observed : Observed) (board : Board) (numb
 board_more beginning observed board number client beat of there goes =
     let own = of.clients number client there in
     board_with number client _ board.memory board.indeterminate of there
-    (record { limits = own.limits; front = rw (eqb_same number, own.limits, own.front) (sym (held-append (port_of beginning.lists.config number) (observed.begun number) beat)); dues = own.dues; owed = own.owed })
-    (λ other found differs was. client_kept was (rw (ne_eqb other number differs) refl) (λ source. refl) (λ source. refl)) of.memory of.unknown refl
+    (record { limits = own.limits; front = rw (eqb_same number, own.limits, own.front) (sym (held-append (port_of beginning.lists.config number) (observed.begun number) beat)); dues = own.dues; owed = own.owed; lasts = own.lasts })
+    (λ other found differs was. client_kept was (rw (ne_eqb other number differs) refl) (λ source. refl) (λ source. refl) (λ source. refl)) of.memory of.unknown refl
     (record {
       spelled = of.right.spelled;
       as_many = of.right.as_many;
@@ -147,19 +155,33 @@ pub own_replies : (beginning : Beginning) (observed : Observed) (number : ℕ) (
 own_replies beginning observed number beats message given done =
     own_with beginning observed number beats message given done.client (record { requests = requests_whole observed number beats message done.held; given_is = done.given_is })
 
-pub other_replies : (beginning : Beginning) (observed : Observed) (number : ℕ) (beats : List ABeat) (message : HeldMessage) (given : Footprint × Reply) (client source : ℕ) → IsCompleted beginning observed number beats message given
-    → (client ≢ number) ⊎ (source ≢ message.source) → replies_to beginning (with_whole number beats observed) client source ≡ replies_to beginning observed client source
-other_replies beginning observed number beats message given client source done differs =
-    replies_to-other beginning observed (with_whole number beats observed) (request_of message) given client source
-    (record { requests = requests_whole observed number beats message done.held; given_is = done.given_is }) (not_of differs)
+-- it isn't of another client, or another source
+not_of : (number : ℕ) (message : HeldMessage) (client source : ℕ) → message.client ≡ number → (client ≢ number) ⊎ (source ≢ message.source) → is_of client source (request_of message) ≡ false
+not_of number message client source own (inl other) = rw (ne_eqb message.client client (λ same. other (sym same ∙ own))) refl
+not_of number message client source own (inr other) = rw (ne_eqb message.source source (λ same. other (sym same))) (and_false (message.client == client))
   where
     and_false : (b : Bool) → (b && false) ≡ false
     and_false true = refl
     and_false false = refl
 
-    not_of : (client ≢ number) ⊎ (source ≢ message.source) → is_of client source (request_of message) ≡ false
-    not_of (inl other) = rw (ne_eqb message.client client (λ same. other (sym same ∙ done.client))) refl
-    not_of (inr other) = rw (ne_eqb message.source source (λ same. other (sym same))) (and_false (message.client == client))
+pub other_replies : (beginning : Beginning) (observed : Observed) (number : ℕ) (beats : List ABeat) (message : HeldMessage) (given : Footprint × Reply) (client source : ℕ) → IsCompleted beginning observed number beats message given
+    → (client ≢ number) ⊎ (source ≢ message.source) → replies_to beginning (with_whole number beats observed) client source ≡ replies_to beginning observed client source
+other_replies beginning observed number beats message given client source done differs =
+    replies_to-other beginning observed (with_whole number beats observed) (request_of message) given client source
+    (record { requests = requests_whole observed number beats message done.held; given_is = done.given_is }) (not_of number message client source done.client differs)
+
+-- the last request of a client's source: this, or the one it was
+pub own_last : (beginning : Beginning) (observed : Observed) (number : ℕ) (beats : List ABeat) (message : HeldMessage) (given : Footprint × Reply) → IsCompleted beginning observed number beats message given
+    → last_request number message.source (requests_in (with_whole number beats observed)) ≡ Some (request_of message)
+own_last beginning observed number beats message given done =
+    ap (last_request number message.source) (requests_whole observed number beats message done.held) ∙ last_with number message.source (requests_in observed) (request_of message)
+    ∙ rw (eq-eqb message.client number done.client, eqb_same message.source) refl
+
+pub other_last : (beginning : Beginning) (observed : Observed) (number : ℕ) (beats : List ABeat) (message : HeldMessage) (given : Footprint × Reply) (client source : ℕ) → IsCompleted beginning observed number beats message given
+    → (client ≢ number) ⊎ (source ≢ message.source) → last_request client source (requests_in (with_whole number beats observed)) ≡ last_request client source (requests_in observed)
+other_last beginning observed number beats message given client source done differs =
+    ap (last_request client source) (requests_whole observed number beats message done.held) ∙ last_with client source (requests_in observed) (request_of message)
+    ∙ rw (not_of number message client source done.client differs) refl
 
 pub right_whole : (beginning : Beginning) (observed : Observed) (number : ℕ) (beats : List ABeat) (message : HeldMessage) (given : Footprint × Reply) → IsCompleted beginning observed number beats message given
     → IsRightNow beginning observed → IsRightNow beginning (with_whole number beats observed)
@@ -191,11 +213,17 @@ right_whole beginning observed number beats message given done right =
 abbrev flight_in_turn : Memory → (ℕ → Bool) → WholeRequest → InFlight
 flight_in_turn memory unknown q = flight_for memory (unless_fixed (alone unknown (place_in memory q) q)) q
 
+-- it is where its request acts
+where_in_turn : (beginning : Beginning) (requests : List WholeRequest) (memory : Memory) (unknown : ℕ → Bool) (q : WholeRequest) → memory ≡ memory_left beginning requests
+    → IsWhere beginning.lists q (flight_in_turn memory unknown q).footprint
+where_in_turn beginning requests memory unknown q is = rw is (record { writes = refl; address = refl; size = refl })
+
 client_whole : (beginning : Beginning) (observed : Observed) (number : ℕ) (beats : List ABeat) (message : HeldMessage) (memory : Memory) (unknown : ℕ → Bool) (client : ClientBoard)
+    → memory ≡ memory_left beginning (requests_in observed)
     → IsCompleted beginning observed number beats message (alone unknown (place_in memory (request_of message)) (request_of message), (meaning_in memory (request_of message)).reply)
     → IsClientOf beginning observed number client
     → IsClientOf beginning (with_whole number beats observed) number (with_accepted (flight_in_turn memory unknown (request_of message)) client)
-client_whole beginning observed number beats message memory unknown client done of =
+client_whole beginning observed number beats message memory unknown client here done of =
     let q = request_of message in
     let reply = (meaning_in memory q).reply in
     let footprint = alone unknown (place_in memory q) q in
@@ -213,6 +241,16 @@ client_whole beginning observed number beats message memory unknown client done 
         | inr differs ↦
             rw (other_replies beginning observed number beats message (footprint, reply) number source done (inr differs))
             (owed_other client.flights flight source (replies_to beginning observed number source) (observed.told number source) differs (of.owed source))
+      ];
+      lasts = λ source next is. elim (same_or_not source message.source) [
+        | inl same ↦
+            let found : Some flight ≡ Some next = sym (flying_own client.flights flight none) ∙ subst (λ n. flying_of (with_flight flight client.flights) n ≡ Some next) same is in
+            let it : flight ≡ next = cc (found) in
+            let where_is : IsWhere beginning.lists q next.footprint = subst (λ (f : InFlight). IsWhere beginning.lists q f.footprint) it (where_in_turn beginning (requests_in observed) memory unknown q here) in
+            record { request = q; last = rw same (own_last beginning observed number beats message (footprint, reply) done); where_it_acts = where_is }
+        | inr differs ↦
+            let was = of.lasts source next (sym (flying_other client.flights flight source differs) ∙ is) in
+            record { request = was.request; last = other_last beginning observed number beats message (footprint, reply) number source done (inr differs) ∙ was.last; where_it_acts = was.where_it_acts }
       ];
     }
 
@@ -240,8 +278,9 @@ board_whole beginning observed old number client beat begun of there ends =
     let unknown_here =
     ap₂ (λ (m : Memory) (unknown : ℕ → Bool). after_turn unknown (alone unknown (place_in m (request_of message)) (request_of message)) (request_of message).bytes) of.memory of.unknown
     ∙ unknown_with beginning (requests_in observed) (request_of message) in
-    board_with number client _ _ _ of there (client_whole beginning observed number beats message old.memory old.indeterminate client done own)
-    (λ other found differs was. client_kept was (rw (ne_eqb other number differs) refl) (λ source. other_replies beginning observed number beats message _ other source done (inl differs)) (λ source. refl))
+    board_with number client _ _ _ of there (client_whole beginning observed number beats message old.memory old.indeterminate client of.memory done own)
+    (λ other found differs was. client_kept was (rw (ne_eqb other number differs) refl) (λ source. other_replies beginning observed number beats message _ other source done (inl differs)) (λ source. refl)
+    (λ source. other_last beginning observed number beats message _ other source done (inl differs)))
     (memory_with beginning (requests_in observed) old.memory (request_of message) of.memory ∙ ap (memory_left beginning) (sym (requests_whole observed number beats message held)))
     (unknown_here ∙ ap (unknown_left beginning) (sym (requests_whole observed number beats message held))) refl
     (right_whole beginning observed number beats message _ done of.right)

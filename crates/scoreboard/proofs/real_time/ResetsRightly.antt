@@ -14,6 +14,7 @@ use Rattle.scoreboard.specs.RealTime.{arranged}
 use Rattle.scoreboard.specs.Resets.{AreUnended, ResetsRightly, left_in, left_on}
 use Rattle.scoreboard.specs.declared.Errors.{Errors}
 use Rattle.scoreboard.specs.declared.ObservedBeat.{ObservedBeat}
+use Rattle.scoreboard.proofs.acceptance_order.ResetInOrder.{left_in_order}
 use Rattle.scoreboard.proofs.real_time.Ahead.{IsSame, none_given, shadow_writes}
 use Rattle.scoreboard.proofs.real_time.Arranged.{arises}
 use Rattle.scoreboard.proofs.real_time.Blames.{all_setup, followed, run_all}
@@ -88,4 +89,5 @@ resets_rightly board =
           subst (λ (b : Board). MayBegin (left_on beginning b) (left errors beginning start before (arranged errors beginning before requests numbers) begins (arises errors beginning before requests numbers order becomes) gone unended))
           (sym is)
           (leaves_beginning errors beginning start before (arranged errors beginning before requests numbers) begins (arises errors beginning before requests numbers order becomes) gone unended);
+      in_order = λ errors beginning before requests start reached all took begins. left_in_order errors beginning before board requests start reached all took begins;
     }
