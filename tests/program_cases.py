@@ -368,8 +368,13 @@ def of_versions(program):
     yield "tlscore: the version, to a pipe whose reader is gone", lambda: reader_gone(score, "--version", b"")
     yield "the commands of the package", lambda: None if COMMANDS else "pyproject.toml lists none"
     for name, module in COMMANDS:
-        words = ["env", f"PYTHONPATH={TOP / 'python'}", sys.executable, "-B", "-m", module, "--version"]
-        yield f"{name} --version", lambda w=words, n=name: started(w, b"").wrong(0, f"{n} {VERSION}\n".encode(), b"")
+        words, line = ["env", f"PYTHONPATH={TOP / 'python'}", sys.executable, "-B", "-m", module], f"{name} {VERSION}\n".encode()
+        closed, full = (f"{name}: {why}\n".encode() for why in ("standard output: Bad file descriptor", "a file: No space left on device"))
+        for how, *wanted in (("", 0, line, b""), ("2>&-", 0, line, b""), (">&-", 3, b"", closed), (">/dev/full", 3, b"", full)):
+            yield f"{name} --version {how}", lambda h=how, w=words, x=wanted: started(["sh", "-c", f'"$@" --version {h}', "sh", *w], b"").wrong(*x)
+        yield f"{name} --help >&-", lambda w=words, x=closed: started(["sh", "-c", '"$@" --help >&-', "sh", *w], b"").wrong(3, b"", x)
+        wrong = f"{name}: a word that isn't there, and nowhere to say so"
+        yield wrong, lambda w=words: started(["sh", "-c", '"$@" --there-is-none 2>/dev/full', "sh", *w], b"").wrong(6, b"", b"")
 
 
 def unread(words, *wanted):

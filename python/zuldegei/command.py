@@ -2,9 +2,11 @@
 
 import argparse
 import enum
+import errno
+import io
 import os
 import sys
-from typing import Callable, NoReturn
+from typing import IO, Callable, NoReturn, Optional
 
 from . import __version__
 
@@ -29,12 +31,23 @@ class Fault(Exception):
         self.status = status
 
 
+class Closed(io.TextIOBase):
+    """Standard output that was closed before the command began: nothing can be written there."""
+
+    def write(self, text: str) -> int:
+        raise OSError(errno.EBADF, os.strerror(errno.EBADF), "standard output")
+
+
 class Words(argparse.ArgumentParser):
     """The words of a command; a word that it doesn't know ends it with status 6."""
 
     def error(self, message: str) -> NoReturn:
-        print(f"{self.prog}: {message} ({self.prog} --help says more)", file=sys.stderr)
+        tell(f"{self.prog}: {message} ({self.prog} --help says more)")
         sys.exit(Status.USAGE)
+
+    def _print_message(self, message: str, file: Optional[IO[str]] = None) -> None:
+        """Prints a page or a version; unlike the library's own, it tells where that can't be written."""
+        (file or sys.stderr).write(message)
 
 
 def words_of(name: str, description: str, more: str = "") -> Words:
@@ -49,16 +62,42 @@ def one_line(text: object) -> str:
     return "".join(it if it.isprintable() else "?" for it in " ".join(str(text).split()))[:400]
 
 
-def ended(name: str, work: Callable[[], int]) -> int:
-    """Does the work of a command; gives its status, and where it can't go on its one line on standard error."""
+def tell(line: str) -> None:
+    """A line on standard error, where that is open and takes it."""
+    try:
+        if sys.stderr is not None:
+            print(line, file=sys.stderr, flush=True)
+    except OSError:
+        pass  # the status tells
+
+
+def finished(work: Callable[[], int]) -> int:
+    """The status of a command's work, or of words by which there is none, once what it printed is written."""
     try:
         status = work()
+    except SystemExit as ends:
+        status = int(ends.code or Status.DONE)
+    sys.stdout.flush()
+    return status
+
+
+def let_go() -> None:
+    """What is printed and not written yet is written, or goes nowhere where that can't be."""
+    try:
         sys.stdout.flush()
-        return status
+    except OSError:
+        os.dup2(os.open(os.devnull, os.O_WRONLY), sys.stdout.fileno())
+
+
+def ended(name: str, work: Callable[[], int]) -> int:
+    """Does the work of a command; gives its status, and where it can't go on its one line on standard error."""
+    if sys.stdout is None:
+        sys.stdout = Closed()
+    try:
+        return finished(work)
     except Fault as why:
         said, status = str(why), why.status
     except BrokenPipeError:
-        os.dup2(os.open(os.devnull, os.O_WRONLY), sys.stdout.fileno())  # nobody reads on, and the rest goes nowhere
         said, status = "nobody reads what it writes", Status.CANNOT
     except OSError as why:
         said, status = f"{why.filename or 'a file'}: {why.strerror or why}", Status.CANNOT
@@ -66,9 +105,6 @@ def ended(name: str, work: Callable[[], int]) -> int:
         said, status = "out of memory", Status.MEMORY
     except KeyboardInterrupt:
         said, status = "interrupted", Status.INTERRUPTED
-    try:
-        sys.stdout.flush()
-    except OSError:
-        pass  # the first fault is told
-    print(f"{name}: {one_line(said)}", file=sys.stderr)
+    let_go()
+    tell(f"{name}: {one_line(said)}")
     return status
