@@ -89,8 +89,18 @@ def asked(*words: str) -> str:
     return ran.stdout if ran.returncode == 0 else cannot(f"{' '.join(words)} ended with status {ran.returncode}")
 
 
+def tell_ahead() -> None:
+    """Says what isn't built yet, and how long it takes to build it."""
+    asks = ". ./.ci/stamp.sh; for it in tlbridge tlscore zuldegei; do is_built $it || echo $it; done"
+    unbuilt = asked("sh", "-c", asks).split()
+    if unbuilt:
+        subprocess.run([sys.executable, ".ci/build.py", "--ahead", *unbuilt], cwd=TOP, check=True)
+        print("then all is put together, in a minute; no wrong body is tried on the way", file=sys.stderr, flush=True)
+
+
 def build(room: Path) -> None:
     """Puts programs and libraries into a folder; what isn't built is built."""
+    tell_ahead()
     for program in ("tlbridge", "tlscore"):
         if subprocess.run([f"./{program}"], cwd=TOP, input=b"config 1 1 1 1 1 12 h\n", stdout=subprocess.DEVNULL).returncode:
             cannot(f"{program} wasn't built")
