@@ -72,7 +72,7 @@ toolchain: {toolchain}
 proved: {proved}
 for: Linux on x86-64, glibc 2.{glibc} or later
 """
-BY_TOOLCHAIN = "each function of the crates of tlbridge, tlscore and the library, by this toolchain (README.md says what of each)"
+BY_TOOLCHAIN = "each function of the crates of tlbridge, tlscore and the library, by this toolchain (docs/GUARANTEES.md says what of each)"
 NOT_TOLD = "not told, since the programs and libraries were given as they stood in a folder"
 
 

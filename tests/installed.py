@@ -1,7 +1,7 @@
 """What ./install and ./release give. Each name that is installed is on docs/INSTALL.md, and the other way round; modes, links and
 manual pages are as Debian asks; nothing names the folder of the build; the C example is compiled by pkg-config's words;
 --uninstall leaves nothing. Archives of two copies of the repository are the same bytes; unpacked in an empty folder, with nothing
-of the toolchain on PATH, the commands of the page print what it shows. In the copies a stand-in for rt builds what isn't built.
+of the toolchain on PATH, the commands of the page and of README.md print what these show. In the copies a stand-in for rt builds what isn't built.
 
     python3 tests/installed.py TLSCORE TLBRIDGE LIBRARY
 """
@@ -250,7 +250,8 @@ def archives(room: Path, given: Path) -> Iterator[Case]:
             yield "a release of files that differ from the commit", why(ran(["./release"], copy, env), 3)
         done = ran(["./release", "--changed"], copy, env, umask=0o027 if made else 0o022)
         made[name] = copy / f"out/zuldegei-{VERSION}.tar.gz"
-        progress = ("tlbridge: built in", "tlscore: 0 of 1 built", "zuldegei: 0 of 1 built")
+        progress = ("tlbridge, tlscore, zuldegei: 3 crates to prove and build first, which takes some ", "no wrong body is tried")
+        progress += ("tlbridge: built in", "tlscore: 0 of 1 built", "zuldegei: 0 of 1 built")
         lacking = [it for it in progress if it not in done.stderr]
         yield f"a release of copy {name}", why(done) or (f"on standard error is no {lacking}" if lacking else None)
     if not all(it.exists() for it in made.values()):
@@ -301,6 +302,15 @@ def as_the_page(room: Path, archive: Path) -> Iterator[Case]:
         printed = None if done.stdout == due else f"it prints {done.stdout!r}"
         yield f"block {number} of docs/INSTALL.md", why(done, int(status)) or printed
         exported += "".join(f"{line}\n" for line in block.splitlines() if line.startswith("export "))
+
+
+def as_readme(unpacked: Path) -> Iterator[Case]:
+    """The commands of README.md in the folder of the archive, whose own copy of it is read."""
+    blocks = BLOCK.findall((unpacked / "share/doc/zuldegei/README.md").read_text())
+    yield "the commands of README.md", None if len(blocks) == 1 else f"it has {len(blocks)}"
+    for block, status, due in blocks:
+        done = ran(["sh", "-c", block], unpacked, BARE)
+        yield "README.md in the archive", why(done, int(status)) or (None if done.stdout == due else f"it prints {done.stdout!r}")
 
 
 def moved(room: Path, given: Path) -> Iterator[Case]:
@@ -359,8 +369,9 @@ def cases(score: Path, bridge: Path, library: Path) -> Iterator[Case]:
         archive = room / f"a/out/zuldegei-{VERSION}.tar.gz"
         if archive.exists():
             (room / "new").mkdir()
-            for tried in (packed(archive), as_the_page(room / "new", archive), moved(room / "new", given)):
-                yield from tried
+            tried = packed(archive), as_the_page(room / "new", archive), as_readme(room / f"new/zuldegei-{VERSION}")
+            for part in (*tried, moved(room / "new", given)):
+                yield from part
 
 
 if __name__ == "__main__":
