@@ -187,7 +187,7 @@ def levels():
     counts, by_name = Counter(name for _, name, _ in rows), {name: level for level, name, _ in rows if level in LEVELS}
     odd = sorted(name for name in {*crates, *counts} if counts[name] != 1 or name not in crates or name not in by_name)
     yield "the levels of the crates", f"not once, or on no level: {', '.join(odd)}" if odd or not rows else None
-    for level, name, stands in rows:
+    for level, name, stands in (it for it in rows if it[0] in LEVELS):
         under, all_under = {*stands.replace(",", " ").split()}, crates.get(name, set())
         direct = {it for it in all_under if not any(it in crates[other] for other in all_under)}
         apart = sorted(under ^ direct)
