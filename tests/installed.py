@@ -251,7 +251,7 @@ def archives(room: Path, given: Path) -> Iterator[Case]:
         done = ran(["./release", "--changed"], copy, env, umask=0o027 if made else 0o022)
         made[name] = copy / f"out/zuldegei-{VERSION}.tar.gz"
         progress = ("tlbridge, tlscore, zuldegei: 3 crates to prove and build first, which takes some ", "no wrong body is tried")
-        progress += ("tlbridge: built in", "tlscore: 0 of 1 built", "zuldegei: 0 of 1 built")
+        progress += ("tlbridge: built in", "tlscore: 0 of 1 built", "zuldegei: an archive has the library", "zuldegei: 0 of 1 built")
         lacking = [it for it in progress if it not in done.stderr]
         yield f"a release of copy {name}", why(done) or (f"on standard error is no {lacking}" if lacking else None)
     if not all(it.exists() for it in made.values()):
