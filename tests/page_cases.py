@@ -366,6 +366,24 @@ def kept():
     yield "the files that are kept", None if names else "git lists none"
 
 
+# The minutes that a first build, and a whole test, takes on four processors, by the tables in .ci; without .ci/took the second is 0.
+TAKEN = """import build, took
+build.TABLES = build.TABLES[:1]
+chain, total = build.chains(build.crates_of("tlbridge"), 1)
+print(max(*chain.values(), total / 4) / 60, took.clock(4) if took.KEPT.exists() else 0)"""
+
+
+def times():
+    """What README says of times, which by the tables may be up to half as much again, or two thirds of it."""
+    ran = subprocess.run([sys.executable, "-B", "-c", TAKEN], cwd=TOP, env={"PYTHONPATH": ".ci"}, capture_output=True, text=True)
+    page, taken = (TOP / "README.md").read_text(), [float(it) for it in ran.stdout.split()]
+    said = re.search(r"some (\d+) minutes on four processors", page), re.search(r"about (an hour) the first time", page)
+    for name, found, minutes in zip(("a first build", "a whole test"), said, taken or [0, 0]):
+        named = 60 if found and found[1] == "an hour" else int(found[1]) if found else 0
+        is_right = named / 1.5 <= minutes <= named * 1.5 or name == "a whole test" and not minutes and named
+        yield f"the time of {name}", None if is_right else f"README has {named} minutes, and the tables {minutes:.0f} {ran.stderr[-200:]}"
+
+
 def is_short(page, most):
     lines = len((TOP / page).read_text().splitlines())
     yield f"{page} is short", None if lines <= most else f"it has {lines} lines"
@@ -387,6 +405,7 @@ def guarantees():
 def cases():
     yield from is_short("README.md", 80)
     yield from is_short("docs/WORDS.md", 100)
+    yield from times()
     yield from guarantees()
     yield from links()
     yield from levels()
