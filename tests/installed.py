@@ -1,7 +1,7 @@
 """What ./install and ./release give. Each name that is installed is on docs/INSTALL.md, and the other way round; modes, links and
 manual pages are as Debian asks; nothing names the folder of the build; the C example is compiled by pkg-config's words;
 --uninstall leaves nothing. Archives of two copies of the repository are the same bytes; unpacked in an empty folder, with nothing
-of the toolchain on PATH, the commands of the page and of README.md print what these show. In the copies a stand-in for rt builds what isn't built.
+of the toolchain on PATH, the commands of the page print what it shows. In the copies a stand-in for rt builds what isn't built.
 
     python3 tests/installed.py TLSCORE TLBRIDGE LIBRARY
 """
@@ -286,6 +286,15 @@ def packed(archive: Path) -> Iterator[Case]:
     yield "the checksums in PROVED", f"{wrong}" if wrong or len(sums) != 4 else None
 
 
+def as_readme(unpacked: Path) -> Iterator[Case]:
+    """The commands of README.md in the folder of the archive, whose own copy of it is read."""
+    blocks = BLOCK.findall((unpacked / "share/doc/zuldegei/README.md").read_text())
+    yield "the commands of README.md", None if len(blocks) == 1 else f"it has {len(blocks)}"
+    for block, status, due in blocks:
+        done = ran(["sh", "-c", block], unpacked, BARE)
+        yield "README.md in the archive", why(done, int(status)) or (None if done.stdout == due else f"it prints {done.stdout!r}")
+
+
 def as_the_page(room: Path, archive: Path) -> Iterator[Case]:
     """The commands of the page in an empty folder, in turn, as a new user calls them; what one exports the others have."""
     shutil.copy(archive, room)
@@ -304,20 +313,12 @@ def as_the_page(room: Path, archive: Path) -> Iterator[Case]:
         exported += "".join(f"{line}\n" for line in block.splitlines() if line.startswith("export "))
 
 
-def as_readme(unpacked: Path) -> Iterator[Case]:
-    """The commands of README.md in the folder of the archive, whose own copy of it is read."""
-    blocks = BLOCK.findall((unpacked / "share/doc/zuldegei/README.md").read_text())
-    yield "the commands of README.md", None if len(blocks) == 1 else f"it has {len(blocks)}"
-    for block, status, due in blocks:
-        done = ran(["sh", "-c", block], unpacked, BARE)
-        yield "README.md in the archive", why(done, int(status)) or (None if done.stdout == due else f"it prints {done.stdout!r}")
-
-
 def moved(room: Path, given: Path) -> Iterator[Case]:
     """The unpacked archive under another name, and what its own ./install gives beside what the repository's does."""
     place = room / "moved here"
     shutil.move(room / f"zuldegei-{VERSION}", place)
     yield from commands(place, room)
+    yield from as_readme(place)
     examples = TOP / "examples"
     tried = (("tlscore", "scoreboard/right.in", "scoreboard/right.out"), ("tlbridge", "first.script", "first.trace"))
     for program, source, due in tried:
@@ -369,9 +370,8 @@ def cases(score: Path, bridge: Path, library: Path) -> Iterator[Case]:
         archive = room / f"a/out/zuldegei-{VERSION}.tar.gz"
         if archive.exists():
             (room / "new").mkdir()
-            tried = packed(archive), as_the_page(room / "new", archive), as_readme(room / f"new/zuldegei-{VERSION}")
-            for part in (*tried, moved(room / "new", given)):
-                yield from part
+            for tried in (packed(archive), as_the_page(room / "new", archive), moved(room / "new", given)):
+                yield from tried
 
 
 if __name__ == "__main__":
