@@ -23,7 +23,7 @@ import body_edits  # noqa: E402
 import definitions  # noqa: E402
 from ends import told  # noqa: E402
 
-NAMED = re.compile(r"`(\w+)::(\w+)`,\s+`(\w+)`")
+NAMED = re.compile(r"`(\w+)(?:::[A-Z]\w*)?::(\w+)`,\s+`(\w+)`")
 # A file that a page names, from the top, and one of its headings where that is named too; and what heads a part of a page.
 LINK = re.compile(r'`((?:docs|examples|crates|interfaces|python|tests|\.ci)/[\w./-]+|README\.md)`(?:,\s+"([^"]+)")?')
 HEADING = re.compile(r"(?m)^#+ (.*)$|^(?:- )?\*\*(.+?)\.?\*\*")
