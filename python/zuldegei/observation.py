@@ -6,20 +6,41 @@ from typing import Dict, Iterator, List, NamedTuple, Optional, Sequence, Tuple
 from .command import Fault
 
 A, D, AW, AR, W, B, R = BEATS = ("A", "D", "AW", "AR", "W", "B", "R")
-FIELDS = {A: 9, D: 8, AW: 5, AR: 5, W: 3, B: 2, R: 4}
 NOT_TAKEN = ("noclient", "refused", "notready", "exhausted")
 GET, INTENT, LAST_WITH_DATA, LAST_PUT = 4, 5, 3, 1
 OPERATIONS = ("PutFull", "PutPartial", "Arithmetic", "Logical", "Get", "Intent")
 BUS, PAGE, WORD = 8, 4096, 8  # bytes
 AT_END = ("UNANSWERED", "UNFINISHED")  # what is told of the end of an observation, and of no beat
 WRONG = re.compile(
-    r"= wrong (?P<line>\d+) (?P<kind>client|request|axi|reply) (?P<number>\d+) (?P<name>\w+)(?: expected (?P<due>D .*?))?"
-    r"(?: client (?P<client>\d+) source (?P<source>\d+))?(?: (?P<side>write|read|data)(?: (?P<id>\d+))?)?(?: at (?P<time>\d+))?"
+    r"= wrong (?P<line>\d{1,20}) (?P<kind>client|request|axi|reply) (?P<number>\d{1,20}) (?P<name>\w+)"
+    r"(?: expected (?P<due>D(?: \d{1,3}){5} [01] [0-9a-f]{16} [01]))?(?: client (?P<client>\d{1,3}) source (?P<source>\d{1,3}))?"
+    r"(?: (?P<side>write|read|data)(?: (?P<id>\d{1,3}))?)?(?: at (?P<time>\d{1,20}))?",
+    re.ASCII,
 )
 JUDGED = re.compile(
-    r"= judged (?P<beats>\d+) wrong (?P<wrong>\d+) outstanding (?P<outstanding>\d+) open (?P<open>\d+) "
-    r"compared (?P<compared>\d+) of (?P<told>\d+)"
+    r"= judged (?P<beats>\d{1,20}) wrong (?P<wrong>\d{1,20}) outstanding (?P<outstanding>\d{1,20}) open (?P<open>\d{1,20}) "
+    r"compared (?P<compared>\d{1,20}) of (?P<told>\d{1,20})"
 )
+
+
+def digits(of: str, most: int) -> str:
+    """A field of so many digits behind leading zeros, or one of which a digit isn't known."""
+    return rf"(?:0*[{of}]{{1,{most}}}|[{of}]*[xXzZ][{of}xXzZ]*)"
+
+
+DECIMAL, FLAG, HEXADECIMAL = digits("0-9", 3), digits("01", 1), "0-9a-fA-F"
+ADDRESS, LANES, PAYLOAD = (digits(HEXADECIMAL, most) for most in (8, 2, 16))
+CLIENT, RESPONSE = r"0*\d{1,3}", r"(?:OKAY|EXOKAY|SLVERR|DECERR|[xXzZ]+)"
+# What stands behind the kind of a beat, as docs/SCOREBOARD.md has it.
+FORMS = {
+    A: (CLIENT, DECIMAL, DECIMAL, DECIMAL, DECIMAL, ADDRESS, LANES, PAYLOAD, FLAG),
+    D: (CLIENT, DECIMAL, DECIMAL, DECIMAL, DECIMAL, FLAG, PAYLOAD, FLAG),
+    **dict.fromkeys((AW, AR), (DECIMAL, ADDRESS, DECIMAL, DECIMAL, DECIMAL)),
+    W: (PAYLOAD, LANES, FLAG),
+    B: (DECIMAL, RESPONSE),
+    R: (DECIMAL, PAYLOAD, RESPONSE, FLAG),
+}
+FIELDS = {kind: re.compile(" ".join(forms), re.ASCII) for kind, forms in FORMS.items()}
 
 
 class Beat(NamedTuple):
@@ -125,8 +146,8 @@ class Observation:
             self.entries.append(waiting)
 
     def beat(self, number: int, now: Optional[int], words: List[str]) -> Beat:
-        """A beat, if it has as many words as its kind has."""
-        if len(words) != FIELDS[words[0]] + 1 or words[0] in (A, D) and not words[1].isdigit():
+        """A beat, if its words are those of its kind."""
+        if not FIELDS[words[0]].fullmatch(" ".join(words[1:])):
             raise ValueError(words)
         return Beat(number, now, words[0], words[1:])
 

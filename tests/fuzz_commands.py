@@ -1,0 +1,391 @@
+"""The commands of python/ on what nobody meant to give them: dumps, maps, images, observations, verdicts and set-ups in which bytes and
+lines were flipped, cut, repeated and moved by lot. Each call ends in its time with a status of python/README.md that isn't that of a fault
+of its own (7) or of memory (4), and status 1 stands for a wrong beat alone; where it can't go on it says so in one line.
+
+    python3 tests/fuzz_commands.py TLSCORE [--count N] [--seed N] [--only COMMAND] [--case N --keep FOLDER]
+
+Inputs are made by the seed, the command and the number of the case alone; --case makes one again, and leaves its files in FOLDER.
+"""
+
+import argparse
+import contextlib
+import gzip
+import importlib
+import io
+import itertools
+import json
+import os
+import random
+import re
+import resource
+import signal
+import struct
+import sys
+import tempfile
+import traceback
+from collections import Counter
+from pathlib import Path
+from typing import Callable, Dict, Iterator, List, NamedTuple, Optional, Sequence, Tuple
+from xml.etree import ElementTree
+
+from ends import told
+from waves import HAND, MAP, RTL, TOP, UNKNOWN, a_beat, hand
+from zuldegei.command import Status
+
+COMMANDS = ("waves", "fill", "explain", "wave_of", "regress")
+COUNT, SEED, BATCH, AT_ONCE = 2000, 1, 100, 2
+SECONDS, MEMORY = 10, 2 << 30  # of a processor, for a call, and bytes for those of a batch
+# The statuses of python/README.md that an input may lead to.
+STATUSES = {"waves": (0, 2, 3), "fill": (0, 2, 3), "explain": (0, 1, 2), "wave_of": (0, 1, 2), "regress": (0, 1, 2)}
+WORDS = (
+    *(b"0 1 -1 2 3 7 8 255 256 x z X zzzz ff 00000000 ffffffff 100000000 99999999999999 18446744073709551616 1e5 0x10".split()),
+    *(b"A D AW AR W B R = time fill config region page reset end wrong judged expected at client of part #0 #5 @ @ffffffff /* */ //".split()),
+    *(b"$end $var $scope $upscope $enddefinitions $dumpoff $dumpvars $comment b101 bx use clock layout width renumber axi flat a".split()),
+    b"", b"9" * 5000, b"f" * 400, "\u0663".encode(), b"\xff\xfe", b"\0", b"\x1b[2J", b"=1", b"=-1", b"=", b"[3:0]", b"[", b"*", b"a.b.c",
+)  # fmt: skip
+NUMBERS = (0, 1, 2, 31, 32, 56, 0x7F, 0xFF, 0xFFFF, 0x7FFF_FFFF, 0x8000_0000, 0xFFFF_FFFF, 1 << 40, (1 << 63) - 1, 1 << 63, (1 << 64) - 1)
+Case = Tuple[str, Optional[str]]
+
+
+class Call(NamedTuple):
+    """A call of a command: its words, and its files by their names."""
+
+    words: List[str]
+    files: Dict[str, bytes]
+
+
+class Slow(BaseException):
+    """A call that takes too long."""
+
+
+# ---- inputs
+
+
+def changed(data: bytes, lot: random.Random) -> bytes:
+    """A file with one to four changes by lot, or none."""
+    for _ in range(lot.choice((0, 1, 1, 1, 2, 2, 3, 4))):
+        data = lot.choice((by_byte, by_byte, by_span, by_line, by_line, by_word, by_word, by_number))(data, lot)
+    return data
+
+
+def by_byte(data: bytes, lot: random.Random) -> bytes:
+    """A byte is another one, or has another bit."""
+    if not data:
+        return lot.randbytes(5)
+    made, at = bytearray(data), lot.randrange(len(data))
+    made[at] = made[at] ^ 1 << lot.randrange(8) if lot.randrange(2) else lot.choice(b"\0\n\r\t 09afxzZ#=-.@$\x7f\x80\xff")
+    return bytes(made)
+
+
+def by_span(data: bytes, lot: random.Random) -> bytes:
+    """A span is left out, comes again, many times too, or ends the file."""
+    first, last = sorted(lot.randrange(len(data) + 1) for _ in range(2))
+    last = min(last, first + lot.choice((1, 4, 40, 400)))
+    how = lot.randrange(4)
+    if how == 0:
+        return data[:first] + data[last:]
+    if how == 1:
+        return data[:first]
+    return data[:last] + data[first:last] * lot.choice((1, 2, 9)) + data[last:] if how == 2 else data[:first] + lot.randbytes(4) + data[first:]
+
+
+def by_line(data: bytes, lot: random.Random) -> bytes:
+    """A line is left out, comes again, changes its place with another, or is cut."""
+    lines = data.split(b"\n")
+    at, other, how = lot.randrange(len(lines)), lot.randrange(len(lines)), lot.randrange(5)
+    if how == 0:
+        del lines[at]
+    elif how == 1:
+        lines[other:other] = [lines[at]] * lot.choice((1, 1, 2, 50))
+    elif how == 2:
+        lines[at], lines[other] = lines[other], lines[at]
+    elif how == 3:
+        lines[at] = lines[at][: lot.randrange(len(lines[at]) + 1)]
+    else:
+        lines[at : at + 2] = [b" ".join(lines[at : at + 2])]
+    return b"\n".join(lines)
+
+
+def by_word(data: bytes, lot: random.Random) -> bytes:
+    """A word is another one, or is left out, or one more."""
+    lines = data.split(b"\n")
+    at = lot.randrange(len(lines))
+    words = lines[at].split(b" ")
+    place = lot.randrange(len(words))
+    new = lot.choice((lot.choice(WORDS), lot.choice(lot.choice(lines).split(b" "))))
+    words[place : place + lot.randrange(2)] = [new] if lot.randrange(5) else []
+    lines[at] = b" ".join(words)
+    return b"\n".join(lines)
+
+
+def by_number(data: bytes, lot: random.Random) -> bytes:
+    """A number of 1 to 8 bytes is another one, mostly near the file's head, as in an ELF."""
+    size, order = lot.choice(((1, "B"), (2, "H"), (4, "I"), (8, "Q"))), lot.choice("<>")
+    at = lot.randrange(0, min(len(data), 200) + 1)
+    return data[:at] + struct.pack(order + size[1], lot.choice(NUMBERS) & (1 << 8 * size[0]) - 1) + data[at + size[0] :]
+
+
+class Inputs:
+    """What the calls are made of, before it is changed."""
+
+    def __init__(self, score: str):
+        self.score = score
+        stored = sorted((RTL / "runs").glob("*.lines"))
+        rows = [it for it in sorted((TOP / "examples/scoreboard").glob("*.in")) if b"= judged" in it.with_suffix(".out").read_bytes()]
+        self.runs = [(it.read_bytes(), it.with_suffix(".told").read_bytes()) for it in stored]
+        self.runs += [(it.read_bytes(), it.with_suffix(".out").read_bytes()) for it in rows]
+        self.setup = (RTL / "setup.lines").read_bytes()
+        self.dumps = [dump(is_by_bit) for is_by_bit in (False, True)]
+        self.maps = [HAND.encode(), f"{HAND}renumber id 9 2\nreplies whole\n".encode(), MAP.encode(), b"use rocket-chip top\n"]
+        self.maps += [it.read_bytes() for it in sorted((TOP / "tests/dumps").glob("*.map"))]
+        self.maps += [f"clock top.clock\nreset top.a_corrupt low\n{HAND}layout top.a_data low:32 high:32\na 0 source top.a_data.low\n".encode()]
+        self.images = [b"// words\n1122334455667788 99aabbccddeeff00\n@5 x1 zz00 /* a\n comment */ dead_beef\n@3 1x000000000002", b"\1\2\3" * 40]
+        self.images += [elf(kind, order) for kind, order in itertools.product((1, 2), "<>")]
+
+    def waves(self, lot: random.Random) -> Call:
+        dumped, its_map = changed(lot.choice(self.dumps), lot), changed(lot.choice(self.maps[: lot.choice((2, 9))]), lot)
+        files = {"ports.map": its_map, "run.vcd": gzip.compress(dumped, 1) if lot.randrange(8) == 0 else dumped, "set.lines": changed(self.setup, lot)}
+        if lot.randrange(8) == 0:
+            files["run.vcd"] = changed(files["run.vcd"], lot)
+        return Call(["ports.map", "run.vcd", *lot.choice(([], ["--setup", "set.lines"], ["--end"]))], files)
+
+    def fill(self, lot: random.Random) -> Call:
+        words = lot.choice(([], [], ["--zeros"], ["--virtual", "--zeros"], ["--big-endian"], ["--at", "ffffff00"], ["--width", "4"], ["--width", "1"]))
+        words += lot.choice(([], [], ["--format", "elf"], ["--format", "readmemh"], ["--format", "binary"]))
+        return Call(["image", *words], {"image": changed(lot.choice(self.images), lot)})
+
+    def explain(self, lot: random.Random) -> Call:
+        return Call(["run.lines", "run.told", *lot.choice(([], ["-n", "9"], ["--html", "run.html", "-n", "3"]))], self.judged(lot))
+
+    def wave_of(self, lot: random.Random) -> Call:
+        return Call(["run.lines", "run.told", "run.vcd"], self.judged(lot))
+
+    def judged(self, lot: random.Random) -> Dict[str, bytes]:
+        """An observation and its verdict, of which at least one is changed, or which are of two runs."""
+        lines, verdict = lot.choice(self.runs)
+        lines, verdict = lot.choice(((changed(lines, lot), verdict), (lines, changed(verdict, lot)), (changed(lines, lot), changed(verdict, lot))))
+        return {"run.lines": lines, "run.told": lot.choice(self.runs)[1] if lot.randrange(20) == 0 else verdict}
+
+    def regress(self, lot: random.Random) -> Call:
+        """A run by the scoreboard, or a verdict by a scoreboard that gives what it reads."""
+        files = self.judged(lot)
+        files["set.lines"] = changed(self.setup, lot) if lot.randrange(2) else self.setup
+        words = ["--score", "cat", "run.told"] if lot.randrange(2) else ["--score", self.score, "run.lines"]
+        words += lot.choice(([], ["--setup", "set.lines"], ["--keep", "kept"]))
+        return Call([*words, "--json", "runs.json", "--junit", "junit.xml", "-j", "1"], files)
+
+
+def dump(is_by_bit: bool) -> bytes:
+    """A dump of beats of each channel."""
+    made = hand(is_by_bit)
+    for values, _ in UNKNOWN[:4]:
+        made.clock(values)
+    made.clock(a_beat())
+    made.clock({"m_axi_awvalid": "1", "m_axi_awid": "1", "m_axi_awaddr": "1000", "m_axi_awlen": "0", "m_axi_awsize": "11"})
+    made.clock({"m_axi_wvalid": "1", "m_axi_wdata": "101", "m_axi_wstrb": "11111111", "m_axi_wlast": "1"})
+    made.clock({"m_axi_bvalid": "1", "m_axi_bid": "1", "m_axi_bresp": "0"})
+    made.clock({"m_axi_arvalid": "1", "m_axi_arid": "1", "m_axi_araddr": "1000", "m_axi_arlen": "0", "m_axi_arsize": "11"})
+    made.clock({"m_axi_rvalid": "1", "m_axi_rid": "1", "m_axi_rdata": "x", "m_axi_rresp": "0", "m_axi_rlast": "1"})
+    reply = {"opcode": "1", "size": "11", "source": "101", "denied": "0", "data": "1", "corrupt": "0"}
+    made.clock({"d_valid": "1", **{f"d_{name}": digits for name, digits in reply.items()}})
+    return made.text()
+
+
+def elf(kind: int, order: str) -> bytes:
+    """An ELF of 32 or 64 bits in one byte order, with two segments, of which the second has zeros behind it."""
+    head, program = {1: ("HHIIIIIHHHHHH", "IIIIIIII"), 2: ("HHIQQQIHHHHHH", "IIQQQQQQ")}[kind]
+    first = 16 + struct.calcsize(f"{order}{head}")
+    each, data = struct.calcsize(f"{order}{program}"), bytes(range(100))
+    its_head = struct.pack(f"{order}{head}", 2, 243, 1, 0x8000_0000, first, 0, 0, first, each, 2, 0, 0, 0)
+    body = b""
+    for at in range(2):
+        place = (first + 2 * each + 50 * at, 0x1000 * at, 0x8000_0000 + 0x1000 * at, 50, 50 + 30 * at)
+        body += struct.pack(f"{order}{program}", *((1, *place, 7, 1) if kind == 1 else (1, 7, *place, 1)))
+    return b"\x7fELF" + bytes([kind, {"<": 1, ">": 2}[order], 1]) + bytes(9) + its_head + body + data
+
+
+# ---- calls
+
+
+class Ended(NamedTuple):
+    """How a call in this process ended."""
+
+    status: int
+    printed: str
+    said: str
+
+
+def called(command: str, words: Sequence[str]) -> Ended:
+    """Calls a command's `main` in this process, as if by its name."""
+    module = importlib.import_module(f"zuldegei.{command}")
+    printed, said, sys.argv = io.StringIO(), io.StringIO(), [f"zuldegei-{command}", *words]
+    with contextlib.redirect_stdout(printed), contextlib.redirect_stderr(said):
+        try:
+            status = module.main()
+        except Exception:  # what it should have caught
+            traceback.print_exc()
+            status = -1
+    return Ended(int(status), printed.getvalue(), said.getvalue())
+
+
+def wrong(command: str, ended: Ended) -> Optional[str]:
+    """How a call didn't end as it may."""
+    if ended.status not in STATUSES[command] or "Traceback" in ended.said:
+        return f"status {ended.status}; it said {ended.said[-600:]!r}"
+    is_silent = command == "regress" and "runs: " in ended.printed
+    if ended.status >= Status.FAULT and not is_silent and (ended.said.count("\n") != 1 or not ended.said.startswith(f"zuldegei-{command.replace('_', '-')}: ")):
+        return f"status {ended.status}, and it said {ended.said[-600:]!r}"
+    return at_fault(command, ended) if command in ("explain", "regress") else None
+
+
+def at_fault(command: str, ended: Ended) -> Optional[str]:
+    """Whether status 1 and what was printed say the same of wrong beats."""
+    if command == "explain":
+        count = re.search(r"(?m)^(\d+) wrong lines?, ", ended.printed)
+        is_wrong = bool(count and int(count[1]))
+    else:
+        count, is_wrong = "runs: " in ended.printed, "1 runs: 0 right, 1 wrong," in ended.printed
+    if (ended.status == Status.WRONG) != is_wrong or ended.status <= Status.WRONG and not count:
+        return f"status {ended.status}, and it printed {ended.printed[-300:]!r}"
+    return None
+
+
+def unreadable(command: str, call: Call, status: int) -> Optional[str]:
+    """Whether the files that a call wrote can be read, and say what its status says."""
+    try:
+        if "--html" in call.words and status <= Status.WRONG:
+            json.loads(re.search(r'(?s)<script id="data" type="application/json">(.*?)</script>', Path("run.html").read_text())[1])
+        if command == "regress" and Path("runs.json").stat().st_size:
+            states = [it["status"] for it in json.loads(Path("runs.json").read_text())["runs"]]
+            tags = [it[0].tag for it in ElementTree.parse("junit.xml").iter("testcase")]
+            due = {0: (["right"], ["system-out"]), 1: (["wrong"], ["failure"])}.get(status, (states, ["error"]))
+            return None if (states, tags) == due and len(states) == 1 else f"status {status}, and files of {states} {tags}"
+    except (ValueError, TypeError, OSError, ElementTree.ParseError, IndexError) as why:
+        return f"its files can't be read: {why!r}"
+    return None
+
+
+def tried(inputs: Inputs, command: str, seed: int, number: int) -> Tuple[int, Optional[str]]:
+    """Makes a case in the folder in which it is, and calls the command; gives the status, and what is wrong with it."""
+    call = getattr(inputs, command)(random.Random(f"{seed} {command} {number}"))
+    for name in ("runs.json", "junit.xml", "run.html", *call.files):
+        Path(name).unlink(missing_ok=True)
+    for name, data in call.files.items():
+        Path(name).write_bytes(data)
+    signal.setitimer(signal.ITIMER_PROF, SECONDS)
+    try:
+        ended = called(command, call.words)
+    except Slow:
+        return -1, f"it took longer than {SECONDS} s: {' '.join(call.words)}"
+    finally:
+        signal.setitimer(signal.ITIMER_PROF, 0)
+    why = wrong(command, ended) or unreadable(command, call, ended.status)
+    return ended.status, f"{why}; its words are {' '.join(call.words)}" if why else None
+
+
+def too_slow(*_: object) -> None:
+    raise Slow
+
+
+# ---- many calls
+
+
+class Batch:
+    """Cases of a command that are tried in a process of their own, which says of each how it ended."""
+
+    def __init__(self, inputs: Inputs, command: str, seed: int, numbers: range):
+        self.command, self.numbers = command, numbers
+        out, into = os.pipe()
+        self.process = os.fork()
+        if self.process == 0:
+            os.close(out)
+            self.child(inputs, seed, into)
+        os.close(into)
+        self.pipe = open(out, "rb")
+
+    def child(self, inputs: Inputs, seed: int, into: int) -> None:
+        """Tries the cases, in the child's process, which ends with them."""
+        status = 1
+        try:
+            resource.setrlimit(resource.RLIMIT_AS, (MEMORY, MEMORY))
+            resource.setrlimit(resource.RLIMIT_CPU, (SECONDS * 9, SECONDS * 9))
+            signal.signal(signal.SIGPROF, too_slow)
+            with tempfile.TemporaryDirectory() as folder, open(into, "wb") as pipe:
+                os.chdir(folder)
+                for number in self.numbers:
+                    pipe.write(json.dumps(tried(inputs, self.command, seed, number)).encode() + b"\n")
+                    pipe.flush()
+                os.chdir("/")
+            status = 0
+        finally:
+            os._exit(status)
+
+    def told(self) -> Iterator[Tuple[int, int, Optional[str]]]:
+        """Of each case its number, its status, and what is wrong with it. The one in which the process ended is wrong."""
+        with self.pipe:
+            lines = self.pipe.read().splitlines()
+        status = os.waitstatus_to_exitcode(os.waitpid(self.process, 0)[1])
+        for number, line in zip(self.numbers, lines):
+            yield (number, *json.loads(line))
+        if status or len(lines) < len(self.numbers):
+            yield self.numbers[min(len(lines), len(self.numbers) - 1)], -1, f"the process ended with status {status}"
+
+
+def fuzzed(inputs: Inputs, command: str, seed: int, count: int) -> Iterator[Case]:
+    """Many cases of a command, a few processes at once; at the end, whether they were of each kind."""
+    starts, running, seen = iter(range(0, count, BATCH)), [], Counter()
+    while True:
+        for start in itertools.islice(starts, AT_ONCE - len(running)):
+            running.append(Batch(inputs, command, seed, range(start, min(start + BATCH, count))))
+        if not running:
+            break
+        for number, status, why in running.pop(0).told():
+            seen[status] += 1
+            if why:
+                yield f"{command}, case {number} of seed {seed}", why
+    yield f"{command}, {count} cases", few(command, seen, count)
+
+
+def few(command: str, seen: "Counter[int]", count: int) -> Optional[str]:
+    """Whether many cases were refused, and many weren't."""
+    good, refused = seen[Status.DONE] + seen[Status.WRONG], seen[Status.FAULT]
+    return None if min(good, refused) > count // 20 and sum(seen.values()) == count else f"the statuses were {dict(seen)}"
+
+
+def caught() -> Iterator[Case]:
+    """What a command doesn't expect ends in one line, which names it and asks for a report, and in a status of its own."""
+
+    def broken(_: object) -> int:
+        raise RuntimeError("a\nfault\x1b")
+
+    for command in COMMANDS:
+        module = importlib.import_module(f"zuldegei.{command}")
+        kept, module.work = module.work, broken
+        ended = called(command, [])
+        module.work = kept
+        wanted = rf"zuldegei-[a-z-]+: unexpected RuntimeError at fuzz_commands\.py line \d+ of version \S+, please report .*: a fault\?\n"
+        is_well = ended.status == 7 and not ended.printed and re.fullmatch(wanted, ended.said)
+        yield f"what {command} doesn't expect", None if is_well else str(ended)
+
+
+def main() -> int:
+    asked = argparse.ArgumentParser(description=__doc__, formatter_class=argparse.RawDescriptionHelpFormatter)
+    asked.add_argument("tlscore")
+    asked.add_argument("--count", type=int, default=COUNT, help="how many cases of each command")
+    asked.add_argument("--seed", type=int, default=SEED)
+    asked.add_argument("--only", choices=COMMANDS)
+    asked.add_argument("--case", type=int, help="one case alone, of the command that --only names")
+    asked.add_argument("--keep", default="out/fuzz", help="the folder in which its files stay")
+    given = asked.parse_args()
+    inputs = Inputs(str(Path(given.tlscore).resolve()))
+    if given.case is not None:
+        Path(given.keep).mkdir(parents=True, exist_ok=True)
+        os.chdir(given.keep)
+        print(*tried(inputs, given.only, given.seed, given.case))
+        return 0
+    commands = [given.only] if given.only else COMMANDS
+    return told(itertools.chain(caught(), *(fuzzed(inputs, it, given.seed, given.count) for it in commands)))
+
+
+if __name__ == "__main__":
+    sys.exit(main())
