@@ -61,11 +61,22 @@ class Slow(BaseException):
 # ---- inputs
 
 
-def changed(data: bytes, lot: random.Random) -> bytes:
-    """A file with one to four changes by lot, or none."""
-    for _ in range(lot.choice((0, 1, 1, 1, 2, 2, 3, 4))):
-        data = lot.choice((by_byte, by_byte, by_span, by_line, by_line, by_word, by_word, by_number))(data, lot)
+def changed(data: bytes, lot: random.Random, is_text: bool = True) -> bytes:
+    """A file with one to four changes by lot. Half of the texts are changed in ways that leave most lines what they are."""
+    ways = (by_byte, by_span, by_line, by_word, *(() if is_text else (by_number, by_number, by_number)))
+    ways = (by_digit, by_digit, by_line, by_word) if is_text and lot.randrange(2) else ways
+    for _ in range(lot.choice((1, 1, 1, 2, 3, 4))):
+        data = lot.choice(ways)(data, lot)
     return data
+
+
+def by_digit(data: bytes, lot: random.Random) -> bytes:
+    """A digit is another one, or one that nobody knows."""
+    places = [it.start() for it in re.finditer(rb"(?<![A-Za-z_])[0-9]", data)]
+    if not places:
+        return data
+    at = lot.choice(places)
+    return data[:at] + lot.choice((b"0", b"1", b"2", b"4", b"7", b"9", b"x", b"")) + data[at + 1 :]
 
 
 def by_byte(data: bytes, lot: random.Random) -> bytes:
@@ -112,8 +123,8 @@ def by_word(data: bytes, lot: random.Random) -> bytes:
     at = lot.randrange(len(lines))
     words = lines[at].split(b" ")
     place = lot.randrange(len(words))
-    new = lot.choice((lot.choice(WORDS), lot.choice(lot.choice(lines).split(b" "))))
-    words[place : place + lot.randrange(2)] = [new] if lot.randrange(5) else []
+    new = lot.choice(WORDS) if lot.randrange(3) == 0 else lot.choice(lot.choice(lines).split(b" "))
+    words[place : place + (lot.randrange(4) > 0)] = [new] if lot.randrange(5) else []
     lines[at] = b" ".join(words)
     return b"\n".join(lines)
 
@@ -136,23 +147,25 @@ class Inputs:
         self.runs += [(it.read_bytes(), it.with_suffix(".out").read_bytes()) for it in rows]
         self.setup = (RTL / "setup.lines").read_bytes()
         self.dumps = [dump(is_by_bit) for is_by_bit in (False, True)]
-        self.maps = [HAND.encode(), f"{HAND}renumber id 9 2\nreplies whole\n".encode(), MAP.encode(), b"use rocket-chip top\n"]
+        laid_out = "layout top.a_mask low:4 high:4\na 0 source top.a_mask.low\nd 0 source =5\n"
+        parts = "client 1 flat top. part 0 of 1\nd 1 data top.a_data[63:0]\nw strb =255\nreset top.d_corrupt\n"
+        self.maps = [f"{HAND}{more}".encode() for more in ("renumber id 9 2\nrenumber source 0 5 6\n", laid_out, parts)]
+        self.maps += [MAP.encode(), b"use rocket-chip top\n", b"use opentitan top", b"use pulp top ID=4"]
         self.maps += [it.read_bytes() for it in sorted((TOP / "tests/dumps").glob("*.map"))]
-        self.maps += [f"clock top.clock\nreset top.a_corrupt low\n{HAND}layout top.a_data low:32 high:32\na 0 source top.a_data.low\n".encode()]
         self.images = [b"// words\n1122334455667788 99aabbccddeeff00\n@5 x1 zz00 /* a\n comment */ dead_beef\n@3 1x000000000002", b"\1\2\3" * 40]
         self.images += [elf(kind, order) for kind, order in itertools.product((1, 2), "<>")]
 
     def waves(self, lot: random.Random) -> Call:
-        dumped, its_map = changed(lot.choice(self.dumps), lot), changed(lot.choice(self.maps[: lot.choice((2, 9))]), lot)
-        files = {"ports.map": its_map, "run.vcd": gzip.compress(dumped, 1) if lot.randrange(8) == 0 else dumped, "set.lines": changed(self.setup, lot)}
-        if lot.randrange(8) == 0:
-            files["run.vcd"] = changed(files["run.vcd"], lot)
+        dumped, its_map, how = lot.choice(self.dumps), lot.choice(self.maps[: lot.choice((3, 3, 3, 9))]), lot.randrange(4)
+        dumped, its_map = changed(dumped, lot) if how else dumped, changed(its_map, lot) if how < 2 else its_map
+        packed = changed(gzip.compress(dumped, 1), lot, False) if lot.randrange(16) == 0 else None
+        files = {"ports.map": its_map, "run.vcd": packed or dumped, "set.lines": changed(self.setup, lot)}
         return Call(["ports.map", "run.vcd", *lot.choice(([], ["--setup", "set.lines"], ["--end"]))], files)
 
     def fill(self, lot: random.Random) -> Call:
         words = lot.choice(([], [], ["--zeros"], ["--virtual", "--zeros"], ["--big-endian"], ["--at", "ffffff00"], ["--width", "4"], ["--width", "1"]))
         words += lot.choice(([], [], ["--format", "elf"], ["--format", "readmemh"], ["--format", "binary"]))
-        return Call(["image", *words], {"image": changed(lot.choice(self.images), lot)})
+        return Call(["image", *words], {"image": changed(lot.choice(self.images), lot, False)})
 
     def explain(self, lot: random.Random) -> Call:
         return Call(["run.lines", "run.told", *lot.choice(([], ["-n", "9"], ["--html", "run.html", "-n", "3"]))], self.judged(lot))
@@ -255,7 +268,7 @@ def unreadable(command: str, call: Call, status: int) -> Optional[str]:
     try:
         if "--html" in call.words and status <= Status.WRONG:
             json.loads(re.search(r'(?s)<script id="data" type="application/json">(.*?)</script>', Path("run.html").read_text())[1])
-        if command == "regress" and Path("runs.json").stat().st_size:
+        if command == "regress" and Path("runs.json").exists():
             states = [it["status"] for it in json.loads(Path("runs.json").read_text())["runs"]]
             tags = [it[0].tag for it in ElementTree.parse("junit.xml").iter("testcase")]
             due = {0: (["right"], ["system-out"]), 1: (["wrong"], ["failure"])}.get(status, (states, ["error"]))

@@ -4,8 +4,10 @@ import re
 from typing import Dict, Iterator, List, NamedTuple, Optional, Sequence, Tuple
 
 from .command import Fault
+from .forms import check_words, may_be_told
 
 A, D, AW, AR, W, B, R = BEATS = ("A", "D", "AW", "AR", "W", "B", "R")
+FIELDS = {A: 9, D: 8, AW: 5, AR: 5, W: 3, B: 2, R: 4}
 NOT_TAKEN = ("noclient", "refused", "notready", "exhausted")
 GET, INTENT, LAST_WITH_DATA, LAST_PUT = 4, 5, 3, 1
 OPERATIONS = ("PutFull", "PutPartial", "Arithmetic", "Logical", "Get", "Intent")
@@ -19,28 +21,9 @@ WRONG = re.compile(
 )
 JUDGED = re.compile(
     r"= judged (?P<beats>\d{1,20}) wrong (?P<wrong>\d{1,20}) outstanding (?P<outstanding>\d{1,20}) open (?P<open>\d{1,20}) "
-    r"compared (?P<compared>\d{1,20}) of (?P<told>\d{1,20})"
+    r"compared (?P<compared>\d{1,20}) of (?P<told>\d{1,20})",
+    re.ASCII,
 )
-
-
-def digits(of: str, most: int) -> str:
-    """A field of so many digits behind leading zeros, or one of which a digit isn't known."""
-    return rf"(?:0*[{of}]{{1,{most}}}|[{of}]*[xXzZ][{of}xXzZ]*)"
-
-
-DECIMAL, FLAG, HEXADECIMAL = digits("0-9", 3), digits("01", 1), "0-9a-fA-F"
-ADDRESS, LANES, PAYLOAD = (digits(HEXADECIMAL, most) for most in (8, 2, 16))
-CLIENT, RESPONSE = r"0*\d{1,3}", r"(?:OKAY|EXOKAY|SLVERR|DECERR|[xXzZ]+)"
-# What stands behind the kind of a beat, as docs/SCOREBOARD.md has it.
-FORMS = {
-    A: (CLIENT, DECIMAL, DECIMAL, DECIMAL, DECIMAL, ADDRESS, LANES, PAYLOAD, FLAG),
-    D: (CLIENT, DECIMAL, DECIMAL, DECIMAL, DECIMAL, FLAG, PAYLOAD, FLAG),
-    **dict.fromkeys((AW, AR), (DECIMAL, ADDRESS, DECIMAL, DECIMAL, DECIMAL)),
-    W: (PAYLOAD, LANES, FLAG),
-    B: (DECIMAL, RESPONSE),
-    R: (DECIMAL, PAYLOAD, RESPONSE, FLAG),
-}
-FIELDS = {kind: re.compile(" ".join(forms), re.ASCII) for kind, forms in FORMS.items()}
 
 
 class Beat(NamedTuple):
@@ -130,6 +113,7 @@ class Observation:
                 self.entries.append(waiting)
             waiting = None
             try:
+                check_words(words)
                 now = int(words[1]) if words[0] == "time" else now
                 self.times[number] = now
                 if words[0] == A:
@@ -146,8 +130,8 @@ class Observation:
             self.entries.append(waiting)
 
     def beat(self, number: int, now: Optional[int], words: List[str]) -> Beat:
-        """A beat, if its words are those of its kind."""
-        if not FIELDS[words[0]].fullmatch(" ".join(words[1:])):
+        """A beat, if it has as many words as its kind has."""
+        if len(words) != FIELDS[words[0]] + 1 or words[0] in (A, D) and not words[1].isdigit():
             raise ValueError(words)
         return Beat(number, now, words[0], words[1:])
 
@@ -205,10 +189,11 @@ def verdict_of(text: str) -> Verdict:
 
 def check_same(observation: Observation, verdict: Verdict) -> None:
     """Refuses a verdict that can't be of this observation: each wrong line is a beat, or the end."""
-    beats = {it.line for it in observation.beats()}
+    beats = {it.line: it.kind for it in observation.beats()}
     ends = {it.line for it in observation.entries if isinstance(it, Event) and it.name == "end"}
     for wrong in verdict.wrong:
-        if wrong.line not in (ends if wrong.name in AT_END else beats):
+        is_at_end = wrong.name in AT_END and wrong.line in ends
+        if not is_at_end and not may_be_told(wrong.kind, wrong.name, beats.get(wrong.line, "")):
             raise Fault(f"the verdict isn't of this observation: {wrong.text[:80]!r}, and line {wrong.line} isn't what it tells of")
 
 

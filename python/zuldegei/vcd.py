@@ -4,6 +4,7 @@ that are wanted, one time after another."""
 import gzip
 import shutil
 import subprocess
+import zlib
 from contextlib import contextmanager
 from pathlib import Path
 from typing import BinaryIO, Dict, Iterator, List, NamedTuple, Optional, Tuple
@@ -68,7 +69,7 @@ class Lines:
         while True:
             try:
                 chunk = self.stream.read1(CHUNK)
-            except (EOFError, gzip.BadGzipFile) as why:
+            except (EOFError, gzip.BadGzipFile, zlib.error) as why:
                 raise Fault(f"the dump can't be unpacked: {why}") from why
             if not chunk:
                 self.is_cut = bool(rest.strip())
