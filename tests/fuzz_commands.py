@@ -381,6 +381,54 @@ def caught() -> Iterator[Case]:
         yield f"what {command} doesn't expect", None if is_well else str(ended)
 
 
+def with_number(data: bytes, at: int, form: str, number: int) -> bytes:
+    """A file with another number at a place."""
+    return data[:at] + struct.pack(form, number) + data[at + struct.calcsize(form) :]
+
+
+def refused(inputs: Inputs) -> Iterator[Tuple[str, str, Call, str]]:
+    """Inputs by hand that can't be what they should: a name, the command, the call, and what its line names."""
+    image = elf(2, "<")  # in its head e_phoff stands at 32, e_phentsize at 54 and e_phnum at 56; p_memsz at 40 of a header
+    for name, data in (
+        ("program headers far away", with_number(image, 32, "<Q", 1 << 63)),
+        ("65,535 program headers", with_number(image, 56, "<H", 0xFFFF)),
+        ("65,535 program headers of no byte", with_number(with_number(image, 54, "<H", 0), 56, "<H", 0xFFFF)),
+    ):
+        yield name, "fill", Call(["image"], {"image": data}), "program headers"
+    absurd = with_number(image, 64 + 56 + 40, "<Q", 1 << 60)
+    yield "a segment with zeros without end", "fill", Call(["image", "--zeros"], {"image": absurd}), "zeros behind the segment at 80001000"
+    yield "a comment without end", "fill", Call(["image"], {"image": b"@0 11 /* no end\n" + b"/* " * 50_000}), "a comment has no end"
+    lines, verdict = inputs.runs[0]
+    cut = re.sub(rb"(expected D 1 1).*", rb"\1", verdict)
+    yield "an expected beat that is cut", "explain", Call(["run.lines", "run.told"], {"run.lines": lines, "run.told": cut}), "expected D 1 1"
+    long = re.sub(rb"(?m)^(A \d \d \d) \d+", rb"\1 12345678901234", lines, count=1)
+    number = lines[: re.search(rb"(?m)^A ", lines).start()].count(b"\n") + 1
+    for command in ("explain", "wave_of"):
+        call = Call(["run.lines", "run.told", *(["run.vcd"] if command == "wave_of" else [])], {"run.lines": long, "run.told": verdict})
+        yield f"a size of 14 digits for {command}", command, call, f"line {number} of the observation"
+    alien = re.sub(rb"reply 7 PAYLOAD.*(?= at)", b"axi 8 WLAST", verdict)
+    yield "a rule of W for a D beat", "explain", Call(["run.lines", "run.told"], {"run.lines": lines, "run.told": alien}), "of this observation"
+    packed = bytearray(gzip.compress(inputs.dumps[0]))
+    packed[len(packed) // 2 :] = bytes(it ^ 0x55 for it in packed[len(packed) // 2 :])
+    yield "a packed dump with other bytes", "waves", Call(["map", "run.vcd"], {"map": inputs.maps[0], "run.vcd": bytes(packed)}), "unpacked"
+    odd = HAND.replace("flat top.", "flat =1").encode()
+    yield "a number for a prefix", "waves", Call(["map", "run.vcd"], {"map": odd, "run.vcd": inputs.dumps[0]}), "line 2: "
+
+
+def by_hand(inputs: Inputs) -> Iterator[Case]:
+    """The inputs by hand: each ends with status 2, and one line that names what is at fault."""
+    with tempfile.TemporaryDirectory() as folder:
+        before = os.getcwd()
+        os.chdir(folder)
+        for name, command, call, named in refused(inputs):
+            for file, data in call.files.items():
+                Path(file).write_bytes(data)
+            ended = called(command, call.words)
+            is_well = ended.status == Status.FAULT and named in ended.said and ended.said.count("\n") == 1
+            yield name, None if is_well else f"status {ended.status}; it said {ended.said[-400:]!r}"
+        os.chdir(before)
+
+
 def main() -> int:
     asked = argparse.ArgumentParser(description=__doc__, formatter_class=argparse.RawDescriptionHelpFormatter)
     asked.add_argument("tlscore")
@@ -397,7 +445,7 @@ def main() -> int:
         print(*tried(inputs, given.only, given.seed, given.case))
         return 0
     commands = [given.only] if given.only else COMMANDS
-    return told(itertools.chain(caught(), *(fuzzed(inputs, it, given.seed, given.count) for it in commands)))
+    return told(itertools.chain(caught(), by_hand(inputs), *(fuzzed(inputs, it, given.seed, given.count) for it in commands)))
 
 
 if __name__ == "__main__":
