@@ -30,6 +30,7 @@ from xml.etree import ElementTree
 
 from ends import told
 from waves import HAND, MAP, RTL, TOP, UNKNOWN, a_beat, hand
+from waves import WORDS as WORDS_OF_AN_IMAGE
 from zuldegei.command import Status
 
 COMMANDS = ("waves", "fill", "explain", "wave_of", "regress")
@@ -39,10 +40,12 @@ SECONDS, MEMORY = 10, 2 << 30  # of a processor, for a call, and bytes for those
 STATUSES = {"waves": (0, 2, 3), "fill": (0, 2, 3), "explain": (0, 1, 2), "wave_of": (0, 1, 2), "regress": (0, 1, 2)}
 WORDS = (
     *(b"0 1 -1 2 3 7 8 255 256 x z X zzzz ff 00000000 ffffffff 100000000 99999999999999 18446744073709551616 1e5 0x10".split()),
-    *(b"A D AW AR W B R = time fill config region page reset end wrong judged expected at client of part #0 #5 @ @ffffffff /* */ //".split()),
+    *(b"A D AW AR W B R = time fill config region page reset end wrong judged expected at client of part".split()),
+    *(b"#0 #5 @ @ffffffff /* */ //".split()),
     *(b"$end $var $scope $upscope $enddefinitions $dumpoff $dumpvars $comment b101 bx use clock layout width renumber axi flat a".split()),
-    b"", b"9" * 5000, b"f" * 400, "\u0663".encode(), b"\xff\xfe", b"\0", b"\x1b[2J", b"=1", b"=-1", b"=", b"[3:0]", b"[", b"*", b"a.b.c",
-)  # fmt: skip
+    *(b"", b"9" * 5000, b"f" * 400, "\u0663".encode(), b"\xff\xfe", b"\0", b"\x1b[2J"),
+    *(b"=1 =-1 = [3:0] [ * a.b.c".split()),
+)
 NUMBERS = (0, 1, 2, 31, 32, 56, 0x7F, 0xFF, 0xFFFF, 0x7FFF_FFFF, 0x8000_0000, 0xFFFF_FFFF, 1 << 40, (1 << 63) - 1, 1 << 63, (1 << 64) - 1)
 Case = Tuple[str, Optional[str]]
 
@@ -97,7 +100,9 @@ def by_span(data: bytes, lot: random.Random) -> bytes:
         return data[:first] + data[last:]
     if how == 1:
         return data[:first]
-    return data[:last] + data[first:last] * lot.choice((1, 2, 9)) + data[last:] if how == 2 else data[:first] + lot.randbytes(4) + data[first:]
+    if how == 2:
+        return data[:last] + data[first:last] * lot.choice((1, 2, 9)) + data[last:]
+    return data[:first] + lot.randbytes(4) + data[first:]
 
 
 def by_line(data: bytes, lot: random.Random) -> bytes:
@@ -152,7 +157,7 @@ class Inputs:
         self.maps = [f"{HAND}{more}".encode() for more in ("renumber id 9 2\nrenumber source 0 5 6\n", laid_out, parts)]
         self.maps += [MAP.encode(), b"use rocket-chip top\n", b"use opentitan top", b"use pulp top ID=4"]
         self.maps += [it.read_bytes() for it in sorted((TOP / "tests/dumps").glob("*.map"))]
-        self.images = [b"// words\n1122334455667788 99aabbccddeeff00\n@5 x1 zz00 /* a\n comment */ dead_beef\n@3 1x000000000002", b"\1\2\3" * 40]
+        self.images = [WORDS_OF_AN_IMAGE.encode(), b"\1\2\3" * 40]
         self.images += [elf(kind, order) for kind, order in itertools.product((1, 2), "<>")]
 
     def waves(self, lot: random.Random) -> Call:
@@ -163,7 +168,7 @@ class Inputs:
         return Call(["ports.map", "run.vcd", *lot.choice(([], ["--setup", "set.lines"], ["--end"]))], files)
 
     def fill(self, lot: random.Random) -> Call:
-        words = lot.choice(([], [], ["--zeros"], ["--virtual", "--zeros"], ["--big-endian"], ["--at", "ffffff00"], ["--width", "4"], ["--width", "1"]))
+        words = lot.choice(([], [], ["--zeros"], ["--virtual", "--zeros"], ["--big-endian"], ["--at", "ffffff00"], ["--width", "1"]))
         words += lot.choice(([], [], ["--format", "elf"], ["--format", "readmemh"], ["--format", "binary"]))
         return Call(["image", *words], {"image": changed(lot.choice(self.images), lot, False)})
 
@@ -175,8 +180,8 @@ class Inputs:
 
     def judged(self, lot: random.Random) -> Dict[str, bytes]:
         """An observation and its verdict, of which at least one is changed, or which are of two runs."""
-        lines, verdict = lot.choice(self.runs)
-        lines, verdict = lot.choice(((changed(lines, lot), verdict), (lines, changed(verdict, lot)), (changed(lines, lot), changed(verdict, lot))))
+        (lines, verdict), how = lot.choice(self.runs), lot.randrange(3)
+        lines, verdict = changed(lines, lot) if how < 2 else lines, changed(verdict, lot) if how else verdict
         return {"run.lines": lines, "run.told": lot.choice(self.runs)[1] if lot.randrange(20) == 0 else verdict}
 
     def regress(self, lot: random.Random) -> Call:
@@ -245,8 +250,8 @@ def wrong(command: str, ended: Ended) -> Optional[str]:
     """How a call didn't end as it may."""
     if ended.status not in STATUSES[command] or "Traceback" in ended.said:
         return f"status {ended.status}; it said {ended.said[-600:]!r}"
-    is_silent = command == "regress" and "runs: " in ended.printed
-    if ended.status >= Status.FAULT and not is_silent and (ended.said.count("\n") != 1 or not ended.said.startswith(f"zuldegei-{command.replace('_', '-')}: ")):
+    is_told = ended.said.count("\n") == 1 and ended.said.startswith(f"zuldegei-{command.replace('_', '-')}: ")
+    if ended.status >= Status.FAULT and not is_told and "runs: " not in ended.printed:
         return f"status {ended.status}, and it said {ended.said[-600:]!r}"
     return at_fault(command, ended) if command in ("explain", "regress") else None
 
@@ -400,14 +405,15 @@ def refused(inputs: Inputs) -> Iterator[Tuple[str, str, Call, str]]:
     yield "a comment without end", "fill", Call(["image"], {"image": b"@0 11 /* no end\n" + b"/* " * 50_000}), "a comment has no end"
     lines, verdict = inputs.runs[0]
     cut = re.sub(rb"(expected D 1 1).*", rb"\1", verdict)
-    yield "an expected beat that is cut", "explain", Call(["run.lines", "run.told"], {"run.lines": lines, "run.told": cut}), "expected D 1 1"
+    both = ["run.lines", "run.told"]
+    yield "an expected beat that is cut", "explain", Call(both, {"run.lines": lines, "run.told": cut}), "expected D 1 1"
     long = re.sub(rb"(?m)^(A \d \d \d) \d+", rb"\1 12345678901234", lines, count=1)
     number = lines[: re.search(rb"(?m)^A ", lines).start()].count(b"\n") + 1
     for command in ("explain", "wave_of"):
-        call = Call(["run.lines", "run.told", *(["run.vcd"] if command == "wave_of" else [])], {"run.lines": long, "run.told": verdict})
+        call = Call([*both, *(["run.vcd"] if command == "wave_of" else [])], {"run.lines": long, "run.told": verdict})
         yield f"a size of 14 digits for {command}", command, call, f"line {number} of the observation"
     alien = re.sub(rb"reply 7 PAYLOAD.*(?= at)", b"axi 8 WLAST", verdict)
-    yield "a rule of W for a D beat", "explain", Call(["run.lines", "run.told"], {"run.lines": lines, "run.told": alien}), "of this observation"
+    yield "a rule of W for a D beat", "explain", Call(both, {"run.lines": lines, "run.told": alien}), "of this observation"
     packed = bytearray(gzip.compress(inputs.dumps[0]))
     packed[len(packed) // 2 :] = bytes(it ^ 0x55 for it in packed[len(packed) // 2 :])
     yield "a packed dump with other bytes", "waves", Call(["map", "run.vcd"], {"map": inputs.maps[0], "run.vcd": bytes(packed)}), "unpacked"

@@ -81,7 +81,8 @@ def states(folder: Path, score: str) -> Iterator[Case]:
     yield "a command that fails", made.wrong(2, ["failed"]) or (None if "status 3: why it fails" in said else said)
     yield "a command that takes too long", Made(folder, score, "--command", "sleep 60", "--timeout", 0.5).wrong(2, ["late"])
     began = time.monotonic()
-    yield "a run that is interrupted", interrupted(folder, score) or (None if time.monotonic() - began < 40 else "it waits for its commands")
+    why = interrupted(folder, score)
+    yield "a run that is interrupted", why or (None if time.monotonic() - began < 40 else "it waits for its commands")
     yield "no scoreboard", ended(Made(folder, "", RIGHT, "--score", folder / "none"), 3, "none")
     yield "no run", ended(Made(folder, score), 6, "--help")
     yield "seeds without a place", ended(Made(folder, score, "--command", "true", "--seeds", "1-3"), 6, "{seed}")
@@ -135,7 +136,7 @@ def seeded(folder: Path, score: str) -> Iterator[Case]:
 def kept(folder: Path, score: str) -> Iterator[Case]:
     """Runs whose names are alike: each is kept under a name of its own."""
     long = [f"{letter}{'n' * 120}.lines" for letter in "xyz"]
-    names = ["a/b.lines", "a_b.lines", "a b.lines", "a+b.lines", "a=2.lines", "a%2Fb.lines", *long]
+    names = ["a/b.lines", "a_b.lines", "a b.lines", "a+b.lines", "a=2.lines", "a%2Fb.lines", "a\nb\x1b.lines", "a\udcffb.lines", *long]
     (folder / "a").mkdir()
     for at, name in enumerate(names):
         (folder / name).write_text(f"{RUNS[0].read_text()}# run {at}\n")
@@ -254,7 +255,8 @@ def lacking(folder: Path, status: int, printed: str, said: str) -> Optional[str]
     if [it["status"] for it in runs] != ["right", "wrong"] + ["unjudged"] * 38 or runs[-1]["run"] != "seed 40":
         return f"JSON has {runs[:3]}"
     suite = ElementTree.parse(folder / "junit.xml").getroot().find("testsuite")
-    counts = [suite.get(it) for it in ("tests", "failures", "errors")] + [len(suite.findall(it)) for it in ("testcase", "*/failure", "*/error")]
+    counts = [suite.get(it) for it in ("tests", "failures", "errors")]
+    counts += [len(suite.findall(it)) for it in ("testcase", "*/failure", "*/error")]
     return None if counts == ["40", "1", "38", 40, 1, 38] else f"JUnit has {counts}"
 
 

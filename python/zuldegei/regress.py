@@ -36,19 +36,19 @@ turn. The set-up of --setup is put ahead of each. A run is
   right      nothing is wrong
   wrong      tlscore found a wrong beat, which the table and both files name with its time
   nothing    it has no beat, so that nothing was judged
-  failed     its command failed, its observation is at fault, or the verdict isn't whole: one without its last line, with another count
-             of wrong lines than that says, or with another status than its lines have
+  failed     its command failed, or its observation is at fault, or its verdict: one without its last line, with another count of wrong
+             lines than that line says, or with another status than its lines have
   late       it took longer than --timeout
-  unjudged   regress was interrupted, or couldn't go on, before this run was judged
+  unjudged   the call was interrupted, or couldn't go on, before this run was judged
 
-Status 0: all are right; 1: one is wrong; 2: none is wrong, and one is none of both; 3: no run could be made, as where tlscore isn't
-there, or a file that was asked for couldn't be written; 6: a word that it doesn't know; 130: interrupted, by SIGINT or SIGTERM. Table,
-JUnit and JSON are written then too, of all that was judged so far, and name the rest. JUnit, JSON and the folder of --keep are opened
-ahead of the first run.
+Status 0: all are right; 1: one is wrong; 2: none is wrong, and one isn't right; 3: no run could be made, as where tlscore isn't there,
+or a file that was asked for couldn't be written; 6: a word that it doesn't know; 130: interrupted, by SIGINT or SIGTERM. Table, JUnit
+and JSON tell all that was judged, however the call ends, and name the rest. JUnit, JSON and the folder of --keep are opened ahead of
+the first run.
 
-With --keep FOLDER the observation and the verdict of each run that isn't right are kept there, for zuldegei-explain: as NAME.lines and
-NAME.told, where NAME is the run's, with + for a space, %2F for / and so for other characters, a sum in place of the first part of a name
-of more than 100 characters, and =2 behind the second run of one name.
+With --keep FOLDER the observation and the verdict of each run that isn't right are kept there, for zuldegei-explain, as NAME.lines and
+NAME.told: NAME is the run's, with + for a space and %2F for /, and so for other characters; of a name of more than 100 characters it
+is a sum and the last 60; and behind the second run of one name stands =2.
 """
 
 
