@@ -18,8 +18,10 @@ import os
 import random
 import re
 import resource
+import shutil
 import signal
 import struct
+import subprocess
 import sys
 import tempfile
 import traceback
@@ -35,9 +37,9 @@ from zuldegei.command import Status
 
 COMMANDS = ("waves", "fill", "explain", "wave_of", "regress")
 COUNT, SEED, BATCH, AT_ONCE = 2000, 1, 100, 2
-SECONDS, MEMORY = 10, 2 << 30  # of a processor, for a call, and bytes for those of a batch
+SECONDS, WAITED, MEMORY = 10, 120, 2 << 30  # of a processor and of the clock, for a call, and bytes for those of a batch
 # The statuses of python/README.md that an input may lead to.
-STATUSES = {"waves": (0, 2, 3), "fill": (0, 2, 3), "explain": (0, 1, 2), "wave_of": (0, 1, 2), "regress": (0, 1, 2)}
+STATUSES = {"waves": (0, 2, 3), "fill": (0, 2), "explain": (0, 1, 2), "wave_of": (0, 1, 2), "regress": (0, 1, 2)}
 WORDS = (
     *(b"0 1 -1 2 3 7 8 255 256 x z X zzzz ff 00000000 ffffffff 100000000 99999999999999 18446744073709551616 1e5 0x10".split()),
     *(b"A D AW AR W B R = time fill config region page reset end wrong judged expected at client of part".split()),
@@ -152,6 +154,7 @@ class Inputs:
         self.runs += [(it.read_bytes(), it.with_suffix(".out").read_bytes()) for it in rows]
         self.setup = (RTL / "setup.lines").read_bytes()
         self.dumps = [dump(is_by_bit) for is_by_bit in (False, True)]
+        self.packed = as_fst(self.dumps[0])
         laid_out = "layout top.a_mask low:4 high:4\na 0 source top.a_mask.low\nd 0 source =5\n"
         parts = "client 1 flat top. part 0 of 1\nd 1 data top.a_data[63:0]\nw strb =255\nreset top.d_corrupt\n"
         self.maps = [f"{HAND}{more}".encode() for more in ("renumber id 9 2\nrenumber source 0 5 6\n", laid_out, parts)]
@@ -163,7 +166,8 @@ class Inputs:
     def waves(self, lot: random.Random) -> Call:
         dumped, its_map, how = lot.choice(self.dumps), lot.choice(self.maps[: lot.choice((3, 3, 3, 9))]), lot.randrange(4)
         dumped, its_map = changed(dumped, lot) if how else dumped, changed(its_map, lot) if how < 2 else its_map
-        packed = changed(gzip.compress(dumped, 1), lot, False) if lot.randrange(16) == 0 else None
+        others = (gzip.compress(dumped, 1), self.packed) if lot.randrange(8) == 0 else ()
+        packed = changed(lot.choice(others), lot, False) if others else None
         files = {"ports.map": its_map, "run.vcd": packed or dumped, "set.lines": changed(self.setup, lot)}
         return Call(["ports.map", "run.vcd", *lot.choice(([], ["--setup", "set.lines"], ["--end"]))], files)
 
@@ -207,6 +211,16 @@ def dump(is_by_bit: bool) -> bytes:
     reply = {"opcode": "1", "size": "11", "source": "101", "denied": "0", "data": "1", "corrupt": "0"}
     made.clock({"d_valid": "1", **{f"d_{name}": digits for name, digits in reply.items()}})
     return made.text()
+
+
+def as_fst(dumped: bytes) -> bytes:
+    """A dump as FST, where that can be made."""
+    if not shutil.which("vcd2fst"):
+        return dumped
+    with tempfile.TemporaryDirectory() as folder:
+        Path(folder, "run.vcd").write_bytes(dumped)
+        subprocess.run(["vcd2fst", "run.vcd", "run.fst"], cwd=folder, check=True, capture_output=True)
+        return Path(folder, "run.fst").read_bytes()
 
 
 def elf(kind: int, order: str) -> bytes:
@@ -290,15 +304,22 @@ def tried(inputs: Inputs, command: str, seed: int, number: int) -> Tuple[int, Op
         Path(name).unlink(missing_ok=True)
     for name, data in call.files.items():
         Path(name).write_bytes(data)
-    signal.setitimer(signal.ITIMER_PROF, SECONDS)
+    set_timers(SECONDS, WAITED)
     try:
         ended = called(command, call.words)
     except Slow:
-        return -1, f"it took longer than {SECONDS} s: {' '.join(call.words)}"
+        return -1, f"it took longer than {SECONDS} s of a processor, or {WAITED} s: {' '.join(call.words)}"
     finally:
-        signal.setitimer(signal.ITIMER_PROF, 0)
+        set_timers(0, 0)
     why = wrong(command, ended) or unreadable(command, call, ended.status)
     return ended.status, f"{why}; its words are {' '.join(call.words)}" if why else None
+
+
+def set_timers(seconds: int, waited: int) -> None:
+    """Has a call end after so many seconds of a processor, or of the clock; 0 ends it no more."""
+    for timer, signalled, after in ((signal.ITIMER_PROF, signal.SIGPROF, seconds), (signal.ITIMER_REAL, signal.SIGALRM, waited)):
+        signal.signal(signalled, too_slow)
+        signal.setitimer(timer, after)
 
 
 def too_slow(*_: object) -> None:
@@ -327,7 +348,6 @@ class Batch:
         try:
             resource.setrlimit(resource.RLIMIT_AS, (MEMORY, MEMORY))
             resource.setrlimit(resource.RLIMIT_CPU, (SECONDS * 9, SECONDS * 9))
-            signal.signal(signal.SIGPROF, too_slow)
             with tempfile.TemporaryDirectory() as folder, open(into, "wb") as pipe:
                 os.chdir(folder)
                 for number in self.numbers:
