@@ -36,7 +36,7 @@ from waves import WORDS as WORDS_OF_AN_IMAGE
 from zuldegei.command import Status
 
 COMMANDS = ("waves", "fill", "explain", "wave_of", "regress")
-COUNT, SEED, BATCH, AT_ONCE = 2000, 1, 100, 2
+COUNT, SEED, BATCH, AT_ONCE, MOST_TOLD = 2000, 1, 100, 2, 9
 SECONDS, WAITED, MEMORY = 10, 120, 2 << 30  # of a processor and of the clock, for a call, and bytes for those of a batch
 # The statuses of python/README.md that an input may lead to.
 STATUSES = {"waves": (0, 2, 3), "fill": (0, 2), "explain": (0, 1, 2), "wave_of": (0, 1, 2), "regress": (0, 1, 2)}
@@ -370,8 +370,8 @@ class Batch:
 
 
 def fuzzed(inputs: Inputs, command: str, seed: int, count: int) -> Iterator[Case]:
-    """Many cases of a command, a few processes at once; at the end, whether they were of each kind."""
-    starts, running, seen = iter(range(0, count, BATCH)), [], Counter()
+    """Many cases of a command, a few processes at once: the first that are wrong; and at the end all, and whether they were of each kind."""
+    starts, running, seen, wrong_ones = iter(range(0, count, BATCH)), [], Counter(), 0
     while True:
         for start in itertools.islice(starts, AT_ONCE - len(running)):
             running.append(Batch(inputs, command, seed, range(start, min(start + BATCH, count))))
@@ -379,12 +379,13 @@ def fuzzed(inputs: Inputs, command: str, seed: int, count: int) -> Iterator[Case
             break
         for number, status, why in running.pop(0).told():
             seen[status] += 1
-            if why:
+            wrong_ones += bool(why)
+            if why and wrong_ones <= MOST_TOLD:
                 yield f"{command}, case {number} of seed {seed}", why
-    yield f"{command}, {count} cases", few(command, seen, count)
+    yield f"{command}, {count} cases", f"{wrong_ones} are wrong" if wrong_ones else few(seen, count)
 
 
-def few(command: str, seen: "Counter[int]", count: int) -> Optional[str]:
+def few(seen: "Counter[int]", count: int) -> Optional[str]:
     """Whether many cases were refused, and many weren't."""
     good, refused = seen[Status.DONE] + seen[Status.WRONG], seen[Status.FAULT]
     return None if min(good, refused) > count // 20 and sum(seen.values()) == count else f"the statuses were {dict(seen)}"
