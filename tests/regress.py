@@ -177,6 +177,9 @@ def untrusted(folder: Path, score: str) -> Iterator[Case]:
         yield f"a scoreboard that gives {name}", made.wrong(2, ["failed"]) or (None if made.runs[0]["why"] else "it doesn't say why")
     made = Made(folder, "", RIGHT, "--score", stand_in(folder, f"'{score}' | sed '$d'"))
     yield "a right verdict without its last line", made.wrong(2, ["failed"])
+    began = time.monotonic()
+    made = Made(folder, "", RIGHT, "--timeout", 0.5, "--score", stand_in(folder, "sleep 50; true"))
+    yield "a scoreboard that takes too long", made.wrong(2, ["late"]) or (None if time.monotonic() - began < 40 else "it was waited for")
 
 
 def early(folder: Path, score: str) -> Iterator[Case]:
