@@ -33,6 +33,7 @@ from xml.etree import ElementTree
 from ends import told
 from waves import HAND, MAP, RTL, TOP, UNKNOWN, a_beat, hand
 from waves import WORDS as WORDS_OF_AN_IMAGE
+from zuldegei import vcd
 from zuldegei.command import Status
 
 COMMANDS = ("waves", "fill", "explain", "wave_of", "regress")
@@ -438,6 +439,9 @@ def refused(inputs: Inputs) -> Iterator[Tuple[str, str, Call, str]]:
     packed = bytearray(gzip.compress(inputs.dumps[0]))
     packed[len(packed) // 2 :] = bytes(it ^ 0x55 for it in packed[len(packed) // 2 :])
     yield "a packed dump with other bytes", "waves", Call(["map", "run.vcd"], {"map": inputs.maps[0], "run.vcd": bytes(packed)}), "unpacked"
+    wide = inputs.dumps[0].replace(b"$var wire 64 a_data", b"$var wire 6 a_data")
+    yield "a signal of other bits than places", "waves", Call(["map", "run.vcd"], {"map": inputs.maps[0], "run.vcd": wide}), "top.a_data"
+    yield "a converter that is silent", "waves", Call(["map", "run.fst"], {"map": inputs.maps[0], "run.fst": b"\0"}), "gave nothing of run.fst"
     odd = HAND.replace("flat top.", "flat =1").encode()
     yield "a number for a prefix", "waves", Call(["map", "run.vcd"], {"map": odd, "run.vcd": inputs.dumps[0]}), "line 2: "
 
@@ -445,8 +449,11 @@ def refused(inputs: Inputs) -> Iterator[Tuple[str, str, Call, str]]:
 def by_hand(inputs: Inputs) -> Iterator[Case]:
     """The inputs by hand: each ends with status 2, and one line that names what is at fault."""
     with tempfile.TemporaryDirectory() as folder:
-        before = os.getcwd()
+        before, path = os.getcwd(), os.environ["PATH"]
         os.chdir(folder)
+        Path("fst2vcd").write_text("#!/bin/sh\nexec sleep 60\n")
+        Path("fst2vcd").chmod(0o755)
+        kept, vcd.SILENT, os.environ["PATH"] = vcd.SILENT, 0.2, f"{folder}:{path}"
         for name, command, call, named in refused(inputs):
             for file, data in call.files.items():
                 Path(file).write_bytes(data)
@@ -454,6 +461,7 @@ def by_hand(inputs: Inputs) -> Iterator[Case]:
             is_well = ended.status == Status.FAULT and named in ended.said and ended.said.count("\n") == 1
             yield name, None if is_well else f"status {ended.status}; it said {ended.said[-400:]!r}"
         os.chdir(before)
+        vcd.SILENT, os.environ["PATH"] = kept, path
 
 
 def main() -> int:
