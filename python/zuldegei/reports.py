@@ -112,13 +112,12 @@ class Report:
     def table(self) -> Iterator[str]:
         """A line for each run that was judged and isn't right, and the counts of all."""
         rows = sorted((it for it in self.made.values() if it.state is not State.RIGHT), key=lambda it: it.job.place)
-        names = [one_line(it.job.name, LONGEST) for it in rows]
-        wide = max(map(len, [*names, "run"]))
+        wide = max([len(name_of(it)) for it in self.made.values()] + [3])
         if rows:
             yield f"{'run':{wide}}  status   beats  compared  first wrong line\n"
-        for name, it in zip(names, rows):
+        for it in rows:
             compared = f"{it.compared}/{it.told}"
-            yield f"{name:{wide}}  {it.state.value:7}{it.beats:7}  {compared:>8}  {it.said()}\n"
+            yield f"{name_of(it):{wide}}  {it.state.value:7}{it.beats:7}  {compared:>8}  {it.said()}\n"
         yield from self.unjudged()
         yield f"{len(self.asked)} runs: {self.counts()}\n"
 
@@ -156,9 +155,14 @@ class Report:
         yield "\n ]\n}\n"
 
 
+def name_of(it: Outcome) -> str:
+    """A run's name as it is shown."""
+    return one_line(it.job.name, LONGEST)
+
+
 def case_of(it: Outcome) -> ElementTree.Element:
     """A run in JUnit XML."""
-    names = {"classname": "tlscore", "name": one_line(it.job.name, LONGEST), "time": f"{it.seconds:.3f}"}
+    names = {"classname": "tlscore", "name": name_of(it), "time": f"{it.seconds:.3f}"}
     case = ElementTree.Element("testcase", names)
     if it.state is not State.RIGHT:
         kind = "failure" if it.state is State.WRONG else "error"
