@@ -1,6 +1,7 @@
 """The commands of python/ on what nobody meant to give them: dumps, maps, images, observations, verdicts and set-ups in which bytes and
 lines were flipped, cut, repeated and moved by lot. Each call ends in its time with a status of python/README.md that isn't that of a fault
-of its own (7) or of memory (4), and status 1 stands for a wrong beat alone; where it can't go on it says so in one line.
+of its own (7) or of memory (4), and status 1 stands for a wrong beat alone; where it can't go on it says so in one line. What the scoreboard
+judged of such observations isn't refused.
 
     python3 tests/fuzz_commands.py TLSCORE [--count N] [--seed N] [--only COMMAND] [--case N --keep FOLDER]
 
@@ -34,10 +35,11 @@ from ends import told
 from waves import HAND, MAP, RTL, TOP, UNKNOWN, a_beat, hand
 from waves import WORDS as WORDS_OF_AN_IMAGE
 from zuldegei import vcd
-from zuldegei.command import Status
+from zuldegei.command import Fault, Status
+from zuldegei.observation import Observation, check_same, verdict_of
 
 COMMANDS = ("waves", "fill", "explain", "wave_of", "regress")
-COUNT, SEED, BATCH, AT_ONCE, MOST_TOLD = 2000, 1, 100, 2, 9
+COUNT, SEED, BATCH, AT_ONCE, MOST_TOLD, JUDGED = 2000, 1, 100, 2, 9, 500
 SECONDS, WAITED, MEMORY = 10, 120, 2 << 30  # of a processor and of the clock, for a call, and bytes for those of a batch
 # The statuses of python/README.md that an input may lead to.
 STATUSES = {"waves": (0, 2, 3), "fill": (0, 2), "explain": (0, 1, 2), "wave_of": (0, 1, 2), "regress": (0, 1, 2)}
@@ -386,6 +388,22 @@ def fuzzed(inputs: Inputs, command: str, seed: int, count: int) -> Iterator[Case
     yield f"{command}, {count} cases", f"{wrong_ones} are wrong" if wrong_ones else few(seen, count)
 
 
+def explained(inputs: Inputs, seed: int) -> Iterator[Case]:
+    """Changed observations that the scoreboard reads to their end: none is refused, and neither is its verdict."""
+    count = 0
+    for number in range(JUDGED):
+        lot = random.Random(f"{seed} judged {number}")
+        text = changed(lot.choice(inputs.runs)[0], lot)
+        verdict = subprocess.run([inputs.score], input=text, capture_output=True).stdout
+        if b"\n= judged " in b"\n" + verdict:
+            count += 1
+            try:
+                check_same(Observation(text.decode()), verdict_of(verdict.decode()))
+            except Fault as why:
+                yield f"observation {number} of seed {seed}, which the scoreboard judged", str(why)
+    yield "observations that the scoreboard judged", None if count > JUDGED // 10 else f"{count} of {JUDGED} were"
+
+
 def few(seen: "Counter[int]", count: int) -> Optional[str]:
     """Whether many cases were refused, and many weren't."""
     good, refused = seen[Status.DONE] + seen[Status.WRONG], seen[Status.FAULT]
@@ -480,7 +498,7 @@ def main() -> int:
         print(*tried(inputs, given.only, given.seed, given.case))
         return 0
     commands = [given.only] if given.only else COMMANDS
-    return told(itertools.chain(caught(), by_hand(inputs), *(fuzzed(inputs, it, given.seed, given.count) for it in commands)))
+    return told(itertools.chain(caught(), by_hand(inputs), explained(inputs, given.seed), *(fuzzed(inputs, it, given.seed, given.count) for it in commands)))
 
 
 if __name__ == "__main__":
