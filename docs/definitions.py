@@ -235,8 +235,6 @@ STATEMENTS = (
             ("script_text", "Scripts", "EndsOrStops"),
             ("score_script", "Scores", "score_reading"),
             ("score_script", "Scores", "opening_state"),
-            ("script_text", "Scripts", "text_of"),
-            ("script_text", "Scripts", "text_before_failure"),
         ),
     ),
     Statement(
@@ -251,10 +249,22 @@ STATEMENTS = (
         "`bridge_calls::BridgeHandle::call`.",
         (("bridge_calls", "Handles", "Called"),),
     ),
+    Statement(
+        "score-calls",
+        "What a list of calls of the scoreboard's handle comes to",
+        "`score_calls::Handle::new`, clause `exactly`.",
+        (("score_calls", "HandleRuns", "OnlyExact"),),
+    ),
+    Statement(
+        "bridge-calls",
+        "What a list of calls of the model's handle comes to",
+        "`bridge_calls::BridgeHandle::new`, clause `runs`.",
+        (("bridge_calls", "HandleRuns", "OnlyRuns"),),
+    ),
 )
 
 BEGINS = re.compile(r"^(?:(?:abbrev|unfoldable|opaque) )?(?:pub )?(?:(record|data) )?([\w◌≡-]+)(?= )")
-NAMES = re.compile(r"^use Rattle\.([\w.]+?)(?:\.\{(.*)\}| as (\w+))$")
+NAMES = re.compile(r"^use (?:Rattle\.)?([\w.]+?)(?:\.\{(.*)\}| as (\w+))$")
 
 
 @dataclass

@@ -250,7 +250,8 @@ def archives(room: Path, given: Path) -> Iterator[Case]:
             yield "a release of files that differ from the commit", why(ran(["./release"], copy, env), 3)
         done = ran(["./release", "--changed"], copy, env, umask=0o027 if made else 0o022)
         made[name] = copy / f"out/zuldegei-{VERSION}.tar.gz"
-        progress = ("tlbridge: built in", "tlscore: 0 of 1 built", "zuldegei: 0 of 1 built")
+        progress = ("tlbridge, tlscore, zuldegei: 3 crates to prove and build first, which takes some ", "no wrong body is tried")
+        progress += ("tlbridge: built in", "tlscore: 0 of 1 built", "zuldegei: an archive has the library", "zuldegei: 0 of 1 built")
         lacking = [it for it in progress if it not in done.stderr]
         yield f"a release of copy {name}", why(done) or (f"on standard error is no {lacking}" if lacking else None)
     if not all(it.exists() for it in made.values()):
@@ -285,6 +286,15 @@ def packed(archive: Path) -> Iterator[Case]:
     yield "the checksums in PROVED", f"{wrong}" if wrong or len(sums) != 4 else None
 
 
+def as_readme(unpacked: Path) -> Iterator[Case]:
+    """The commands of README.md in the folder of the archive, whose own copy of it is read."""
+    blocks = BLOCK.findall((unpacked / "share/doc/zuldegei/README.md").read_text())
+    yield "the commands of README.md", None if len(blocks) == 1 else f"it has {len(blocks)}"
+    for block, status, due in blocks:
+        done = ran(["sh", "-c", block], unpacked, BARE)
+        yield "README.md in the archive", why(done, int(status)) or (None if done.stdout == due else f"it prints {done.stdout!r}")
+
+
 def as_the_page(room: Path, archive: Path) -> Iterator[Case]:
     """The commands of the page in an empty folder, in turn, as a new user calls them; what one exports the others have."""
     shutil.copy(archive, room)
@@ -308,6 +318,7 @@ def moved(room: Path, given: Path) -> Iterator[Case]:
     place = room / "moved here"
     shutil.move(room / f"zuldegei-{VERSION}", place)
     yield from commands(place, room)
+    yield from as_readme(place)
     examples = TOP / "examples"
     tried = (("tlscore", "scoreboard/right.in", "scoreboard/right.out"), ("tlbridge", "first.script", "first.trace"))
     for program, source, due in tried:
