@@ -1,5 +1,8 @@
 /* The calls of zuldegei.h, each as the words of calls that the proved library takes: crates/score_calls has what they mean. It keeps
    nothing of its own: a board is where the library's own value lies. */
+#ifndef _DEFAULT_SOURCE
+#define _DEFAULT_SOURCE /* on_exit */
+#endif
 #include "calls.h"
 
 /* The proved library. */
@@ -147,4 +150,15 @@ int tlscore_byte(tlscore *board, uint64_t address) {
     if (address > UINT32_MAX) return TLSCORE_RANGE;
     uint64_t answer = tlscore_call(board, BYTE | address << 32);
     return answer < 256 ? (int)answer : TLSCORE_NO_BYTE;
+}
+
+/* What exit calls: it goes on with the other such calls, and then ends with the status that is given it here. */
+static void end_failed(int status, void *unused) {
+    (void)unused;
+    if (!status) exit(EXIT_FAILURE);
+}
+
+void tlscore_fail(void) {
+    static bool is_said;
+    if (!__atomic_test_and_set(&is_said, __ATOMIC_RELAXED)) on_exit(end_failed, NULL);
 }

@@ -136,6 +136,11 @@ int tlscore_compared(tlscore *board, uint64_t *compared, uint64_t *told);
 /* The byte at an address, as the requests that were judged leave it, or TLSCORE_NO_BYTE. */
 int tlscore_byte(tlscore *board, uint64_t address);
 
+/* ---- The process. From this call on it ends with status 1 where exit or main's return would have it end with 0, so that a simulator
+   which takes no status from its models ends with one that says that something was wrong. It changes nothing else, may be called
+   again, and by any thread. The modules of interfaces/systemverilog call it. */
+void tlscore_fail(void);
+
 /* ==== The model: a bridge and the memory behind it, one step at a time, as `tlbridge run` carries out a script (docs/SCRIPT.md,
    "Commands of run"). The caller plays the clients, and says when the bridge sends a burst and when and in which order the memory
    performs and answers it; or has that done by tlbridge_drain. Whatever it says, replies and memory are those of the accepted requests
