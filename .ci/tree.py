@@ -30,6 +30,7 @@ COPIED = (
     ("include", "interfaces/systemc", "zuldegei_systemc.h"),
     ("share/zuldegei/systemverilog", "interfaces/systemverilog", "*"),
     ("share/zuldegei/python/zuldegei", "python/zuldegei", "*"),
+    ("share/zuldegei/python", "python", "pyproject.toml wheel_of_package.py"),
     (PAGES, ".", "README.md VERSION"),
     (f"{PAGES}/docs", "docs", "*.md *.png"),
     (f"{PAGES}/python", "python", "README.md"),
@@ -39,6 +40,7 @@ COPIED = (
 # What a file says of the repository, and what it says where it is installed.
 CHANGED = {
     "python/zuldegei/scoreboard.py": ('parents[2] / "out/libzuldegei.so"', 'parents[4] / "lib/libzuldegei.so"'),
+    "python/wheel_of_package.py": ('parent / "out/libzuldegei.so"', 'parents[2] / "lib/libzuldegei.so"'),
     "examples/testbench/client.py": ('parents[2] / "python"', 'parents[4] / "zuldegei/python"'),
 }
 # The scripts of the commands in Python. The package isn't on Python's own path, which is another for each version.
