@@ -209,7 +209,7 @@ class Comparison:
         flight = self.flights.get(beside or self.history.of_line.get(beat.line))
         if flight is None:
             return
-        self.count(beat.line, flight)
+        self.count(beat.line, self.replying.get(client, flight))
         if beside:
             return
         cut = self.replying.pop(client, None)

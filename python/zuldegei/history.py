@@ -9,7 +9,7 @@ from dataclasses import dataclass, field
 from typing import Deque, Dict, Iterator, List, NamedTuple, Optional, Tuple
 
 from .observation import (
-    A, AR, AW, B, D, GET, LAST_PUT, LAST_WITH_DATA, OPERATIONS, R, W, WORD, Beat, Event, Observation, Verdict, Wrong, byte_of, number,
+    A, AR, AW, B, D, GET, INTENT, LAST_PUT, LAST_WITH_DATA, OPERATIONS, R, W, WORD, Beat, Event, Observation, Verdict, Wrong, byte_of, number,
 )  # fmt: skip
 
 RESETS = ("reset", "drained")
@@ -228,7 +228,7 @@ class History:
         if told and (told.name in NO_REPLY or told.name == "X" and not told.due):
             return
         if told and told.name == "INTERLEAVED" and client in self.replying:
-            if not self.due.get((client, source)):
+            if not any(it.accepted for it in list(self.due.get((client, source), ()))[:1]):
                 self.in_place_of[beat.line] = self.replying[client]
                 return  # it is of no reply that is due, and changes nothing
             self.end(self.replying.pop(client), beat)  # that one ended early
