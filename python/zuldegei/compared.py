@@ -3,13 +3,12 @@
 
 from dataclasses import dataclass, field
 from enum import Enum
-from typing import Dict, Iterator, List, NamedTuple, Optional, Set, Tuple
+from typing import Dict, List, NamedTuple, Optional, Set, Tuple
 
 from .history import Burst, History, Request
-from .observation import A, B, D, GET, PAGE, R, WORD, Beat, Event, byte_of, number
+from .observation import A, B, D, GOOD, R, WORD, Beat, Event, byte_of, number
 
 ERRORS = ("SLVERR", "DECERR")
-GOOD = ("good", "any")
 
 
 class Why(Enum):
@@ -120,15 +119,13 @@ class Comparison:
         request = self.history.of_line.get(beat.line)
         if not isinstance(request, Request):
             return
-        beats = request.beats[: request.beats.index(beat) + 1]
-        if len(beats) == 1 and (self.observation.is_by_tilelink or beat.line == request.accepted):
-            self.begin(request, beats, beat.line == request.accepted)
-        elif len(beats) == 1:
-            return
-        elif self.observation.is_by_tilelink and self.is_any and beat.words[8] == "1":
+        is_first, is_last = beat.line == request.begun, beat.line == request.accepted
+        if is_first and (self.observation.is_by_tilelink or is_last):
+            self.begin(request, request.beats[:1], is_last)
+        elif not is_first and self.is_any and beat.words[8] == "1" and request in self.flights:
             self.flights[request].fail(Reason(Why.FAILED, request, line=beat.line))
-        if beat.line == request.accepted and len(beats) > 1:
-            self.complete(request, beats)
+        if is_last and not is_first:
+            self.complete(request, request.beats)
 
     def begin(self, request: Request, beats: List[Beat], is_whole: bool) -> None:
         """With its first beat it joins those in flight, and they lose what it may write."""

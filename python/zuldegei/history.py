@@ -6,7 +6,7 @@ of these the oldest."""
 
 from collections import deque
 from dataclasses import dataclass, field
-from typing import Deque, Dict, Iterator, List, NamedTuple, Optional, Tuple
+from typing import Deque, Dict, List, NamedTuple, Optional, Tuple
 
 from .observation import (
     A, AR, AW, B, D, GET, INTENT, LAST_PUT, LAST_WITH_DATA, OPERATIONS, R, W, WORD, Beat, Event, Observation, Verdict, Wrong, byte_of, number,
@@ -171,6 +171,7 @@ class History:
         self.requests: List[Request] = []
         self.bursts: List[Burst] = []
         self.of_line: Dict[int, object] = {}  # the request or burst of a beat
+        self.cut: Dict[int, Request] = {}  # by the beat that begins another reply: the request whose reply that one cuts short
         self.in_place_of: Dict[int, Request] = {}  # of a beat in the midst of another request's reply: that request
         self.events: List[Event] = []
         self.begun: Dict[int, Request] = {}  # by client, while its beats come
@@ -231,7 +232,8 @@ class History:
             if not any(it.accepted for it in list(self.due.get((client, source), ()))[:1]):
                 self.in_place_of[beat.line] = self.replying[client]
                 return  # it is of no reply that is due, and changes nothing
-            self.end(self.replying.pop(client), beat)  # that one ended early
+            self.cut[beat.line] = self.replying.pop(client)  # that one ended early
+            self.end(self.cut[beat.line], beat)
         request = self.replying.get(client)
         if request is None:
             waiting = self.due.get((client, source))
@@ -336,13 +338,6 @@ class History:
                 burst.request.bursts.append(burst)
                 if best > BESIDE:
                     served.setdefault(id(burst.request), []).append(burst)
-
-    def in_flight_with(self, request: Request) -> Iterator[Request]:
-        """The requests that were in flight together with it."""
-        for other in self.requests:
-            begins_before = request.ended is None or other.begun < request.ended
-            if other is not request and begins_before and (other.ended is None or other.ended > request.begun):
-                yield other
 
 
 def fitness(request: Request, burst: Burst) -> int:

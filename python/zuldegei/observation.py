@@ -13,6 +13,7 @@ OPERATIONS = ("PutFull", "PutPartial", "Arithmetic", "Logical", "Get", "Intent")
 BUS, PAGE, WORD = 8, 4096, 8  # bytes
 NUMBERS = {A: slice(0, 5), D: slice(0, 5), AW: slice(0, 5, 2), AR: slice(0, 5, 2), W: slice(0), B: slice(1), R: slice(1)}  # of words
 MOST = 255  # of these
+GOOD = ("good", "any")  # kinds of pages that have bytes
 PERMITS = "ppaagh"  # the letter of a region that permits each opcode
 AT_END = ("UNANSWERED", "UNFINISHED")  # what is told of the end of an observation, and of no beat
 WRONG = re.compile(

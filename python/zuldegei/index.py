@@ -1,0 +1,128 @@
+"""What belongs to a line, a source, a client or a byte in a history, found without going through all of it for each wrong line."""
+
+from bisect import bisect_left, bisect_right
+from typing import Dict, Iterator, List, NamedTuple, Optional, Tuple
+
+from .history import Burst, History, Request, Transfer
+from .observation import PAGE, WORD, Beat, number
+
+NEVER = 1 << 64  # a line behind all others
+
+
+class Part(NamedTuple):
+    """A W or R beat in the word that its bytes lie in."""
+
+    line: int
+    burst: Burst
+    transfer: Transfer
+
+
+class Sorted:
+    """Things by their lines, in the order of these."""
+
+    def __init__(self):
+        self.lines: List[int] = []
+        self.things: List[object] = []
+
+    def add(self, line: int, thing: object) -> None:
+        """Puts a thing in its place, which is the last most often."""
+        at = len(self.lines) if not self.lines or self.lines[-1] <= line else bisect_right(self.lines, line)
+        self.lines.insert(at, line)
+        self.things.insert(at, thing)
+
+    def before(self, line: int) -> Iterator[object]:
+        """Those ahead of a line, the last first."""
+        return (self.things[at] for at in range(bisect_left(self.lines, line) - 1, -1, -1))
+
+    def between(self, after: int, before: int) -> List[object]:
+        return self.things[bisect_right(self.lines, after) : bisect_left(self.lines, before)]
+
+
+class Index:
+    """Made once of a history."""
+
+    def __init__(self, history: History):
+        self.history = history
+        self.beats: Dict[int, Beat] = {it.line: it for it in history.observation.beats()}
+        self.of_source: Dict[Tuple[int, int], Sorted] = {}
+        self.open_of_source: Dict[Tuple[int, int], Sorted] = {}  # those that never ended
+        self.writers: Dict[int, Sorted] = {}  # by a word on the port: accepted requests that may write a byte of it
+        self.unmapped: Dict[int, Sorted] = {}  # by the place in a page: requests whose page no region leads to
+        self.written: Dict[int, Sorted] = {}  # by a word on the port: W beats
+        self.read: Dict[int, Sorted] = {}  # and R beats
+        self.unanswered: Dict[Tuple[bool, int], Burst] = {}  # of writes or reads of an ID the oldest
+        self.data_alone = history.data_alone()
+        for request in history.requests:
+            self.add_request(request)
+        for burst in history.bursts:
+            self.add_burst(burst)
+        self.in_flight, self.races = self.sweep()
+
+    def add_request(self, request: Request) -> None:
+        """Adds a request to what it is found by."""
+        source = request.client, request.source
+        self.of_source.setdefault(source, Sorted()).add(request.begun, request)
+        if request.ended is None:
+            self.open_of_source.setdefault(source, Sorted()).add(request.begun, request)
+        if request.port_address is None:
+            self.unmapped.setdefault(request.address % PAGE, Sorted()).add(request.begun, request)
+        elif request.has_data and request.accepted is not None:
+            for word in words_of(request):
+                self.writers.setdefault(word, Sorted()).add(request.accepted, request)
+
+    def add_burst(self, burst: Burst) -> None:
+        """Adds a burst and its beats to what they are found by."""
+        if not burst.answer:
+            self.unanswered.setdefault((burst.is_write, burst.id), burst)
+        parts = self.written if burst.is_write else self.read
+        for transfer in burst.transfers:
+            part = Part(transfer.beat.line, burst, transfer)
+            parts.setdefault(transfer.first // WORD, Sorted()).add(part.line, part)
+
+    def last_of(self, client: Optional[int], source: Optional[int], line: int, is_open: bool = False) -> Optional[Request]:
+        """The last request of a client's source ahead of a line, or the last that never ended."""
+        found = (self.open_of_source if is_open else self.of_source).get((client, source))
+        return next(found.before(line), None) if found else None
+
+    def parts(self, port_address: int, is_write: bool) -> Sorted:
+        """The W or R beats of a byte's word."""
+        return (self.written if is_write else self.read).get(port_address // WORD, Sorted())
+
+    def sweep(self) -> Tuple[Dict[int, List[Request]], Dict[Request, List[Request]]]:
+        """Goes through the lines once: by each wrong beat of channel D the requests of its client that wait for a reply, and by each request
+        with such a beat those in flight with it that may write a byte of it."""
+        history, waiting, races = self.history, {}, {}
+        wrong = [self.beats[it] for it in history.wrong if it in self.beats and self.beats[it].kind == "D"]
+        for beat in wrong:
+            request = history.of_line.get(beat.line)
+            if isinstance(request, Request):
+                races[request] = []
+        steps: List[Tuple[int, int, object]] = [(it.line, 0, it) for it in wrong]
+        for request in history.requests:
+            steps += [(request.begun, 1, request), (NEVER if request.ended is None else request.ended, 2, request)]
+        active: Dict[Request, None] = {}
+        for line, kind, it in sorted(steps, key=lambda it: it[:2]):
+            if kind == 0:
+                waiting[line] = [other for other in active if other.client == number(it.words[0])]
+            elif kind == 1:
+                note_races(it, active, races)
+                active[it] = None
+            else:
+                active.pop(it, None)
+        return waiting, races
+
+
+def words_of(request: Request) -> range:
+    """The words on the port that its bytes lie in."""
+    return range(request.port_address // WORD, (request.port_address + request.bytes - 1) // WORD + 1)
+
+
+def note_races(request: Request, active: Dict[Request, None], races: Dict[Request, List[Request]]) -> None:
+    """A request begins: it races with those in flight, of which one writes and both share a byte; some requests are asked for."""
+    for other in active if request.port_address is not None else ():
+        first, second = other.port_address, request.port_address
+        if first is not None and first < second + request.bytes and second < first + other.bytes:
+            if request in races and other.has_data:
+                races[request].append(other)
+            if other in races and request.has_data:
+                races[other].append(request)
