@@ -68,7 +68,7 @@ def work(arguments: Sequence[str]) -> int:
     print("\n".join([*said, summary(verdict, history)]))
     if given.html:
         name = Path(given.observation).name
-        drawn = page(history, verdict, texts, [it.behind for it in causes], name)
+        drawn = page(history, verdict, texts, [it.behind for it in causes], name, explainer.index)
         with written(Path(given.html)) as file:
             file.write(drawn)
     return Status.WRONG if verdict.wrong else Status.DONE

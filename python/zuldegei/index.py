@@ -1,7 +1,7 @@
 """What belongs to a line, a source, a client or a byte in a history, found without going through all of it for each wrong line."""
 
 from bisect import bisect_left, bisect_right
-from typing import Dict, Iterator, List, NamedTuple, Optional, Tuple
+from typing import Dict, Iterator, List, NamedTuple, Optional, Sequence, Tuple
 
 from .history import Burst, History, Request, Transfer
 from .observation import PAGE, WORD, Beat, number
@@ -15,6 +15,20 @@ class Part(NamedTuple):
     line: int
     burst: Burst
     transfer: Transfer
+
+
+class Data(NamedTuple):
+    """Bytes that a beat gives, and which: from the lowest lane that it gives on, so that it doesn't matter where they stand."""
+
+    lanes: int
+    payload: int
+
+
+class PutBeat(NamedTuple):
+    """A beat of a Put."""
+
+    line: int
+    request: Request
 
 
 class Sorted:
@@ -52,6 +66,8 @@ class Index:
         self.read: Dict[int, Sorted] = {}  # and R beats
         self.unanswered: Dict[Tuple[bool, int], Burst] = {}  # of writes or reads of an ID the oldest
         self.data_alone = history.data_alone()
+        self.written_data: Dict[Data, Sorted] = {}  # W beats by what they write
+        self.given_data: Dict[Data, Sorted] = {}  # beats of Puts by what they give
         for request in history.requests:
             self.add_request(request)
         for burst in history.bursts:
@@ -61,6 +77,9 @@ class Index:
     def add_request(self, request: Request) -> None:
         """Adds a request to what it is found by."""
         source = request.client, request.source
+        for beat in request.beats if request.is_put else ():
+            for data in data_of(beat.words[6], beat.words[7], self.history.observation.bus):
+                self.given_data.setdefault(data, Sorted()).add(beat.line, PutBeat(beat.line, request))
         self.of_source.setdefault(source, Sorted()).add(request.begun, request)
         if request.ended is None:
             self.open_of_source.setdefault(source, Sorted()).add(request.begun, request)
@@ -78,6 +97,8 @@ class Index:
         for transfer in burst.transfers:
             part = Part(transfer.beat.line, burst, transfer)
             parts.setdefault(transfer.first // WORD, Sorted()).add(part.line, part)
+            for data in data_of(transfer.beat.words[1], transfer.beat.words[0], burst.bus) if burst.is_write else ():
+                self.written_data.setdefault(data, Sorted()).add(part.line, part)
 
     def last_of(self, client: Optional[int], source: Optional[int], line: int, is_open: bool = False) -> Optional[Request]:
         """The last request of a client's source ahead of a line, or the last that never ended."""
@@ -110,6 +131,26 @@ class Index:
             else:
                 active.pop(it, None)
         return waiting, races
+
+
+def data_of(lanes: str, payload: str, bus: int) -> Sequence[Data]:
+    """What a beat gives, apart for each transfer of a bus, if all of it is known and not all of it is zero."""
+    mask, value = number(lanes, 16), number(payload, 16)
+    if mask is None or value is None:
+        return ()
+    value &= BITS[mask]
+    if bus == WORD:
+        return (moved(mask, value),) if value else ()
+    halves = ((mask & 0xF, value & 0xFFFFFFFF), (mask >> 4, value >> 32))
+    return [moved(its_mask, its_value) for its_mask, its_value in halves if its_value]
+
+
+def moved(mask: int, value: int) -> Data:
+    lowest = (mask & -mask).bit_length() - 1
+    return Data(mask >> lowest, value >> 8 * lowest)
+
+
+BITS = [sum(0xFF << 8 * lane for lane in range(WORD) if mask >> lane & 1) for mask in range(1 << WORD)]
 
 
 def words_of(request: Request) -> range:
