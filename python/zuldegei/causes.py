@@ -3,6 +3,7 @@
 from enum import Enum
 from typing import Dict, Iterator, List, NamedTuple, Optional, Tuple
 
+from .command import Fault
 from .compared import Comparison
 from .history import Burst, Given, History, Request, Transfer
 from .index import Index, Part, data_of
@@ -126,6 +127,8 @@ class Explainer:
         if wrong.name == "X":
             side = Side.WRITE if beat and beat.kind == W else Side.ANSWER if beat and beat.kind in "BR" else Side.LIMIT
             return Cause(side, "A digit of it isn't known, where it tells something.", self.burst_grounds(found))
+        if wrong.name not in BY_AXI_RULE:
+            raise Fault(f"{wrong.text[:80]!r} names no rule of the AXI4 port")
         side, sentence = BY_AXI_RULE[wrong.name]
         grounds = self.burst_grounds(found)
         if isinstance(found, Burst) and beat and beat.kind in (AW, AR):

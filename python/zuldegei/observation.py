@@ -16,8 +16,9 @@ MOST = 255  # of these
 GOOD = ("good", "any")  # kinds of pages that have bytes
 PERMITS = "ppaagh"  # the letter of a region that permits each opcode
 AT_END = ("UNANSWERED", "UNFINISHED")  # what is told of the end of an observation, and of no beat
+UNKNOWN = frozenset("xXzZ")
 WRONG = re.compile(
-    r"= wrong (?P<line>\d+) (?P<kind>client|request|axi|reply) (?P<number>\d+) (?P<name>\w+)(?: expected (?P<due>D .*?))?"
+    r"= wrong (?P<line>\d+) (?P<kind>client|request|axi|reply) (?P<number>\d+) (?P<name>\w+)(?: expected (?P<due>D(?: [\da-fA-F]+){8}))?"
     r"(?: client (?P<client>\d+) source (?P<source>\d+))?(?: (?P<side>write|read|data)(?: (?P<id>\d+))?)?(?: at (?P<time>\d+))?"
 )
 JUDGED = re.compile(
@@ -184,12 +185,12 @@ class Observation:
 
 def number(text: str, base: int = 10) -> Optional[int]:
     """A field's number, or nothing where a digit of it isn't known."""
-    return None if set(text) & set("xXzZ") else int(text, base)
+    return int(text, base) if UNKNOWN.isdisjoint(text) else None
 
 
 def byte_of(payload: str, lane: int) -> Optional[int]:
     """The byte in a lane of a payload, or nothing where it isn't known; one such digit alone stands for all."""
-    digits = payload.rjust(2 * WORD, payload if len(payload) == 1 and payload in "xXzZ" else "0")
+    digits = payload.rjust(2 * WORD, payload if len(payload) == 1 and payload in UNKNOWN else "0")
     return number(digits[len(digits) - 2 * lane - 2 : len(digits) - 2 * lane], 16)
 
 
@@ -211,10 +212,11 @@ def verdict_of(text: str) -> Verdict:
 
 def check_same(observation: Observation, verdict: Verdict) -> None:
     """Refuses a verdict that can't be of this observation: each wrong line is a beat, or the end."""
-    beats = {it.line for it in observation.beats()}
+    kinds = {"request": (A,), "client": (A, D), "reply": (D,), "axi": (AW, AR, W, B, R)}
+    beats = {it.line: it.kind for it in observation.beats()}
     ends = {it.line for it in observation.entries if isinstance(it, Event) and it.name == "end"}
     for wrong in verdict.wrong:
-        if wrong.line not in (ends if wrong.name in AT_END else beats):
+        if wrong.line not in ends if wrong.name in AT_END else beats.get(wrong.line) not in kinds[wrong.kind]:
             raise Fault(f"the verdict isn't of this observation: {wrong.text[:80]!r}, and line {wrong.line} isn't what it tells of")
 
 

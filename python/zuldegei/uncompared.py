@@ -1,12 +1,13 @@
 """The bytes of replies that tlscore didn't compare, as text: of those that raced the two requests, and of each other byte why."""
 
+import re
 from typing import Dict, List, Optional
 
 from .compared import Comparison, Missed, Reason, Why
 from .history import Request
 from .observation import GOOD, Judged, Observation, plural, spans
 
-PAIRED = (Why.RACED, Why.LEFT)
+PAIR, PAIRED = "pair", (Why.RACED, Why.LEFT)
 
 
 def named(observation: Observation, request: Request) -> str:
@@ -61,7 +62,8 @@ def of_kind(observation: Observation, missed: List[Missed], why: Why) -> List[st
         if it.reason.why is why:
             by_reason.setdefault(it.reason, []).append(it)
     count = sum(len(it.addresses) for its in by_reason.values() for it in its)
-    lines = [f"{plural(count, 'byte')} {why.value}, {plural(len(by_reason), 'pair')}:" if why in PAIRED else f"{plural(count, 'byte')} {why.value}:"]
+    what = re.sub("^were ", "was ", re.sub("^are ", "is ", why.value)) if count == 1 else why.value
+    lines = [f"{plural(count, 'byte')} {what}{f', {plural(len(by_reason), PAIR)}' if why in PAIRED else ''}:"]
     for reason, its in by_reason.items():
         lines += cause(observation, reason) + readers(observation, its, reason)
     return lines if count else []
