@@ -70,17 +70,19 @@ SENTENCES = {
         (PUT, "A 1 0 0 3 6 000007d0 ff 1122334455667788 0", *ELSEWHERE, DONE, "D 1 0 0 3 6 0 0000000000000000 0", *READ_ZEROS),
         f"14 reply 7 PAYLOAD {DUE}", "write", ("The byte that was given last was never written.",), ("went to",)),
     "a reply of x ahead of its answer": ((GET, AR, "D 1 1 0 3 7 0 xxxxxxxxxxxxxxxx 0", R.format("0" * 16)),
-        "6 reply 8 X expected D 1 1 0 3 7 0 0000000000000000 0", "reply", ("The reply came before R brought this byte.", "line 5"), ("isn't known",)),
+        "6 reply 8 X expected D 1 1 0 3 7 0 0000000000000000 0", "reply", ("The reply came before R brought this byte.", "line 5"),
+        ("isn't known",)),
     "a reply of x behind its answer": ((GET, AR, R.format("0" * 16), "D 1 1 0 3 7 0 xxxxxxxxxxxxxxxx 0"),
-        "7 reply 8 X expected D 1 1 0 3 7 0 0000000000000000 0", "read", ("R brought the due byte, and the reply shows x or z.",), ("before R",)),
+        "7 reply 8 X expected D 1 1 0 3 7 0 0000000000000000 0", "read",
+        ("R brought the due byte, and the reply shows x or z.",), ("before R",)),
     "a reply of x in a byte alone": ((PUT, *WROTE, DONE, GET, AR, R.format(WORD), "D 1 1 0 3 7 0 11223344556677xx 0"),
         f"12 reply 8 X {DUE}", "read", ("at 00000008: due 88, came xx",), ("at 00000009",)),
     "the other half of the R beat": ((PUT, *WROTE, DONE, UPPER, AR, R.format(WORD), "D 1 1 0 2 7 0 5566778800000000 0"),
         "12 reply 7 PAYLOAD expected D 1 1 0 2 7 0 1122334400000000 0", "read",
         ("the reply shows what stands in the other half of the R beat.", "what came in lanes 4 5 6 7 stands in lanes 0 1 2 3 of R"), ()),
     "the other half, on 32 bits": (
-        (PUT, "AW 0 00010008 1 2 1", "W 55667788 0f 0", "W 11223344 0f 1", "B 0 OKAY", DONE, GET, "AR 3 00010008 1 2 1", "R 3 55667788 OKAY 0",
-         "R 3 11223344 OKAY 1", "D 1 1 0 3 7 0 5566778811223344 0"),
+        (PUT, "AW 0 00010008 1 2 1", "W 55667788 0f 0", "W 11223344 0f 1", "B 0 OKAY", DONE, GET, "AR 3 00010008 1 2 1",
+         "R 3 55667788 OKAY 0", "R 3 11223344 OKAY 1", "D 1 1 0 3 7 0 5566778811223344 0"),
         f"14 reply 7 PAYLOAD {DUE}", "read", ("the reply shows what stands in the other half of the R beat.",), ()),
     "other lanes of the R beat": ((PUT, *WROTE, DONE, GET, AR, R.format(WORD), "D 1 1 0 3 7 0 1122334455668877 0"),
         f"12 reply 7 PAYLOAD {DUE}", "read", ("stands in other lanes of the R beat.", "what came in lanes 0 1 stands in lanes 1 0 of R"), ("half",)),
@@ -93,7 +95,8 @@ SENTENCES = {
     "a message that another client's beat cuts into": (
         (LONG.format(0xA1), LONG.format(0xA2), "AW 0 00010020 3 3 1", "A 1 0 0 3 6 00000100 ff 00000000000000bb 0", LONG.format(0xA3),
          "W 00000000000000a1 ff 0", "W 00000000000000a2 ff 0", "W 00000000000000bb ff 1", LONG.format(0xA4)), "11 axi 8 WLAST", "write",
-        ("it is beat 3 of 4, and `last` is 1; among its data stand those of another request.", "in the midst of its message on channel A: line 7, of client 1",
+        ("it is beat 3 of 4, and `last` is 1; among its data stand those of another request.",
+         "in the midst of its message on channel A: line 7, of client 1",
          "line 11, W has what is given by PutFull of 8 bytes at 00000100, client 1 source 6 (line 7)"), ()),
     "a `last` too early, beside another client's beat": (
         (LONG.format(0xA1), LONG.format(0xA2), "AW 0 00010020 3 3 1", "A 1 0 0 3 6 00000100 ff 00000000000000bb 0", LONG.format(0xA3),
@@ -181,7 +184,7 @@ def sentences(folder: Path, score: str) -> Iterator[Case]:
         is_well = ran.returncode == 1 and f"  look at the {side}" in ran.stdout and all(it in ran.stdout for it in has)
         is_well = is_well and not any(it in ran.stdout for it in hasnt)
         yield name, (None if is_well else f"status {ran.returncode}, {ran.stdout}{ran.stderr}") or misquoted(ran.stdout, text.splitlines())
-        yield f"{name}: the picture", None if is_well and rung(ran.stdout, drawn_page, text) else "a burst of the text isn't in the picture"
+        yield f"{name}: the picture", None if rung(ran.stdout, drawn_page, text) else "a burst of the text isn't in the picture"
 
 
 def rung(text: str, drawn_page: Path, lines: str) -> bool:
@@ -199,7 +202,8 @@ def many(folder: Path) -> Iterator[Case]:
         text, wrong = many_wrong(kept)
         lines.write_text(text)
         verdict.write_text(wrong)
-        ran = command("explain", lines, verdict, "-n", "8000", "--html", drawn_page, seconds=300, preexec_fn=limited(resource.RLIMIT_CPU, 20))
+        words = ("explain", lines, verdict, "-n", "8000", "--html", drawn_page)
+        ran = command(*words, seconds=300, preexec_fn=limited(resource.RLIMIT_CPU, 20))
         is_well = ran.returncode == 1 and ran.stdout.count("\n  = wrong ") == 8000 and ran.stdout.count("  look at the re") == 8000
         counted = drawn_page.exists() and drawn_page.read_text().count(" reply 7 PAYLOAD " if not kept else " UNASKED")
         yield f"8,000 wrong {name} of 250,000 beats", None if is_well and counted >= 8000 else f"status {ran.returncode}, {ran.stderr[-200:]}"

@@ -33,13 +33,15 @@ OTHER, ITS = "A 1 1 0 3 6 00000008 0f 0000000099aabbcc 0", "D 1 0 0 3 6 0 000000
 GET, TOLD = "A 1 4 0 3 7 00000008 ff 0000000000000000 0", "D 1 1 0 3 7 0 {:016x} 0"
 # The kind of pages, set-up lines behind them, beats, how many bytes weren't compared of how many, and the list, whole, behind that.
 LISTS = {
-    "a Get that raced with a Put": ("good", TILELINK, (PUT, GET, TOLD.format(0), ACKNOWLEDGED, GET, TOLD.format(0x1122334455667788)), (8, 16), """
+    "a Get that raced with a Put": ("good", TILELINK,
+        (PUT, GET, TOLD.format(0), ACKNOWLEDGED, GET, TOLD.format(0x1122334455667788)), (8, 16), """
 8 bytes raced, 1 pair:
   Get of 8 bytes at 00000008, client 1 source 7 (line 6)
     with PutFull of 8 bytes at 00000008, client 0 source 5 (line 5)
     8 bytes at 00000008 to 0000000f, told in line 7
 """),
-    "a Get of bytes that two Puts left which raced": ("good", TILELINK, (PUT, OTHER, ACKNOWLEDGED, ITS, GET, TOLD.format(0x1122334400000000)), (4, 8), """
+    "a Get of bytes that two Puts left which raced": ("good", TILELINK,
+        (PUT, OTHER, ACKNOWLEDGED, ITS, GET, TOLD.format(0x1122334400000000)), (4, 8), """
 4 bytes were left by requests that raced, 1 pair:
   PutPartial of 8 bytes at 00000008, client 1 source 6 (line 6)
     with PutFull of 8 bytes at 00000008, client 0 source 5 (line 5)
@@ -55,7 +57,8 @@ LISTS = {
 6 bytes are of pages of `any`, where nobody knows what the memory began with:
     6 bytes at 0000000a to 0000000f of Get of 8 bytes at 00000008, client 1 source 7 (line 5), told in line 6
 """),
-    "a byte that was given as x": ("good", "x data\n", (PUT.replace("8 0", "x 0"), ACKNOWLEDGED, GET, TOLD.format(0x1122334455667700)), (1, 8), """
+    "a byte that was given as x": ("good", "x data\n",
+        (PUT.replace("8 0", "x 0"), ACKNOWLEDGED, GET, TOLD.format(0x1122334455667700)), (1, 8), """
 1 byte was given as x or z:
   PutFull of 8 bytes at 00000008, client 0 source 5 (line 5)
     line 5: A 0 0 0 3 5 00000008 ff 112233445566778x 0
@@ -79,7 +82,8 @@ LISTS = {
     a beat of it is corrupt
     8 bytes at 00000008 to 0000000f of Get of 8 bytes at 00000008, client 1 source 7 (line 8), told in line 9
 """),
-    "a Get behind a Put whose burst failed": ("good", ANY, (PUT, "AW 0 00010008 0 3 1", "W 1122334455667788 ff 1", "B 0 SLVERR", ACKNOWLEDGED, GET, TOLD.format(7)), (8, 8), """
+    "a Get behind a Put whose burst failed": ("good", ANY,
+        (PUT, "AW 0 00010008 0 3 1", "W 1122334455667788 ff 1", "B 0 SLVERR", ACKNOWLEDGED, GET, TOLD.format(7)), (8, 8), """
 8 bytes are of requests that may have failed with a burst:
   PutFull of 8 bytes at 00000008, client 0 source 5 (line 6)
     line 9: B 0 SLVERR

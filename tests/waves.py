@@ -464,7 +464,7 @@ def refused_by_hand() -> Iterator[Case]:
 
 TWICE = (
     ("a client", f"{HAND}client 0 flat top.\n", ("line 4", "client 0", "line 2")),
-    ("a client of an array", "clock top.clock\nclient 0 flat top. part 0 of 2\nclient 0 flat top. part 1 of 2\n", ("line 3", "client 0")),
+    ("a client of an array", f"{HAND}client 1 flat top. part 0 of 2\nclient 1 flat top. part 1 of 2\n", ("line 5", "client 1")),
     ("the AXI4 port", f"{HAND}axi amba top.s_axi_\n", ("line 4", "AXI4", "line 3")),
     ("a reset", f"clock top.clock\nreset top.a\nreset top.b low\n{HAND}", ("line 3", "reset", "top.clock", "line 2")),
     ("a clock", f"{HAND}clock top.clock\nclient 1 flat top.\n", ("line 4", "top.clock", "line 1")),
@@ -494,16 +494,20 @@ def said_twice() -> Iterator[Case]:
 
 
 COUNTED = ({**a_beat(), "m_axi_arvalid": "1", "m_axi_arid": "1"}, {**a_beat(), "m_axi_arvalid": "1"}, {"d_valid": "1", "d_opcode": "0"})
+RESET, NO_R = HAND.replace("\n", "\nreset top.reset{}\n", 1), "no beat passed on R of AXI4: its valid"
 # What the command says of a dump by hand on standard error, behind its name: of each clock, the map, and whole lines or parts of them.
 COUNTS = (
-    ("each port has beats", COUNTED, HAND, ("beats: client 0 A 2, D 1; AXI4 AW 0, W 0, B 0, AR 2, R 0", "no beat passed on R of AXI4: its valid")),
-    ("a port without a beat", COUNTED[2:], HAND, ("client 0 A 0, D 1;", "on A of client 0: its valid top.a_valid was high at no edge of top.clock", "at AXI4")),
-    ("a ready that is never high", ({**a_beat(), "a_ready": "0"},) * 3, HAND, ("top.a_valid was high at 3 edges of top.clock, and its ready top.a_ready at",)),
-    ("a reset with the wrong polarity", COUNTED, HAND.replace("\n", "\nreset top.reset\n", 1), ("reset top.reset held", "all 3 edges", "write `low`")),
-    ("a reset with `low` too many", COUNTED, HAND.replace("\n", "\nreset top.none low\n", 1), ("reset top.none held", "all 3 edges", "leave out the word `low`")),
-    ("a reset with the wrong polarity, of a bench that begins in reset", ({"reset": "0"}, *COUNTED), HAND.replace("\n", "\nreset top.reset\n", 1),
+    ("each port has beats", COUNTED, HAND, ("beats: client 0 A 2, D 1; AXI4 AW 0, W 0, B 0, AR 2, R 0", NO_R)),
+    ("a port without a beat", COUNTED[2:], HAND,
+        ("client 0 A 0, D 1;", "on A of client 0: its valid top.a_valid was high at no edge of top.clock", "at AXI4")),
+    ("a ready that is never high", ({**a_beat(), "a_ready": "0"},) * 3, HAND,
+        ("no beat passed at client 0: its valid top.a_valid was high at 3 edges of top.clock, and its ready top.a_ready at none",)),
+    ("a reset with the wrong polarity", COUNTED, RESET.format(""), ("reset top.reset held", "all 3 edges", "write `low`")),
+    ("a reset with `low` too many", COUNTED, RESET.format(" low").replace("reset low", "none low"),
+        ("reset top.none held", "all 3 edges", "leave out the word `low`")),
+    ("a reset with the wrong polarity, of a bench that begins in reset", ({"reset": "0"}, *COUNTED), RESET.format(""),
         ("beats: client 0 A 0, D 0;", "reset top.reset held", "3 of 4 edges", "write `low`")),
-    ("a reset that is right", COUNTED, HAND.replace("\n", "\nreset top.reset low\n", 1), ("beats: client 0 A 2, D 1;", "no beat passed on R of AXI4")),
+    ("a reset that is right", COUNTED, RESET.format(" low"), ("beats: client 0 A 2, D 1;", NO_R)),
 )  # fmt: skip
 
 

@@ -206,12 +206,13 @@ class History:
     def ask(self, beat: Beat) -> None:
         """Takes a beat of channel A."""
         numbers = [number(it) for it in beat.words[:5]] + [number(beat.words[5], 16)]
-        if None in map(number, beat.words[8:]) or number(beat.words[6], 16) is None or self.told(beat) and (self.told(beat).name != "X" or None in numbers) or None in numbers:
+        numbers += [number(beat.words[6], 16), number(beat.words[8])]
+        if None in numbers or self.told(beat) and self.told(beat).name != "X":
             return  # a beat that is refused changes nothing
         client = numbers[0]
         request = self.begun.get(client)
         if request is None:
-            request = Request(*numbers, self.observation.on_the_port(numbers[5]))
+            request = Request(*numbers[:6], self.observation.on_the_port(numbers[5]))
             self.requests.append(request)
             self.due.setdefault((client, request.source), deque()).append(request)
         request.beats.append(beat)

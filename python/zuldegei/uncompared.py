@@ -74,7 +74,8 @@ def uncompared(comparison: Comparison, judged: Optional[Judged]) -> str:
     observation, lacking = comparison.observation, comparison.told - comparison.compared
     lines = [f"{lacking} of {plural(comparison.told, 'byte')} that replies told weren't compared"]
     if judged and (judged.compared, judged.told) != (comparison.compared, comparison.told):
-        lines.append(f"(the verdict says compared {judged.compared} of {judged.told}: it isn't of this observation, or this list isn't whole)")
+        says = f"compared {judged.compared} of {judged.told}"
+        lines.append(f"(the verdict says {says}: it isn't of this observation, or this list isn't whole)")
     for why in Why:
         lines += of_kind(observation, comparison.missed, why)
     return "\n".join(lines) + "\n"
