@@ -48,8 +48,8 @@ scopes may be left out, or a slice of it, as tb.a_data[127:64], or a number, as 
                                the lines of a ready map, for the module at PATH; CLIENT is the number of its client, and the
                                rest are widths
 
-A client, the AXI4 port, the reset of a clock, a field in a line of its own, and a renumbered ID or source have one line each: a second
-line for one is refused, and so is a clock with no port behind it.
+A client, the AXI4 port, the reset of a clock, a field in a line of its own, and a renumbered ID or source have one line each, and a
+clock has a second line only with another reset: else such a line is refused, and so is a clock with no port behind it.
 STYLE is how names are made of PREFIX, the channel and the field:
   flat     PREFIXa_valid PREFIXa_opcode, PREFIXaw_valid PREFIXaw_id
   chisel   PREFIXa_valid PREFIXa_bits_opcode, PREFIXaw_valid PREFIXaw_bits_id
@@ -114,7 +114,8 @@ class Clock:
     is_falling: bool = False
     reset: Optional[str] = None
     is_reset_low: bool = False
-    line: int = 0
+    line: int = 0  # of the map
+    is_own: bool = True  # and not of a ready map
     channels: Dict[Key, Dict[str, Wanted]] = field(default_factory=dict)
 
 
@@ -162,12 +163,19 @@ class Reader:
                 raise Fault(f"the map {self.name}, line {self.at}: {line.strip()[:100]!r} is no line of a map") from why
         if not any(it.channels for it in self.map.clocks):
             raise Fault(f"the map {self.name} names no port")
+        self.check_clocks()
+        return self.map
+
+    def check_clocks(self) -> None:
+        """Refuses a clock with no port behind it, and a second line for one that has no reset of its own there."""
+        seen: Dict[Tuple[str, bool], List[Clock]] = {}
         for clock in self.map.clocks:
-            self.at = clock.line
-            self.once(f"the clock {clock.path}", "clock", clock.path, clock.is_falling, clock.reset, clock.is_reset_low)
             if not clock.channels:
                 raise Fault(f"the map {self.name}, line {clock.line}: no port stands behind the clock {clock.path}")
-        return self.map
+            before = seen.setdefault((clock.path, clock.is_falling), [])
+            if before and clock.is_own and clock.reset in (None, *(it.reset for it in before)):
+                raise Fault(f"the map {self.name}, line {clock.line}: a second line for the clock {clock.path}, of line {before[0].line}")
+            before.append(clock)
 
     def once(self, name: str, *what: object) -> None:
         """Notes that this line is the one of something; a second one is a fault."""
@@ -197,7 +205,7 @@ class Reader:
             self.one_field(Key(kind), *rest)
 
     def clock(self, path: str, edge: str = "rising") -> None:
-        self.map.clocks.append(Clock(path, {"rising": False, "falling": True}[edge], line=self.at))
+        self.map.clocks.append(Clock(path, {"rising": False, "falling": True}[edge], line=self.at, is_own=not self.is_ready_map))
 
     def reset(self, path: str, level: str = "high") -> None:
         last = self.map.clocks[-1]
@@ -229,6 +237,8 @@ class Reader:
         its_style, sender, answerer = STYLES[style], prefixes[0], prefixes[-1]
         if len(prefixes) > 2:
             raise ValueError(prefixes)
+        if self.channel(key):
+            raise Fault(f"the map {self.name}, line {self.at}: it undoes a line of a field of {key}, which has to stand behind it")
         for name in (*HANDSHAKE, *FIELDS[key.channel]):
             is_back = (name == "ready") != (key.channel in FROM_THE_OTHER_SIDE)
             path = its_style.path(answerer if is_back else sender, key.channel, name)
