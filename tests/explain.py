@@ -72,6 +72,10 @@ SENTENCES = {
     "a reply of x ahead of its answer": ((GET, AR, "D 1 1 0 3 7 0 xxxxxxxxxxxxxxxx 0", R.format("0" * 16)),
         "6 reply 8 X expected D 1 1 0 3 7 0 0000000000000000 0", "reply", ("The reply came before R brought this byte.", "line 5"),
         ("isn't known",)),
+    "a reply ahead of its answer, where another client's read of the same byte was answered": (
+        (PUT, *WROTE, DONE, "A 0 4 0 3 9 00000008 ff 0000000000000000 0", "AR 2 00010008 0 3 1", GET, AR, R.format(WORD).replace("3", "2", 1),
+         "D 1 1 0 3 7 0 xxxxxxxxxxxxxxxx 0"),
+        f"14 reply 8 X {DUE}", "reply", ("The reply came before R brought this byte.", "(line 12)"), ("isn't known",)),
     "a reply of x behind its answer": ((GET, AR, R.format("0" * 16), "D 1 1 0 3 7 0 xxxxxxxxxxxxxxxx 0"),
         "7 reply 8 X expected D 1 1 0 3 7 0 0000000000000000 0", "read",
         ("R brought the due byte, and the reply shows x or z.",), ("before R",)),

@@ -435,8 +435,9 @@ class ByteStory:
     def told(self) -> Cause:
         """The side, the sentence and its grounds."""
         grounds = [self.origin()]
-        late = [it for it in self.request.bursts if not it.is_write and (it.answer is None or it.answer.line > self.reply.line)]
-        if self.carried is None and late:
+        own = [it for it in self.request.bursts if not it.is_write and (it.answer is None or it.answer.line > self.reply.line)]
+        late = [it for it in own if it.covers(self.place)] or own
+        if late and (self.carried is None or self.carried[0].request is not self.request and late[0].covers(self.place)):
             its_read = f"read: {late[0].name()} ({self.at(late[0].beat.line)})"
             return Cause(Side.REPLY, TOO_SOON, [*grounds, its_read])
         if self.carried is None:

@@ -145,6 +145,9 @@ class Burst:
         each = 1 << self.size
         return self.address // each * each + (self.length + 1) * each - 1
 
+    def covers(self, port_address: Optional[int]) -> bool:
+        return port_address is not None and self.address <= port_address <= self.last_byte
+
     def take(self, beat: Beat) -> None:
         """Adds the next transfer."""
         each, at = 1 << self.size, len(self.transfers)
