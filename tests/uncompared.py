@@ -76,6 +76,24 @@ LISTS = {
     its page is `slverr`
     8 bytes at 00000008 to 0000000f, told in line 6
 """),
+    "a Get of two words of a page that isn't there": ("good", TILELINK,
+        ("A 1 4 0 4 7 00004000 ff 0000000000000000 0", *["D 1 1 0 4 7 1 0000000000000000 1"] * 2), (16, 16), """
+16 bytes are of requests that fail:
+  Get of 16 bytes at 00004000, client 1 source 7 (line 5)
+    no region leads to its page
+    16 bytes at 00004000 to 0000400f, told in line 6 and 1 beat more
+"""),
+    "two atomics that raced with each other": ("good", TILELINK,
+        ("A 0 2 4 3 5 00000008 ff 0000000000000001 0", "A 1 2 4 3 6 00000008 ff 0000000000000002 0", "D 0 1 0 3 5 0 0000000000000000 0",
+         "D 1 1 0 3 6 0 0000000000000001 0"), (16, 16), """
+16 bytes raced, 1 pair:
+  Arithmetic of 8 bytes at 00000008, client 0 source 5 (line 5)
+    with Arithmetic of 8 bytes at 00000008, client 1 source 6 (line 6)
+    8 bytes at 00000008 to 0000000f, told in line 7
+  Arithmetic of 8 bytes at 00000008, client 1 source 6 (line 6)
+    with Arithmetic of 8 bytes at 00000008, client 0 source 5 (line 5)
+    8 bytes at 00000008 to 0000000f, told in line 8
+"""),
     "a Get behind a corrupt Put": ("good", ANY, (f"{PUT[:-1]}1", ACKNOWLEDGED, GET, TOLD.format(7)), (8, 8), """
 8 bytes were left by requests that failed:
   PutFull of 8 bytes at 00000008, client 0 source 5 (line 6)

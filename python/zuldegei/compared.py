@@ -52,7 +52,6 @@ class Flight:
     reads: bool
     writes: bool
     doubts: Dict[int, Reason] = field(default_factory=dict)
-    failed: Optional[Reason] = None
     came: int = 0  # beats of its reply
 
     def shared(self, other: "Flight") -> range:
@@ -64,7 +63,7 @@ class Flight:
             self.doubts.setdefault(address, reason)
 
     def fail(self, reason: Reason) -> None:
-        self.failed = self.failed or reason
+        """No byte of it is determined any more."""
         self.doubt(range(self.begin, self.end), reason)
 
 
@@ -123,7 +122,7 @@ class Comparison:
         if is_first and (self.observation.is_by_tilelink or is_last):
             self.begin(request, request.beats[:1], is_last)
         elif not is_first and self.is_any and beat.words[8] == "1" and request in self.flights:
-            self.flights[request].fail(Reason(Why.FAILED, request, line=beat.line))
+            self.flights[request].fail(Reason(Why.FAILED, request))
         if is_last and not is_first:
             self.complete(request, request.beats)
 
@@ -154,7 +153,7 @@ class Comparison:
             if other.writes and (flight.reads or flight.writes):
                 flight.doubt(flight.shared(other), Reason(Why.RACED, flight.request, other.request))
         if self.is_any and (self.place(flight.request, beats) is None or self.is_failing(flight.request, beats)):
-            flight.fail(Reason(Why.FAILED, flight.request, line=flight.request.begun))
+            flight.fail(Reason(Why.FAILED, flight.request))
 
     def is_failing(self, request: Request, beats: List[Beat]) -> bool:
         return any(self.fails(request, beats, at) for at in range(request.replies_due))
@@ -231,8 +230,8 @@ class Comparison:
         if is_error and not self.observation.is_by_tilelink:
             self.compared += len(told)  # its data are due as zeros
             return
-        reason = Reason(Why.FAILED, request, line=line) if is_error else flight.failed
-        missed = {it: reason or flight.doubts.get(it - request.address + flight.begin) for it in told}
+        failed = Reason(Why.FAILED, request) if is_error else None
+        missed = {it: failed or flight.doubts.get(it - request.address + flight.begin) for it in told}
         self.looked[line] = {address % WORD for address, its in missed.items() if its is None}
         self.compared += len(self.looked[line])
         for its in dict.fromkeys(filter(None, missed.values())):
@@ -250,7 +249,6 @@ class Comparison:
                 reason = Reason(Why.ANSWERED, flight.request, line=beat.line)
                 if flight.writes:
                     self.left.update(dict.fromkeys(range(flight.begin, flight.end), reason))
-                flight.doubts = {}
                 flight.fail(reason)
 
     def event(self, event: Event) -> None:

@@ -63,7 +63,8 @@ def of_kind(observation: Observation, missed: List[Missed], why: Why) -> List[st
             by_reason.setdefault(it.reason, []).append(it)
     count = sum(len(it.addresses) for its in by_reason.values() for it in its)
     what = re.sub("^were ", "was ", re.sub("^are ", "is ", why.value)) if count == 1 else why.value
-    lines = [f"{plural(count, 'byte')} {what}{f', {plural(len(by_reason), PAIR)}' if why in PAIRED else ''}:"]
+    pairs = len({frozenset((it.request, it.other)) for it in by_reason})
+    lines = [f"{plural(count, 'byte')} {what}{f', {plural(pairs, PAIR)}' if why in PAIRED else ''}:"]
     for reason, its in by_reason.items():
         lines += cause(observation, reason) + readers(observation, its, reason)
     return lines if count else []
