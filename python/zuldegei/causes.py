@@ -157,16 +157,16 @@ class Explainer:
 
     def strange_data(self, burst: Burst, line: int) -> List[Tuple[Transfer, Request]]:
         """The beats of a burst, up to a line, that have the data of another request in flight, and not those of its own."""
-        found: List[Tuple[Transfer, Request]] = []
-        for part in burst.transfers if burst.request else ():
-            its_data = data_of(part.beat.words[1], part.beat.words[0], burst.bus)
-            if part.beat.line <= line and its_data and not gives_all(burst.request, part):
-                given = self.index.given_data.get(its_data[0])
-                for it in given.before(part.beat.line) if given else ():
-                    if it.request is not burst.request and (it.request.ended is None or it.request.ended > burst.beat.line):
-                        found.append((part, it.request))
-                        break
-        return found
+        parts = [it for it in burst.transfers if burst.request and it.beat.line <= line and not gives_all(burst.request, it)]
+        found = [(it, self.stranger(burst, it)) for it in parts]
+        return [(part, other) for part, other in found if other]
+
+    def stranger(self, burst: Burst, part: Transfer) -> Optional[Request]:
+        """The request in flight, but that of the burst, that gave last what a W beat has."""
+        data = data_of(part.beat.words[1], part.beat.words[0], burst.bus)
+        given = self.index.given_data.get(data[0]) if data else None
+        others = (it.request for it in given.before(part.beat.line)) if given else ()
+        return next((it for it in others if it is not burst.request and (it.ended is None or it.ended > burst.beat.line)), None)
 
     def between(self, request: Request) -> List[str]:
         """The beats of other clients in the midst of a request's message on channel A."""
@@ -325,13 +325,11 @@ class Explainer:
         got, due = beat.words[6], wrong.due.split()[7]
         base = request.address // WORD * WORD + number_of * WORD
         lanes = self.differing(request, beat, base, due)
-        stories: Dict[Tuple, List[int]] = {}
-        behind: List[object] = []
         by_lane = {it: ByteStory(self, request, beat, base + it, byte_of(got, it), byte_of(due, it)) for it in lanes}
-        for lane, story in by_lane.items():
-            cause = story.told()
+        causes = {lane: story.told() for lane, story in by_lane.items()}
+        stories: Dict[Tuple, List[int]] = {}
+        for lane, cause in causes.items():
             stories.setdefault((cause.side, cause.sentence, *cause.grounds), []).append(lane)
-            behind += [*cause.behind, story.writer, *(story.writer.bursts if story.writer else ())]
         grounds = [f"beat {number_of + 1} of {request.replies_due} of the reply to {self.named(request)}"]
         for (_, sentence, *its_grounds), its_lanes in stories.items():
             values = [" ".join(hexed(byte_of(text, it)) for it in its_lanes) for text in (due, got)]
@@ -342,6 +340,8 @@ class Explainer:
         if sentence == NOT_SHOWN:
             sentence, more = self.elsewhere({it: story for it, story in by_lane.items() if story.is_brought()}, base)
             grounds += more
+        writers = [it.writer for it in by_lane.values() if it.writer]
+        behind = [*(it for cause in causes.values() for it in cause.behind), *writers, *(it for writer in writers for it in writer.bursts)]
         return Cause(side, sentence, grounds + self.races(request), tuple(behind))
 
     def differing(self, request: Request, beat: Beat, base: int, due: str) -> List[int]:

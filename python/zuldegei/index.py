@@ -112,17 +112,12 @@ class Index:
     def sweep(self) -> Tuple[Dict[int, List[Request]], Dict[Request, List[Request]]]:
         """Goes through the lines once: by each wrong beat of channel D the requests of its client that wait for a reply, and by each request
         with such a beat those in flight with it that may write a byte of it."""
-        history, waiting, races = self.history, {}, {}
-        wrong = [self.beats[it] for it in history.wrong if it in self.beats and self.beats[it].kind == "D"]
-        for beat in wrong:
-            request = history.of_line.get(beat.line)
-            if isinstance(request, Request):
-                races[request] = []
-        steps: List[Tuple[int, int, object]] = [(it.line, 0, it) for it in wrong]
-        for request in history.requests:
-            steps += [(request.begun, 1, request), (NEVER if request.ended is None else request.ended, 2, request)]
+        wrong = [self.beats[it] for it in self.history.wrong if it in self.beats and self.beats[it].kind == "D"]
+        found = (self.history.of_line.get(it.line) for it in wrong)
+        races: Dict[Request, List[Request]] = {it: [] for it in found if isinstance(it, Request)}
+        waiting: Dict[int, List[Request]] = {}
         active: Dict[Request, None] = {}
-        for line, kind, it in sorted(steps, key=lambda it: it[:2]):
+        for line, kind, it in sorted(self.steps(wrong), key=lambda it: it[:2]):
             if kind == 0:
                 waiting[line] = [other for other in active if other.client == number(it.words[0])]
             elif kind == 1:
@@ -131,6 +126,13 @@ class Index:
             else:
                 active.pop(it, None)
         return waiting, races
+
+    def steps(self, wrong: List[Beat]) -> Iterator[Tuple[int, int, object]]:
+        """What happens, by its line: ahead of all else there a wrong beat comes, then a request begins, and then one ends."""
+        yield from ((it.line, 0, it) for it in wrong)
+        for request in self.history.requests:
+            yield request.begun, 1, request
+            yield NEVER if request.ended is None else request.ended, 2, request
 
 
 def data_of(lanes: str, payload: str, bus: int) -> Sequence[Data]:
