@@ -45,6 +45,9 @@ SIDES = {
     "beat-dropped": "request",
     "unknown-read": "read",
 }
+# Words of the sentences that say where bytes are that went astray, and the stored runs in which they are true.
+ASTRAY = ("went to", "stands in", "came before R", "among its data")
+ASTRAY_IN = {"lane-swapped": ["stands in"]}
 # What is missing at the end of rows of examples/scoreboard: the side, and what is said of it.
 MISSING = {
     "end-with-a-lost-address": ("write", "no AW asks for them", "1 W beat from line 7 on"),
@@ -102,6 +105,11 @@ SENTENCES = {
         ("it is beat 3 of 4, and `last` is 1; among its data stand those of another request.",
          "in the midst of its message on channel A: line 7, of client 1",
          "line 11, W has what is given by PutFull of 8 bytes at 00000100, client 1 source 6 (line 7)"), ()),
+    "a message that another client's Get cuts into": (
+        (LONG.format(0xA1), LONG.format(0xA2), "AW 0 00010020 3 3 1", GET, LONG.format(0xA3), "W 00000000000000a1 ff 0", "W 00000000000000a2 ff 0",
+         "W 0000000000000000 ff 0", "W 00000000000000a3 ff 0", LONG.format(0xA4)), "12 axi 8 WLAST", "write",
+        ("it is beat 4 of 4, and `last` is 0; among its data stand those that its request doesn't give.", "line 7, of client 1",
+         "line 11, W has what its request doesn't give"), ("another request",)),
     "a `last` too early, beside another client's beat": (
         (LONG.format(0xA1), LONG.format(0xA2), "AW 0 00010020 3 3 1", "A 1 0 0 3 6 00000100 ff 00000000000000bb 0", LONG.format(0xA3),
          "W 00000000000000a1 ff 0", "W 00000000000000a2 ff 0", "W 00000000000000a3 ff 1", LONG.format(0xA4)), "11 axi 8 WLAST", "write",
@@ -129,6 +137,9 @@ def sides() -> Iterator[Case]:
         found = re.search(r"(?m)^  look at the (\w+)", ran.stdout)
         why = None if found and found[1] == side and ran.returncode == 1 else f"status {ran.returncode}, {ran.stdout}{ran.stderr}"
         yield f"the side of {name}", why or misquoted(ran.stdout, run_of(name)[0].read_text().splitlines())
+        all_of_it = command("explain", *run_of(name), "-n", "99").stdout
+        astray = [it for it in ASTRAY if it in all_of_it]
+        yield f"what went astray in {name}", None if astray == ASTRAY_IN.get(name, []) else f"{astray}, {all_of_it}"
 
 
 def missing(folder: Path) -> Iterator[Case]:

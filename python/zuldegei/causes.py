@@ -1,6 +1,7 @@
 """What is behind a wrong beat: the request, who wrote its bytes, which bursts carried them, and on which side of a bridge to look."""
 
 from enum import Enum
+from itertools import islice
 from typing import Dict, Iterator, List, NamedTuple, Optional, Tuple
 
 from .command import Fault
@@ -10,6 +11,7 @@ from .index import Index, Part, data_of
 from .observation import AR, AT_END, AW, PAGE, W, WORD, Beat, Wrong, byte_of, number, plural, spans
 
 MOST_LISTED = 4  # requests of a list
+MOST_LOOKED = 256  # beats with the same data, of which one may be of a request in flight
 SHIFTS = (4, 1, 2, 3, 5, 6, 7)  # of lanes, by which bytes may have come elsewhere: first by half a word
 TOO_SOON = "The reply came before R brought this byte."
 NOT_SHOWN = "R brought the due byte, and the reply shows another one."
@@ -146,26 +148,28 @@ class Explainer:
         last = burst.transfers[places[-1]].beat
         its = "it" if last.line == wrong.line else self.at(last.line)
         sentence += f": {its} is beat {places[-1] + 1} of {burst.length + 1}, and `last` is {last.words[2]}"
-        strange = self.strange_data(burst, last.line)
-        if not strange:
-            return Cause(Side.WRITE, f"{sentence}.", grounds)
-        others = {id(it): it for _, it in strange}
-        for part, other in strange[:MOST_LISTED]:
-            grounds.append(f"{self.at(part.beat.line)}, W has what is given by {self.named(other)}")
-        grounds += self.between(burst.request)
-        return Cause(Side.WRITE, f"{sentence}; among its data stand those of another request.", grounds, (*others.values(),))
+        others, more = self.strange_data(burst, last.line)
+        whose = "of another request" if others else "that its request doesn't give"
+        return Cause(Side.WRITE, f"{sentence}{f'; among its data stand those {whose}' if more else ''}.", grounds + more, (*others,))
 
-    def strange_data(self, burst: Burst, line: int) -> List[Tuple[Transfer, Request]]:
-        """The beats of a burst, up to a line, that have the data of another request in flight, and not those of its own."""
-        parts = [it for it in burst.transfers if burst.request and it.beat.line <= line and not gives_all(burst.request, it)]
-        found = [(it, self.stranger(burst, it)) for it in parts]
-        return [(part, other) for part, other in found if other]
+    def strange_data(self, burst: Burst, line: int) -> Tuple[List[Request], List[str]]:
+        """Of the beats of a burst, up to a line, those that haven't the data of its own request: the requests in flight that gave these, and
+        what is said of them, and of beats of other clients in the midst of its message."""
+        is_put = burst.request is not None and burst.request.is_put
+        parts = [it for it in burst.transfers if is_put and it.beat.line <= line and not gives_all(burst.request, it)]
+        found = [(it, self.stranger(burst, it)) for it in parts[:MOST_LISTED]]
+        others = list(dict.fromkeys(other for _, other in found if other))
+        between = self.between(burst.request) if parts else []
+        if not others and not between:
+            return [], []
+        said = [(part, f"is given by {self.named(other)}" if other else "its request doesn't give") for part, other in found]
+        return others, [f"{self.at(part.beat.line)}, W has what {text}" for part, text in said] + between
 
     def stranger(self, burst: Burst, part: Transfer) -> Optional[Request]:
         """The request in flight, but that of the burst, that gave last what a W beat has."""
         data = data_of(part.beat.words[1], part.beat.words[0], burst.bus)
         given = self.index.given_data.get(data[0]) if data else None
-        others = (it.request for it in given.before(part.beat.line)) if given else ()
+        others = (it.request for it in islice(given.before(part.beat.line), MOST_LOOKED)) if given else ()
         return next((it for it in others if it is not burst.request and (it.ended is None or it.ended > burst.beat.line)), None)
 
     def between(self, request: Request) -> List[str]:
