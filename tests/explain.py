@@ -1,8 +1,10 @@
 """What zuldegei-explain says of the stored runs of examples/testbench/rtl: of each planted fault the side on which it lies (what bridge.sv
-says of the fault), and beats that have what is said of them. Its time line in a browser, where Chromium is installed: each request, burst
-and beat of a run is an element there, the picture isn't blank, and a run of 100,000 beats is shown in a window. Observations and verdicts
-that can't be read. And what zuldegei-wave-of makes of the stored runs for GTKWave: each
-beat and each wrong line at its time. Stored runs that were changed by lot are explained and drawn, whatever is wrong of them.
+says of the fault), and beats that have what is said of them; and of observations by hand what it says of data that went elsewhere, replies
+ahead of their answers, other lanes, and beats of others in the midst of a message, where each is so and where it isn't. Its time line in a
+browser, where Chromium is installed: each request, burst and beat of a run is an element there, the picture isn't blank, and a run of
+100,000 beats is shown in a window. A run with 8,000 wrong lines within its time, pages that can't be written whole, observations and
+verdicts that can't be read. And what zuldegei-wave-of makes of the stored runs for GTKWave: each beat and each wrong line at its time.
+Stored runs that were changed by lot are explained and drawn, whatever is wrong of them.
 
     python3 tests/explain.py TLSCORE
 """

@@ -1,7 +1,8 @@
 """The lines that zuldegei-waves reads from dumps: those that the monitor of examples/testbench/rtl printed in the same run, byte for byte,
 from VCD and FST, by each simulator that is installed, of the right bridge and of each fault that is planted in it; of one client, of
 names as in rocket-chip, OpenTitan and PULP, and of ports in two clocks (tests/dumps). Then dumps and maps that can't be right, each of
-which ends in one line and a status, and unknown digits, as the Verilog standard prints them. And the fill lines of memory images.
+which ends in one line and a status, what is told of ports without a beat and of resets that hold, and unknown digits, as the Verilog
+standard prints them. And the fill lines of memory images.
 
     python3 tests/waves.py TLSCORE [--all]
 """
