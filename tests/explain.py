@@ -97,6 +97,14 @@ SENTENCES = {
         f"12 reply 7 PAYLOAD {DUE}", "read", ("stands in other lanes of the R beat.", "what came in lanes 0 1 stands in lanes 1 0 of R"), ("half",)),
     "no lanes of the R beat": ((PUT, *WROTE, DONE, GET, AR, R.format(WORD), "D 1 1 0 3 7 0 1122334455667799 0"),
         f"12 reply 7 PAYLOAD {DUE}", "read", ("R brought the due byte, and the reply shows another one.",), ("stands in",)),
+    "one byte of several, as by chance in another lane": (
+        (PUT, *WROTE, DONE, GET, AR, R.format(WORD), "D 1 1 0 3 7 0 1122334455667711 0"), f"12 reply 7 PAYLOAD {DUE}", "read",
+        ("R brought the due byte, and the reply shows another one.",), ("stands in",)),
+    "the other half, of which one byte alone differs": (
+        ("A 0 0 0 3 5 00000008 ff 0000000500000007 0", "AW 0 00010008 0 3 1", "W 0000000500000007 ff 1", "B 0 OKAY", DONE, UPPER, AR,
+         R.format("0000000500000007"), "D 1 1 0 2 7 0 0000000700000000 0"),
+        "12 reply 7 PAYLOAD expected D 1 1 0 2 7 0 0000000500000000 0", "read",
+        ("what stands in the other half of the R beat.", "what came in lanes 4 5 6 7 stands in lanes 0 1 2 3 of R"), ()),
     "zeros, which stand in many lanes": (
         ("A 0 0 0 3 5 00000008 ff 1122000000000000 0", "AW 0 00010008 0 3 1", "W 1122000000000000 ff 1", "B 0 OKAY", DONE, GET, AR,
          R.format("1122000000000000"), "D 1 1 0 3 7 0 0000000000000000 0"),

@@ -356,22 +356,25 @@ class Explainer:
         return [it for it in lanes if it in looked] or asked or lanes
 
     def elsewhere(self, stories: Dict[int, "ByteStory"], base: int) -> Tuple[str, List[str]]:
-        """What R brought isn't what the reply shows: whether the bytes that came stand in other lanes of what R brought."""
+        """What R brought isn't what the reply shows: whether the bytes that came stand in other lanes of what R brought, either all that the
+        request asks for or, where several came wrong, these."""
         first = next(iter(stories.values()))
+        request, payload = first.request, first.reply.words[6]
         word = {lane: first.beside(base + lane) for lane in range(WORD)}
-        got = {lane: story.got for lane, story in stories.items()}
-        if None in got.values() or not any(got.values()):
+        asked = [it for it in range(WORD) if request.address <= base + it < request.address + request.bytes]
+        wrong = {lane: byte_of(payload, lane) for lane in stories}
+        if None in wrong.values() or not any(wrong.values()):
             return NOT_SHOWN, []
-        moves = [{lane: lane ^ by for lane in got} for by in SHIFTS] + [{lane: (lane + by) % WORD for lane in got} for by in SHIFTS]
-        move = next((it for it in moves if all(word[it[lane]] == got[lane] for lane in got)), None)
-        if move is None:
-            return NOT_SHOWN, []
-        is_half = all(move[lane] == lane ^ WORD // 2 for lane in got)
-        place = "the other half" if is_half else "other lanes"
-        came, stand = (" ".join(map(str, it)) for it in (move, move.values()))
-        lanes = "lane" if len(move) == 1 else "lanes"
-        sentence = f"R brought the due byte, and the reply shows what stands in {place} of the R beat."
-        return sentence, [f"what came in {lanes} {came} stands in {lanes} {stand} of R"]
+        moves = [[lane ^ by for lane in range(WORD)] for by in SHIFTS] + [[(lane + by) % WORD for lane in range(WORD)] for by in SHIFTS]
+        whole = [it for it in moves if all(word[it[lane]] == byte_of(payload, lane) for lane in asked)]
+        part = [it for it in moves if len(wrong) > 1 and all(word[it[lane]] == wrong[lane] for lane in wrong)]
+        for move, lanes in [(it, asked) for it in whole] + [(it, [*wrong]) for it in part]:
+            place = "the other half" if all(move[lane] == lane ^ WORD // 2 for lane in lanes) else "other lanes"
+            came, stand = (" ".join(map(str, it)) for it in (lanes, [move[lane] for lane in lanes]))
+            noun = "lane" if len(lanes) == 1 else "lanes"
+            sentence = f"R brought the due byte, and the reply shows what stands in {place} of the R beat."
+            return sentence, [f"what came in {noun} {came} stands in {noun} {stand} of R"]
+        return NOT_SHOWN, []
 
     def races(self, request: Request) -> List[str]:
         """The requests that may write a byte of it and were in flight with it."""
