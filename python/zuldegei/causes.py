@@ -368,13 +368,14 @@ class Explainer:
         moves = [[lane ^ by for lane in range(WORD)] for by in SHIFTS] + [[(lane + by) % WORD for lane in range(WORD)] for by in SHIFTS]
         whole = [it for it in moves if all(word[it[lane]] == byte_of(payload, lane) for lane in asked)]
         part = [it for it in moves if len(wrong) > 1 and all(word[it[lane]] == wrong[lane] for lane in wrong)]
-        for move, lanes in [(it, asked) for it in whole] + [(it, [*wrong]) for it in part]:
-            place = "the other half" if all(move[lane] == lane ^ WORD // 2 for lane in lanes) else "other lanes"
-            came, stand = (" ".join(map(str, it)) for it in (lanes, [move[lane] for lane in lanes]))
-            noun = "lane" if len(lanes) == 1 else "lanes"
-            sentence = f"R brought the due byte, and the reply shows what stands in {place} of the R beat."
-            return sentence, [f"what came in {noun} {came} stands in {noun} {stand} of R"]
-        return NOT_SHOWN, []
+        if not whole and not part:
+            return NOT_SHOWN, []
+        move, lanes = (whole[0], asked) if whole else (part[0], [*wrong])
+        place = "the other half" if all(move[lane] == lane ^ WORD // 2 for lane in lanes) else "other lanes"
+        came, stand = (" ".join(map(str, it)) for it in (lanes, [move[lane] for lane in lanes]))
+        noun = "lane" if len(lanes) == 1 else "lanes"
+        sentence = f"R brought the due byte, and the reply shows what stands in {place} of the R beat."
+        return sentence, [f"what came in {noun} {came} stands in {noun} {stand} of R"]
 
     def races(self, request: Request) -> List[str]:
         """The requests that may write a byte of it and were in flight with it."""
