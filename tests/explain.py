@@ -1,14 +1,18 @@
 """What zuldegei-explain says of the stored runs of examples/testbench/rtl: of each planted fault the side on which it lies (what bridge.sv
-says of the fault), and beats that have what is said of them. Its time line in a browser, where Chromium is installed: each request, burst
-and beat of a run is an element there, the picture isn't blank, and a run of 100,000 beats is shown in a window. Observations and verdicts
-that can't be read. And what zuldegei-wave-of makes of the stored runs for GTKWave: each
-beat and each wrong line at its time. Stored runs that were changed by lot are explained and drawn, whatever is wrong of them.
+says of the fault), and beats that have what is said of them; and of observations by hand what it says of data that went elsewhere, replies
+ahead of their answers, other lanes, and beats of others in the midst of a message, where each is so and where it isn't. Its time line in a
+browser, where Chromium is installed: each request, burst and beat of a run is an element there, the picture isn't blank, and a run of
+100,000 beats is shown in a window. A run with 8,000 wrong lines within its time, pages that can't be written whole, observations and
+verdicts that can't be read. And what zuldegei-wave-of makes of the stored runs for GTKWave: each beat and each wrong line at its time.
+Stored runs that were changed by lot are explained and drawn, whatever is wrong of them.
 
     python3 tests/explain.py TLSCORE
 """
 
+import json
 import random
 import re
+import resource
 import shutil
 import struct
 import subprocess
@@ -17,7 +21,7 @@ import tempfile
 import zlib
 from collections import Counter
 from pathlib import Path
-from typing import Dict, Iterator, List, Optional, Tuple
+from typing import Callable, Dict, Iterator, List, Optional, Tuple
 
 from ends import told
 from waves import RTL, TOP, command, one_line
@@ -43,12 +47,87 @@ SIDES = {
     "beat-dropped": "request",
     "unknown-read": "read",
 }
+# Words of the sentences that say where bytes are that went astray, and the stored runs in which they are true.
+ASTRAY = ("went to", "stands in", "came before R", "among its data")
+ASTRAY_IN = {"lane-swapped": ["stands in"]}
 # What is missing at the end of rows of examples/scoreboard: the side, and what is said of it.
 MISSING = {
     "end-with-a-lost-address": ("write", "no AW asks for them", "1 W beat from line 7 on"),
     "end-with-data-alone": ("write", "2 W beats from line 8 on", "1 W beat from line 13 on"),
     "end-with-messages-begun": ("request", "stopped after 1 beat of 2", "client 0 source 6 (line 5)"),
 }
+HEAD = "config 2 4 16 2 16 12 hh{bus}\nregion 0 4 10 gpah\npage 10 4 good\n"
+PUT, GET, DONE = "A 0 0 0 3 5 00000008 ff 1122334455667788 0", "A 1 4 0 3 7 00000008 ff 0000000000000000 0", "D 0 0 0 3 5 0 0000000000000000 0"
+AR, R, WROTE = "AR 3 00010008 0 3 1", "R 3 {} OKAY 1", ("AW 0 00010008 0 3 1", "W 1122334455667788 ff 1", "B 0 OKAY")
+ELSEWHERE = ("AW 0 000107d0 0 3 1", "W 1122334455667788 ff 1", "B 0 OKAY")
+READ_ZEROS = (GET, AR, R.format("0" * 16), "D 1 1 0 3 7 0 0000000000000000 0")
+WORD, DUE = "1122334455667788", "expected D 1 1 0 3 7 0 1122334455667788 0"
+UPPER = "A 1 4 0 2 7 0000000c f0 0000000000000000 0"
+LONG = "A 0 0 0 5 1 00000020 ff {:016x} 0"
+# By each sentence: the beats, what is wrong, which is the last, the side, what the text has, and what it hasn't.
+SENTENCES = {
+    "data that went elsewhere": ((PUT, *ELSEWHERE, DONE, *READ_ZEROS), f"12 reply 7 PAYLOAD {DUE}", "write",
+        ("its data went to 000107d0 (line 6).", "line 5, AW of ID 0; line 6, W has what that request gives"), ("no W beat came",)),
+    "data that went elsewhere, of a burst that is another's by its place": (
+        (PUT, "A 1 0 0 3 6 000007d0 ff 00000000000000aa 0", *ELSEWHERE, DONE, "D 1 0 0 3 6 0 0000000000000000 0", *READ_ZEROS),
+        f"14 reply 7 PAYLOAD {DUE}", "write", ("its data went to 000107d0 (line 7).",), ("no W beat came",)),
+    "the same data, which another request gives there": (
+        (PUT, "A 1 0 0 3 6 000007d0 ff 1122334455667788 0", *ELSEWHERE, DONE, "D 1 0 0 3 6 0 0000000000000000 0", *READ_ZEROS),
+        f"14 reply 7 PAYLOAD {DUE}", "write", ("The byte that was given last was never written.",), ("went to",)),
+    "a reply of x ahead of its answer": ((GET, AR, "D 1 1 0 3 7 0 xxxxxxxxxxxxxxxx 0", R.format("0" * 16)),
+        "6 reply 8 X expected D 1 1 0 3 7 0 0000000000000000 0", "reply", ("The reply came before R brought this byte.", "line 5"),
+        ("isn't known",)),
+    "a reply ahead of its answer, where another client's read of the same byte was answered": (
+        (PUT, *WROTE, DONE, "A 0 4 0 3 9 00000008 ff 0000000000000000 0", "AR 2 00010008 0 3 1", GET, AR, R.format(WORD).replace("3", "2", 1),
+         "D 1 1 0 3 7 0 xxxxxxxxxxxxxxxx 0"),
+        f"14 reply 8 X {DUE}", "reply", ("The reply came before R brought this byte.", "(line 12)"), ("isn't known",)),
+    "a reply of x behind its answer": ((GET, AR, R.format("0" * 16), "D 1 1 0 3 7 0 xxxxxxxxxxxxxxxx 0"),
+        "7 reply 8 X expected D 1 1 0 3 7 0 0000000000000000 0", "read",
+        ("R brought the due byte, and the reply shows x or z.",), ("before R",)),
+    "a reply of x in a byte alone": ((PUT, *WROTE, DONE, GET, AR, R.format(WORD), "D 1 1 0 3 7 0 11223344556677xx 0"),
+        f"12 reply 8 X {DUE}", "read", ("at 00000008: due 88, came xx",), ("at 00000009",)),
+    "the other half of the R beat": ((PUT, *WROTE, DONE, UPPER, AR, R.format(WORD), "D 1 1 0 2 7 0 5566778800000000 0"),
+        "12 reply 7 PAYLOAD expected D 1 1 0 2 7 0 1122334400000000 0", "read",
+        ("the reply shows what stands in the other half of the R beat.", "what came in lanes 4 5 6 7 stands in lanes 0 1 2 3 of R"), ()),
+    "the other half, on 32 bits": (
+        (PUT, "AW 0 00010008 1 2 1", "W 55667788 0f 0", "W 11223344 0f 1", "B 0 OKAY", DONE, GET, "AR 3 00010008 1 2 1",
+         "R 3 55667788 OKAY 0", "R 3 11223344 OKAY 1", "D 1 1 0 3 7 0 5566778811223344 0"),
+        f"14 reply 7 PAYLOAD {DUE}", "read", ("the reply shows what stands in the other half of the R beat.",), ()),
+    "other lanes of the R beat": ((PUT, *WROTE, DONE, GET, AR, R.format(WORD), "D 1 1 0 3 7 0 1122334455668877 0"),
+        f"12 reply 7 PAYLOAD {DUE}", "read", ("stands in other lanes of the R beat.", "what came in lanes 0 1 stands in lanes 1 0 of R"), ("half",)),
+    "no lanes of the R beat": ((PUT, *WROTE, DONE, GET, AR, R.format(WORD), "D 1 1 0 3 7 0 1122334455667799 0"),
+        f"12 reply 7 PAYLOAD {DUE}", "read", ("R brought the due byte, and the reply shows another one.",), ("stands in",)),
+    "one byte of several, as by chance in another lane": (
+        (PUT, *WROTE, DONE, GET, AR, R.format(WORD), "D 1 1 0 3 7 0 1122334455667711 0"), f"12 reply 7 PAYLOAD {DUE}", "read",
+        ("R brought the due byte, and the reply shows another one.",), ("stands in",)),
+    "the other half, of which one byte alone differs": (
+        ("A 0 0 0 3 5 00000008 ff 0000000500000007 0", "AW 0 00010008 0 3 1", "W 0000000500000007 ff 1", "B 0 OKAY", DONE, UPPER, AR,
+         R.format("0000000500000007"), "D 1 1 0 2 7 0 0000000700000000 0"),
+        "12 reply 7 PAYLOAD expected D 1 1 0 2 7 0 0000000500000000 0", "read",
+        ("what stands in the other half of the R beat.", "what came in lanes 4 5 6 7 stands in lanes 0 1 2 3 of R"), ()),
+    "zeros, which stand in many lanes": (
+        ("A 0 0 0 3 5 00000008 ff 1122000000000000 0", "AW 0 00010008 0 3 1", "W 1122000000000000 ff 1", "B 0 OKAY", DONE, GET, AR,
+         R.format("1122000000000000"), "D 1 1 0 3 7 0 0000000000000000 0"),
+        "12 reply 7 PAYLOAD expected D 1 1 0 3 7 0 1122000000000000 0", "read", ("the reply shows another one.",), ("stands in",)),
+    "a message that another client's beat cuts into": (
+        (LONG.format(0xA1), LONG.format(0xA2), "AW 0 00010020 3 3 1", "A 1 0 0 3 6 00000100 ff 00000000000000bb 0", LONG.format(0xA3),
+         "W 00000000000000a1 ff 0", "W 00000000000000a2 ff 0", "W 00000000000000bb ff 1", LONG.format(0xA4)), "11 axi 8 WLAST", "write",
+        ("it is beat 3 of 4, and `last` is 1; among its data stand those of another request.",
+         "in the midst of its message on channel A: line 7, of client 1",
+         "line 11, W has what is given by PutFull of 8 bytes at 00000100, client 1 source 6 (line 7)"), ()),
+    "a message that another client's Get cuts into": (
+        (LONG.format(0xA1), LONG.format(0xA2), "AW 0 00010020 3 3 1", GET, LONG.format(0xA3), "W 00000000000000a1 ff 0", "W 00000000000000a2 ff 0",
+         "W 0000000000000000 ff 0", "W 00000000000000a3 ff 0", LONG.format(0xA4)), "12 axi 8 WLAST", "write",
+        ("it is beat 4 of 4, and `last` is 0; among its data stand those that its request doesn't give.", "line 7, of client 1",
+         "line 11, W has what its request doesn't give"), ("another request",)),
+    "a `last` too early, beside another client's beat": (
+        (LONG.format(0xA1), LONG.format(0xA2), "AW 0 00010020 3 3 1", "A 1 0 0 3 6 00000100 ff 00000000000000bb 0", LONG.format(0xA3),
+         "W 00000000000000a1 ff 0", "W 00000000000000a2 ff 0", "W 00000000000000a3 ff 1", LONG.format(0xA4)), "11 axi 8 WLAST", "write",
+        ("it is beat 3 of 4, and `last` is 1.",), ("client 1", "another request")),
+    "a byte that raced, beside one that is wrong": (
+        (PUT, *WROTE, DONE, "A 0 0 0 0 5 00000008 01 0000000000000099 0", GET, AR, R.format(WORD), "D 1 1 0 3 7 0 1122334455660088 0"),
+        "14 reply 7 PAYLOAD expected D 1 1 0 3 7 0 1122334455667799 0", "read", ("at 00000009: due 77, came 00",), ("at 00000008:",)),
+}  # fmt: skip
 BROWSERS = ("chromium", "chromium-browser", "google-chrome")
 COLOURS = ("cfe3ff", "d8f5d0", "9fc4f5", "aee3a0", "dd0000")  # of Puts, Gets, writes, reads and what is wrong
 Case = Tuple[str, Optional[str]]
@@ -68,6 +147,9 @@ def sides() -> Iterator[Case]:
         found = re.search(r"(?m)^  look at the (\w+)", ran.stdout)
         why = None if found and found[1] == side and ran.returncode == 1 else f"status {ran.returncode}, {ran.stdout}{ran.stderr}"
         yield f"the side of {name}", why or misquoted(ran.stdout, run_of(name)[0].read_text().splitlines())
+        all_of_it = command("explain", *run_of(name), "-n", "99").stdout
+        astray = [it for it in ASTRAY if it in all_of_it]
+        yield f"what went astray in {name}", None if astray == ASTRAY_IN.get(name, []) else f"{astray}, {all_of_it}"
 
 
 def missing(folder: Path) -> Iterator[Case]:
@@ -108,6 +190,84 @@ def giver_missed(text: str, lines: List[str]) -> Optional[str]:
     return None
 
 
+def judged(score: str, lines: str) -> str:
+    """What tlscore prints of an observation."""
+    return subprocess.run([score], input=lines, capture_output=True, text=True).stdout
+
+
+def sentences(folder: Path, score: str) -> Iterator[Case]:
+    """What is said of observations by hand, of which one beat is wrong: side, sentence and what it rests on, and the bursts in the picture."""
+    for name, (beats, wrong, side, has, hasnt) in SENTENCES.items():
+        lines, verdict, drawn_page = (folder / f"sentence.{it}" for it in ("lines", "told", "html"))
+        head = HEAD.format(bus=" 4" if "32 bits" in name else "") + ("profile tilelink\n" if "raced" in name else "")
+        text = head + "".join(f"{it}\n" for it in beats)
+        lines.write_text(text)
+        verdict.write_text(judged(score, text))
+        told_wrong = [it for it in verdict.read_text().splitlines() if it.startswith("= wrong ")]
+        yield f"{name}: the verdict", None if told_wrong == [f"= wrong {wrong}"] else f"{told_wrong}, not {wrong}"
+        ran = command("explain", lines, verdict, "--html", drawn_page)
+        is_well = ran.returncode == 1 and f"  look at the {side}" in ran.stdout and all(it in ran.stdout for it in has)
+        is_well = is_well and not any(it in ran.stdout for it in hasnt)
+        yield name, (None if is_well else f"status {ran.returncode}, {ran.stdout}{ran.stderr}") or misquoted(ran.stdout, text.splitlines())
+        yield f"{name}: the picture", None if rung(ran.stdout, drawn_page, text) else "a burst of the text isn't in the picture"
+
+
+def rung(text: str, drawn_page: Path, lines: str) -> bool:
+    """Whether each burst that a text names as the way of its data is among what the page puts a ring around."""
+    found = re.search(r'"wrong":(\[\[.*?\]\]\])', drawn_page.read_text())
+    marked = json.loads(found[1])[0][5]
+    named = [int(it) for it in re.findall(r"line (\d+), AW of ID", text)]
+    return all(it in marked for it in named) and lines.count("\n") >= max(marked)
+
+
+def many(folder: Path) -> Iterator[Case]:
+    """A run of 250,000 beats of which 8,000 are wrong, payloads or replies that nobody waits for: text and page within 20 s of processor."""
+    for name, kept in (("payloads", False), ("replies that nobody waits for", True)):
+        lines, verdict, drawn_page = (folder / f"many.{it}" for it in ("lines", "told", "html"))
+        text, wrong = many_wrong(kept)
+        lines.write_text(text)
+        verdict.write_text(wrong)
+        words = ("explain", lines, verdict, "-n", "8000", "--html", drawn_page)
+        ran = command(*words, seconds=300, preexec_fn=limited(resource.RLIMIT_CPU, 20))
+        is_well = ran.returncode == 1 and ran.stdout.count("\n  = wrong ") == 8000 and ran.stdout.count("  look at the re") == 8000
+        counted = drawn_page.exists() and drawn_page.read_text().count(" reply 7 PAYLOAD " if not kept else " UNASKED")
+        yield f"8,000 wrong {name} of 250,000 beats", None if is_well and counted >= 8000 else f"status {ran.returncode}, {ran.stderr[-200:]}"
+        drawn_page.unlink()
+
+
+def many_wrong(is_again: bool) -> Tuple[str, str]:
+    """Puts and Gets in turn; the payload of one reply in three is wrong, or the reply comes again."""
+    text, wrong = [HEAD.format(bus="").rstrip()], []
+    number = 3
+    for at in range(27_778):
+        address, is_wrong = at % 512 * 8, at % 3 == 0 and len(wrong) < 8000
+        shown = at + 1 ^ (is_wrong and not is_again)
+        beats = [f"A 0 0 0 3 {at % 16} {address:x} ff {at + 1:x} 0", f"AW 0 {0x10000 + address:x} 0 3 1", f"W {at + 1:x} ff 1", "B 0 OKAY"]
+        beats += [f"D 0 0 0 3 {at % 16} 0 0 0", f"A 1 4 0 3 {at % 16} {address:x} ff 0 0", f"AR 0 {0x10000 + address:x} 0 3 1"]
+        beats += [f"R 0 {at + 1:x} OKAY 1"] + [f"D 1 1 0 3 {at % 16} 0 {shown:x} 0"] * (1 + (is_wrong and is_again))
+        text += beats
+        number += len(beats)
+        due = "reply 1 UNASKED" if is_again else f"reply 7 PAYLOAD expected D 1 1 0 3 {at % 16} 0 {at + 1:016x} 0"
+        wrong += [f"= wrong {number} {due}"] if is_wrong else []
+    return "\n".join([*text, ""]), "\n".join([*wrong, f"= judged {number - 3} wrong {len(wrong)} outstanding 0 open 0 compared 0 of 0", ""])
+
+
+def limited(kind: int, most: int) -> Callable[[], None]:
+    """What limits a process that is about to begin."""
+    return lambda: resource.setrlimit(kind, (most, most))
+
+
+def cut(folder: Path) -> Iterator[Case]:
+    """Files that can't be written whole: none is left behind, and the fault names it."""
+    lines, verdict = run_of("lane-swapped")
+    for name, module, words in (("page", "explain", ("--html",)), ("vcd", "wave_of", ())):
+        file = folder / f"cut.{name}"
+        ran = command(module, lines, verdict, *words, file, preexec_fn=limited(resource.RLIMIT_FSIZE, 1500))
+        yield f"a {name} that is cut", one_line(ran, ran.stdout, (str(file),), 3) or (f"{file} is there" if file.exists() else None)
+        ran = command(module, lines, verdict, *words, "/dev/full")
+        yield f"a {name} on a full disc", one_line(ran, ran.stdout, ("/dev/full",), 3) or (None if Path("/dev/full").exists() else "it's gone")
+
+
 def hostile(folder: Path) -> Iterator[Case]:
     """What isn't an observation, or no verdict; and one of which nothing is wrong."""
     lines, verdict = run_of("lane-swapped")
@@ -115,6 +275,14 @@ def hostile(folder: Path) -> Iterator[Case]:
     yield "noise for a verdict", one_line(command("explain", lines, folder / "noise"), named=("tlscore",))
     (folder / "bad.lines").write_text(lines.read_text() + "A 0 0 0 3\n")
     yield "a beat that is cut", one_line(command("explain", folder / "bad.lines", verdict), named=("line 95",))
+    (folder / "bad.lines").write_text(lines.read_text() + "A 0 0 0 99999999999999 5 00000008 ff 0 0\n")
+    yield "a field of 14 digits", one_line(command("explain", folder / "bad.lines", verdict), named=("line 95",))
+    for count in ("0", "-3"):
+        yield f"-n {count}", one_line(command("explain", lines, verdict, "-n", count), named=(f"-n {count}",), status=6)
+    (folder / "bad.told").write_text("= wrong 89 reply 7 PAYLOAD expected D 0 1 0 5\n")
+    yield "a due beat that is cut", one_line(command("explain", lines, folder / "bad.told"), named=("wrong 89",))
+    (folder / "bad.told").write_text("= wrong 89 axi 8 WLAST at 1505\n")
+    yield "a verdict on a beat of another kind", one_line(command("explain", lines, folder / "bad.told"), named=("isn't of this observation",))
     ran = command("explain", lines, run_of("reply-lost")[1])
     yield "a verdict of another run", one_line(ran, named=("isn't of this observation", "65"))
     yield "an observation that isn't there", one_line(command("explain", folder / "none", verdict), named=("none",), status=3)
@@ -360,6 +528,9 @@ def misplaced(vcd: Path, lines: Path, verdict: Path) -> Optional[str]:
 def cases(folder: Path, score: str) -> Iterator[Case]:
     yield from sides()
     yield from missing(folder)
+    yield from sentences(folder, score)
+    yield from many(folder)
+    yield from cut(folder)
     yield from waved(folder)
     yield from hostile(folder)
     yield from mutated(score)

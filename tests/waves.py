@@ -1,7 +1,8 @@
 """The lines that zuldegei-waves reads from dumps: those that the monitor of examples/testbench/rtl printed in the same run, byte for byte,
 from VCD and FST, by each simulator that is installed, of the right bridge and of each fault that is planted in it; of one client, of
 names as in rocket-chip, OpenTitan and PULP, and of ports in two clocks (tests/dumps). Then dumps and maps that can't be right, each of
-which ends in one line and a status, and unknown digits, as the Verilog standard prints them. And the fill lines of memory images.
+which ends in one line and a status, what is told of ports without a beat and of resets that hold, and unknown digits, as the Verilog
+standard prints them. And the fill lines of memory images.
 
     python3 tests/waves.py TLSCORE [--all]
 """
@@ -462,6 +463,76 @@ def refused_by_hand() -> Iterator[Case]:
     yield "another number for an ID", why or (None if got == wanted else got)
 
 
+NEXT = "\n"
+TWO_RESETS = "clock top.clock\nreset top.a\nclient 0 flat top.\nclock top.clock\nreset top.b\naxi flat top.\n"
+TWICE = (
+    ("a client", f"{HAND}client 0 flat top.\n", ("line 4", "client 0", "line 2")),
+    ("a client of an array", f"{HAND}client 1 flat top. part 0 of 2\nclient 1 flat top. part 1 of 2\n", ("line 5", "client 1")),
+    ("the AXI4 port", f"{HAND}axi amba top.s_axi_\n", ("line 4", "AXI4", "line 3")),
+    ("a reset", f"clock top.clock\nreset top.a\nreset top.b low\n{HAND}", ("line 3", "reset", "top.clock", "line 2")),
+    ("a client behind one of its fields", f"clock top.clock\na 0 corrupt =0\n{HAND.partition(NEXT)[2]}", ("line 3", "a of client 0")),
+    ("a clock", f"{HAND}clock top.clock\nclient 1 flat top.\n", ("line 4", "top.clock", "line 1")),
+    ("a field", f"{HAND}a 0 corrupt =0\n\na 0 corrupt =1\n", ("line 6", "corrupt of a of client 0", "line 4")),
+    ("another number for an ID", f"{HAND}renumber id 9 2\nrenumber id 9 3\n", ("line 5", "ID 9", "line 4")),
+    ("another number for a source", f"{HAND}renumber source 0 9 2\nrenumber source 0 9 3\n", ("line 5", "source 9 of client 0")),
+    ("a clock, where its reset lacks", TWO_RESETS.replace("reset top.b\n", ""), ("line 4", "top.clock", "line 1")),
+    ("a clock with the same reset", TWO_RESETS.replace("top.b", "top.a"), ("line 4", "top.clock", "line 1")),
+    ("a clock with no port, and so its reset", f"clock top.clock\nreset top.reset\n{HAND}", ("line 1", "top.clock")),
+    ("a client and a ready map of it", "use rocket-chip top\nclient 0 flat top.\n", ("line 2", "client 0", "line 1")),
+)
+BEYOND = ("client -1 flat top.", "client 8 flat top.", "a 8 corrupt =0", "d -1 denied =0", "renumber source 8 1 2", "use rocket-chip top 8")
+ONCE = (TWO_RESETS, "use opentitan top\nuse pulp top\n", f"{HAND}client 7 flat top.\n", "use opentitan top\nd 0 denied =0\n", f"{HAND}clock top.clock falling\nclient 1 flat top.\n")
+
+
+def said_twice() -> Iterator[Case]:
+    """Maps in which a second line stands for one thing, and those with a client that no bridge has; and such as have neither."""
+    for name, the_map, named in TWICE:
+        got = in_process(the_map, hand(False).text())
+        yield f"{name} twice", None if all(it in got[1] for it in named) and got[1].startswith("the map") else f"it said {got[1]!r}"
+    for line in BEYOND:
+        yield line, refusal(in_process(f"{HAND.replace('client 0', 'client 1')}{line}\n", hand(False).text()), "clients are 0 to 7")
+    for the_map in ONCE:
+        try:
+            Reader("ports.map").read(the_map)
+            yield f"{the_map!r}", None
+        except Fault as why:
+            yield f"{the_map!r}", str(why)
+
+
+COUNTED = ({**a_beat(), "m_axi_arvalid": "1", "m_axi_arid": "1"}, {**a_beat(), "m_axi_arvalid": "1"}, {"d_valid": "1", "d_opcode": "0"})
+RESET, NO_R = HAND.replace("\n", "\nreset top.reset{}\n", 1), "no beat passed on R of AXI4: its valid"
+# What the command says of a dump by hand on standard error, behind its name: of each clock, the map, and whole lines or parts of them.
+COUNTS = (
+    ("each port has beats", COUNTED, HAND, ("beats: client 0 A 2, D 1; AXI4 AW 0, W 0, B 0, AR 2, R 0", NO_R)),
+    ("a port without a beat", COUNTED[2:], HAND,
+        ("client 0 A 0, D 1;", "on A of client 0: its valid top.a_valid was high at no edge of top.clock", "at AXI4")),
+    ("a ready that is never high", ({**a_beat(), "a_ready": "0"},) * 3, HAND,
+        ("no beat passed at client 0: its valid top.a_valid was high at 3 edges of top.clock, and its ready top.a_ready at none",)),
+    ("a reset with the wrong polarity", COUNTED, RESET.format(""), ("reset top.reset held", "all 3 edges", "write `low`")),
+    ("a reset with `low` too many", COUNTED, RESET.format(" low").replace("reset low", "none low"),
+        ("reset top.none held", "all 3 edges", "leave out the word `low`")),
+    ("a reset with the wrong polarity, of a bench that begins in reset", ({"reset": "0"}, *COUNTED), RESET.format(""),
+        ("beats: client 0 A 0, D 0;", "reset top.reset held", "3 of 4 edges", "write `low`")),
+    ("a reset that is right", COUNTED, RESET.format(" low"), ("beats: client 0 A 2, D 1;", NO_R)),
+)  # fmt: skip
+
+
+def counts_told(folder: Path) -> Iterator[Case]:
+    """How many beats each port had, on standard error, and what to look at where it had none."""
+    for name, clocks, the_map, named in COUNTS:
+        dump = hand(False)
+        dump.signal("reset", 1)
+        dump.signal("none", 1)
+        for values in clocks:
+            dump.clock({"reset": "1", "none": "0", **values})
+        (folder / "counts.vcd").write_bytes(dump.text())
+        ran = read(folder, the_map, "counts.vcd")
+        lines = ran.stderr.splitlines()[1:] if "not in the dump" in ran.stderr else ran.stderr.splitlines()
+        is_told = all(it in ran.stderr for it in named) and len(lines) <= 4 and all(it.startswith("zuldegei-waves: ") for it in lines)
+        is_quiet = ("held" in ran.stderr) == ("held" in "".join(named))
+        yield f"counts where {name}", None if ran.returncode == 0 and is_told and is_quiet else ran.stderr
+
+
 def shown_maps() -> Iterator[Case]:
     """The maps that python/README.md shows, line by line."""
     page = (TOP / "python/README.md").read_text()
@@ -553,6 +624,8 @@ def judged_behind(lines: str, data: bytes, score: str) -> Iterator[Case]:
 
 def cases(folder: Path, score: str, faults: Tuple[str, ...]) -> Iterator[Case]:
     yield from by_hand()
+    yield from said_twice()
+    yield from counts_told(folder)
     yield from shown_maps()
     yield from images(folder, score)
     if shutil.which("iverilog"):

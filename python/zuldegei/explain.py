@@ -6,15 +6,21 @@ from typing import Sequence, Tuple
 
 from .causes import Cause, Explainer
 from .command import Status, ended, words_of
+from .compared import Comparison
 from .history import History
 from .observation import Observation, Verdict, Wrong, check_same, plural, verdict_of
 from .timeline import page
+from .uncompared import uncompared
+from .whole import written
 
 NAME = "zuldegei-explain"
 MORE = """
 OBSERVATION is what tlscore read, set-up first, and VERDICT what it printed of that:
 
   tlscore < joined.lines > joined.told; zuldegei-explain joined.lines joined.told --html joined.html
+
+-n COUNT explains so many wrong lines, from the first, 1 or more. --uncompared lists in their place the bytes of replies that tlscore
+didn't compare: the pairs of requests that raced, so that a test can keep them apart, and of each other byte why.
 
 The file needs no network. Keys: + and - zoom, the arrows go on, n and p lead to the next wrong beat and the one before, f to the
 first, and a shows all.
@@ -46,19 +52,25 @@ def work(arguments: Sequence[str]) -> int:
     words.add_argument("observation", help="what tlscore read")
     words.add_argument("verdict", help="what tlscore printed")
     words.add_argument("-n", type=int, default=1, metavar="COUNT", help="how many wrong lines are explained, from the first (1)")
+    words.add_argument("--uncompared", action="store_true", help="which bytes weren't compared, and why")
     words.add_argument("--html", metavar="FILE", help="where the time line goes")
     given = words.parse_args(arguments)
+    if given.n < 1:
+        words.error(f"-n {given.n}: a count of wrong lines is 1 or more")
     observation, verdict = read(given.observation, given.verdict)
     history = History(observation, verdict)
-    explainer = Explainer(history)
+    explainer = Explainer(history, Comparison(history))
     verdict = verdict._replace(wrong=explainer.in_order(verdict.wrong))
-    shown = verdict.wrong[: max(given.n, 0)]
+    shown = verdict.wrong[: given.n]
     causes = [explainer.cause(it) for it in shown]
     texts = [explained(cause, observation, it) for cause, it in zip(causes, shown)]
-    print("\n".join([*texts, summary(verdict, history)]))
+    said = [uncompared(explainer.comparison, verdict.judged)] if given.uncompared else texts
+    print("\n".join([*said, summary(verdict, history)]))
     if given.html:
         name = Path(given.observation).name
-        Path(given.html).write_text(page(history, verdict, texts, [it.behind for it in causes], name))
+        drawn = page(history, verdict, texts, [it.behind for it in causes], name, explainer.index)
+        with written(Path(given.html)) as file:
+            file.write(drawn)
     return Status.WRONG if verdict.wrong else Status.DONE
 
 

@@ -12,7 +12,8 @@ def field(digits: str, most: int) -> str:
     return rf"(?:0*[{digits}]{{1,{most}}}|[{digits}]*[xXzZ][{digits}xXzZ]*)"
 
 
-DECIMAL, FLAG = field("0-9", 3), field("01", 1)
+DECIMAL = r"(?:0*(?:25[0-5]|2[0-4]\d|1?\d?\d)|\d*[xXzZ][\dxXzZ]*)"  # to 255
+FLAG = field("01", 1)
 ADDRESS, LANES, PAYLOAD = (field(HEXADECIMAL, most) for most in (8, 2, 16))
 CLIENT, RESPONSE = r"0*\d{1,3}", r"(?:OKAY|EXOKAY|SLVERR|DECERR|[xXzZ]+)"
 HEX, DEC = rf"[{HEXADECIMAL}]{{1,16}}", r"\d{1,20}"

@@ -6,10 +6,10 @@ of these the oldest."""
 
 from collections import deque
 from dataclasses import dataclass, field
-from typing import Deque, Dict, Iterator, List, NamedTuple, Optional, Tuple
+from typing import Deque, Dict, List, NamedTuple, Optional, Tuple
 
 from .observation import (
-    A, AR, AW, B, D, GET, LAST_PUT, LAST_WITH_DATA, OPERATIONS, R, W, WORD, Beat, Event, Observation, Verdict, Wrong, byte_of, number,
+    A, AR, AW, B, D, GET, INTENT, LAST_PUT, LAST_WITH_DATA, OPERATIONS, R, W, WORD, Beat, Event, Observation, Verdict, Wrong, byte_of, number,
 )  # fmt: skip
 
 RESETS = ("reset", "drained")
@@ -17,11 +17,12 @@ RESETS = ("reset", "drained")
 NO_REPLY = ("UNASKED", "NO_CLIENT")
 OPENS_ANYWAY = ("DEPTH", "CROSS_4K", "BURST_KIND", "PLACE", "W_WITHOUT_AW", "STROBE", "WLAST")
 COUNTS_ANYWAY = ("STROBE", "WLAST")
+RESPONSES = ("OKAY", "EXOKAY", "SLVERR", "DECERR")
 BESIDE = 1  # how well a burst fits that touches no byte of a request, and is as long
 LATE = 16  # requests that have ended and whose bursts may still come
 
 
-@dataclass
+@dataclass(eq=False)
 class Request:
     """A request: its beats on channel A, and the beats of its reply."""
 
@@ -59,12 +60,20 @@ class Request:
         return not self.is_put
 
     @property
+    def is_intent(self) -> bool:
+        return self.opcode == INTENT
+
+    @property
+    def has_reply_data(self) -> bool:
+        return self.opcode <= GET and not self.is_put
+
+    @property
     def beats_due(self) -> int:
         return max(1, self.bytes // WORD) if self.has_data else 1
 
     @property
     def replies_due(self) -> int:
-        return max(1, self.bytes // WORD) if self.opcode <= GET and not self.is_put else 1
+        return max(1, self.bytes // WORD) if self.has_reply_data else 1
 
     def gives(self, address: int) -> Optional["Given"]:
         """What it gives for the byte at a TileLink address, and where: nothing, where its mask leaves it out."""
@@ -113,7 +122,7 @@ class Transfer(NamedTuple):
         return strobes is None or bool(strobes >> (port_address - self.word) & 1)
 
 
-@dataclass
+@dataclass(eq=False)
 class Burst:
     """A burst on the AXI4 port: its address, its data, and its answer."""
 
@@ -135,6 +144,9 @@ class Burst:
     def last_byte(self) -> int:
         each = 1 << self.size
         return self.address // each * each + (self.length + 1) * each - 1
+
+    def covers(self, port_address: Optional[int]) -> bool:
+        return port_address is not None and self.address <= port_address <= self.last_byte
 
     def take(self, beat: Beat) -> None:
         """Adds the next transfer."""
@@ -162,6 +174,8 @@ class History:
         self.requests: List[Request] = []
         self.bursts: List[Burst] = []
         self.of_line: Dict[int, object] = {}  # the request or burst of a beat
+        self.cut: Dict[int, Request] = {}  # by the beat that begins another reply: the request whose reply that one cuts short
+        self.in_place_of: Dict[int, Request] = {}  # of a beat in the midst of another request's reply: that request
         self.events: List[Event] = []
         self.begun: Dict[int, Request] = {}  # by client, while its beats come
         self.due: Dict[Tuple[int, int], Deque[Request]] = {}  # by client and source
@@ -195,12 +209,13 @@ class History:
     def ask(self, beat: Beat) -> None:
         """Takes a beat of channel A."""
         numbers = [number(it) for it in beat.words[:5]] + [number(beat.words[5], 16)]
-        if self.told(beat) and (self.told(beat).name != "X" or None in numbers) or None in numbers:
+        numbers += [number(beat.words[6], 16), number(beat.words[8])]
+        if None in numbers or self.told(beat) and self.told(beat).name != "X":
             return  # a beat that is refused changes nothing
         client = numbers[0]
         request = self.begun.get(client)
         if request is None:
-            request = Request(*numbers, self.observation.on_the_port(numbers[5]))
+            request = Request(*numbers[:6], self.observation.on_the_port(numbers[5]))
             self.requests.append(request)
             self.due.setdefault((client, request.source), deque()).append(request)
         request.beats.append(beat)
@@ -209,6 +224,7 @@ class History:
         if len(request.beats) == request.beats_due:
             request.accepted = beat.line
             del self.begun[client]
+            request.ended = beat.line if request.ended is not None else None  # a reply that came early
 
     def reply(self, beat: Beat) -> None:
         """Takes a beat of channel D."""
@@ -217,7 +233,11 @@ class History:
         if told and (told.name in NO_REPLY or told.name == "X" and not told.due):
             return
         if told and told.name == "INTERLEAVED" and client in self.replying:
-            self.end(self.replying.pop(client), beat)  # that one ended early
+            if not any(it.accepted for it in list(self.due.get((client, source), ()))[:1]):
+                self.in_place_of[beat.line] = self.replying[client]
+                return  # it is of no reply that is due, and changes nothing
+            self.cut[beat.line] = self.replying.pop(client)  # that one ended early
+            self.end(self.cut[beat.line], beat)
         request = self.replying.get(client)
         if request is None:
             waiting = self.due.get((client, source))
@@ -244,9 +264,10 @@ class History:
         burst = Burst(beat, *numbers, self.observation.bus)
         self.bursts.append(burst)
         self.of_line[beat.line] = burst
-        if told and told.name not in OPENS_ANYWAY:
+        waiting = self.open.setdefault((beat.kind, burst.id), deque())
+        if told and (told.name not in OPENS_ANYWAY or len(waiting) >= 2 * self.observation.depth > 0):
             return
-        self.open.setdefault((beat.kind, burst.id), deque()).append(burst)
+        waiting.append(burst)
         if burst.is_write:
             self.lacking.append(burst)
             while self.early and self.lacking:
@@ -255,7 +276,8 @@ class History:
     def write(self, beat: Beat) -> None:
         """Takes a W beat, which waits where no burst lacks data."""
         told = self.told(beat)
-        if told and told.name not in COUNTS_ANYWAY and not (told.name == "X" and number(beat.words[2]) is not None):
+        is_clear = number(beat.words[1], 16) is not None and number(beat.words[2]) is not None
+        if told and told.name not in COUNTS_ANYWAY and not (told.name == "X" and is_clear):
             return
         if self.lacking:
             self.hand_over(beat)
@@ -290,7 +312,7 @@ class History:
     def read(self, beat: Beat) -> None:
         """Takes an R beat."""
         waiting, told = self.open.get((AR, number(beat.words[0]))), self.told(beat)
-        if not waiting or told and told.name != "X":
+        if not waiting or told and (told.name != "X" or beat.words[2] not in RESPONSES or number(beat.words[3]) is None):
             return
         burst = waiting[0]
         burst.take(beat)
@@ -320,13 +342,6 @@ class History:
                 burst.request.bursts.append(burst)
                 if best > BESIDE:
                     served.setdefault(id(burst.request), []).append(burst)
-
-    def in_flight_with(self, request: Request) -> Iterator[Request]:
-        """The requests that were in flight together with it."""
-        for other in self.requests:
-            begins_before = request.ended is None or other.begun < request.ended
-            if other is not request and begins_before and (other.ended is None or other.ended > request.begun):
-                yield other
 
 
 def fitness(request: Request, burst: Burst) -> int:

@@ -1,7 +1,7 @@
 """An observation as tlscore reads it, and its verdict: lines of set-up, beats with their times, and what was told wrong of them."""
 
 import re
-from typing import Dict, Iterator, List, NamedTuple, Optional, Sequence, Tuple
+from typing import Dict, Iterator, List, NamedTuple, Optional, Sequence, Set, Tuple
 
 from .command import Fault
 from .forms import check_words, may_be_told
@@ -12,7 +12,10 @@ NOT_TAKEN = ("noclient", "refused", "notready", "exhausted")
 GET, INTENT, LAST_WITH_DATA, LAST_PUT = 4, 5, 3, 1
 OPERATIONS = ("PutFull", "PutPartial", "Arithmetic", "Logical", "Get", "Intent")
 BUS, PAGE, WORD = 8, 4096, 8  # bytes
+GOOD = ("good", "any")  # kinds of pages that have bytes
+PERMITS = "ppaagh"  # the letter of a region that permits each opcode
 AT_END = ("UNANSWERED", "UNFINISHED")  # what is told of the end of an observation, and of no beat
+UNKNOWN = frozenset("xXzZ")
 WRONG = re.compile(
     r"= wrong (?P<line>\d{1,20}) (?P<kind>client|request|axi|reply) (?P<number>\d{1,20}) (?P<name>\w+)"
     r"(?: expected (?P<due>D(?: \d{1,3}){5} [01] [0-9a-f]{16} [01]))?(?: client (?P<client>\d{1,3}) source (?P<source>\d{1,3}))?"
@@ -49,6 +52,7 @@ class Region(NamedTuple):
     first: int
     pages: int
     leads_to: int
+    permits: str = "gpah"
 
 
 class Wrong(NamedTuple):
@@ -97,7 +101,10 @@ class Observation:
         self.lines = ["", *text.splitlines()]
         self.regions: List[Region] = []
         self.fills: List[Tuple[int, int, List[int]]] = []  # line, address and bytes
-        self.bus = BUS
+        self.pages: List[Tuple[range, str]] = []  # numbers of pages on the AXI4 port, and their kind
+        self.bad: Set[int] = set()  # words, by the address of their first byte
+        self.is_by_tilelink = self.are_errors_any = False
+        self.bus, self.depth = BUS, 0
         self.entries: List[object] = []  # of beats and events
         self.times: List[Optional[int]] = [None] * len(self.lines)
         self.read()
@@ -117,9 +124,9 @@ class Observation:
                 now = int(words[1]) if words[0] == "time" else now
                 self.times[number] = now
                 if words[0] == A:
-                    waiting = self.beat(number, now, words)
+                    waiting = Beat(number, now, A, words[1:])
                 elif words[0] in FIELDS:
-                    self.entries.append(self.beat(number, now, words))
+                    self.entries.append(Beat(number, now, words[0], words[1:]))
                 elif words[0] == "=" and words[1:2] and words[1] in ("reset", "drained", "end"):
                     self.entries.append(Event(number, now, words[1]))
                 else:
@@ -129,30 +136,41 @@ class Observation:
         if waiting:
             self.entries.append(waiting)
 
-    def beat(self, number: int, now: Optional[int], words: List[str]) -> Beat:
-        """A beat, if it has as many words as its kind has."""
-        if len(words) != FIELDS[words[0]] + 1 or words[0] in (A, D) and not words[1].isdigit():
-            raise ValueError(words)
-        return Beat(number, now, words[0], words[1:])
-
     def set_up(self, number: int, words: List[str]) -> None:
         """Takes what is looked at of a set-up line."""
         if words[0] == "config":
-            self.bus = int(words[9]) if len(words) > 9 else BUS
+            self.bus, self.depth = int(words[8]) if len(words) > 8 else BUS, int(words[4])
         elif words[0] == "region":
-            self.regions.append(Region(int(words[1], 16), int(words[2]), int(words[3], 16)))
+            self.regions.append(Region(int(words[1], 16), int(words[2]), int(words[3], 16), words[4]))
+        elif words[0] == "page":
+            self.pages.append((range(int(words[1], 16), int(words[1], 16) + int(words[2])), words[3]))
+        elif words[0] == "bad":
+            self.bad.add(int(words[1], 16) // WORD * WORD)
         elif words[0] == "fill":
             self.fills.append((number, int(words[1], 16), [int(it, 16) for it in words[2:]]))
+        elif words[0] == "profile":
+            self.is_by_tilelink = words[1] == "tilelink"
+        elif words[0] == "errors":
+            self.are_errors_any = words[1] == "any"
 
     def beats(self) -> Iterator[Beat]:
         return (it for it in self.entries if isinstance(it, Beat))
 
     def on_the_port(self, address: int) -> Optional[int]:
         """Where a TileLink address lies on the AXI4 port; nowhere, if no region leads there."""
-        for first, pages, leads_to in self.regions:
-            if first <= address // PAGE < first + pages:
-                return address + (leads_to - first) * PAGE
+        for it in self.regions:
+            if it.first <= address // PAGE < it.first + it.pages:
+                return address + (it.leads_to - it.first) * PAGE
         return None
+
+    def permits(self, opcode: int, address: int) -> bool:
+        """Whether the region of a TileLink address permits a request."""
+        regions = (it for it in self.regions if it.first <= address // PAGE < it.first + it.pages)
+        return opcode < len(PERMITS) and any(PERMITS[opcode] in it.permits for it in regions)
+
+    def kind_of(self, port_address: int) -> Optional[str]:
+        """The kind of a page on the AXI4 port; nothing, if no line lists it."""
+        return next((kind for numbers, kind in self.pages if port_address // PAGE in numbers), None)
 
     def place(self, line: int) -> str:
         """A line's number with its time."""
@@ -162,12 +180,12 @@ class Observation:
 
 def number(text: str, base: int = 10) -> Optional[int]:
     """A field's number, or nothing where a digit of it isn't known."""
-    return None if set(text) & set("xXzZ") else int(text, base)
+    return int(text, base) if UNKNOWN.isdisjoint(text) else None
 
 
 def byte_of(payload: str, lane: int) -> Optional[int]:
-    """The byte in a lane of a payload, or nothing where it isn't known."""
-    digits = payload.rjust(2 * WORD, payload[0] if payload[0] in "xXzZ" else "0")
+    """The byte in a lane of a payload, or nothing where it isn't known; one such digit alone stands for all."""
+    digits = payload.rjust(2 * WORD, payload if len(payload) == 1 and payload in UNKNOWN else "0")
     return number(digits[len(digits) - 2 * lane - 2 : len(digits) - 2 * lane], 16)
 
 

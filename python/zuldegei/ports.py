@@ -23,6 +23,7 @@ class Port:
         self.is_narrow = isinstance(data, Wires) and data.width == 32 and channel.key.client is not None
         self.lacks_corrupt = channel.key.channel == "d" and "corrupt" in channel.lacking
         self.valid, self.ready = Level(channel.fields["valid"]), Level(channel.fields["ready"])
+        self.beats = self.waits = 0  # edges at which a beat passed, and at which valid was high and ready low
 
     def read(self, values: Sequence[bytes], time: int) -> Dict[str, str]:
         """The digits of each field, none of more bits than a line has for it."""
@@ -50,11 +51,12 @@ class Domain:
         self.slot = self.clock.pieces[0].slot
         self.edge = ("1", "0") if clock.is_falling else ("0", "1")
         self.reset = Level(wires(clock.reset, finder.found[clock.reset], slots)) if clock.reset else None
-        self.released = "1" if clock.is_reset_low else "0"
+        self.reset_name, self.released = clock.reset, "1" if clock.is_reset_low else "0"
         made = [finder.channel(key, fields, slots) for key, fields in clock.channels.items()]
         self.ports = [Port(it) for it in made]
         self.lacking = [f"{name} of {it.key}" for it in made for name in it.lacking]
-        self.edges, self.is_up, self.is_awaited = 0, False, False
+        self.edges = self.resets = 0  # edges of its clock, and those at which its reset held, or wasn't known
+        self.is_up, self.is_awaited = False, False
 
     def has_edge(self, values: Sequence[bytes], changes: Dict[int, bytes]) -> bool:
         """Whether its clock has its edge with these changes."""
@@ -88,8 +90,11 @@ class Observer:
                         passes = port.is_passing(values)
                         if passes:
                             passing.append(port)
+                            port.beats += 1
                         elif passes is None:
                             self.note_unknown(time)
+                        else:
+                            port.waits += 1
         passing.sort(key=lambda it: (ORDER.index(it.key.channel), it.key.client or 0))
         sent = [it for it in passing if it.key.channel not in BEHIND_W]
         for port in sent:
@@ -104,6 +109,7 @@ class Observer:
         """Whether beats pass in a domain. Where the first of several is reset, the others' beats are gone until they are reset too,
         or none is reset any more."""
         if domain.is_reset(values):
+            domain.resets += 1
             if domain.is_up and not domain.is_awaited:
                 self.note_reset(domain)
             domain.is_up = domain.is_awaited = False

@@ -26,15 +26,16 @@ FROM_THE_OTHER_SIDE = ("d", "b", "r")  # channels on which the port's other side
 DEFAULTS = {"param": 0, "corrupt": 0, "denied": 0, "burst": 1}
 MOST_BITS = {"opcode": 8, "param": 8, "size": 8, "source": 8, "address": 32, "id": 8, "addr": 32, "len": 8, "burst": 8, "resp": 2}
 WIDTHS = (64, 32)  # of data
+MOST_CLIENTS = 8
 
 HELP = """
 A map is a text, a line for each of these; # begins a comment. A signal is a path of the dump, as tb.dut.a_valid, of which outer
 scopes may be left out, or a slice of it, as tb.a_data[127:64], or a number, as =1.
 
-  clock SIGNAL [falling]       the clock of the ports in the lines behind it; there may be several
+  clock SIGNAL [falling]       the clock of the ports in the lines behind it; there may be several, each with a port at least
   reset SIGNAL [low]           the reset of these ports, where it is high, or low
   client N STYLE PREFIX [PREFIX] [part I of N]
-                               channels A and D of client N
+                               channels A and D of client N, from 0 to 7
   axi STYLE PREFIX [PREFIX]    the five channels of the AXI4 port
   a N FIELD SIGNAL, d N FIELD SIGNAL, aw FIELD SIGNAL, and so for w, b, ar and r
                                one field, where it isn't as a line before it says
@@ -47,6 +48,8 @@ scopes may be left out, or a slice of it, as tb.a_data[127:64], or a number, as 
                                the lines of a ready map, for the module at PATH; CLIENT is the number of its client, and the
                                rest are widths
 
+A client, the AXI4 port, the reset of a clock, a field in a line of its own, and a renumbered ID or source have one line each, and a
+clock has a second line only with another reset: else such a line is refused, and so is a clock with no port behind it.
 STYLE is how names are made of PREFIX, the channel and the field:
   flat     PREFIXa_valid PREFIXa_opcode, PREFIXaw_valid PREFIXaw_id
   chisel   PREFIXa_valid PREFIXa_bits_opcode, PREFIXaw_valid PREFIXaw_bits_id
@@ -111,6 +114,8 @@ class Clock:
     is_falling: bool = False
     reset: Optional[str] = None
     is_reset_low: bool = False
+    line: int = 0  # of the map
+    is_own: bool = True  # and not of a ready map
     channels: Dict[Key, Dict[str, Wanted]] = field(default_factory=dict)
 
 
@@ -146,17 +151,43 @@ class Reader:
 
     def __init__(self, name: str):
         self.name, self.map = name, SignalMap()
+        self.at, self.is_ready_map = 0, False  # the number of the line that is read, and whether it uses a ready map
+        self.lines: Dict[Tuple[object, ...], int] = {}  # in which line each thing stands that has one line alone
 
     def read(self, text: str) -> SignalMap:
         """Takes each line of a map; one that isn't of the kinds above is a fault."""
-        for at, line in enumerate(text.splitlines(), 1):
+        for self.at, line in enumerate(text.splitlines(), 1):
             try:
                 self.take(line.partition("#")[0])
             except (IndexError, ValueError, KeyError, TypeError) as why:
-                raise Fault(f"the map {self.name}, line {at}: {line.strip()[:100]!r} is no line of a map") from why
+                raise Fault(f"the map {self.name}, line {self.at}: {line.strip()[:100]!r} is no line of a map") from why
         if not any(it.channels for it in self.map.clocks):
             raise Fault(f"the map {self.name} names no port")
+        self.check_clocks()
         return self.map
+
+    def check_clocks(self) -> None:
+        """Refuses a clock with no port behind it, and a second line for one that has no reset of its own there."""
+        seen: Dict[Tuple[str, bool], List[Clock]] = {}
+        for clock in self.map.clocks:
+            if not clock.channels:
+                raise Fault(f"the map {self.name}, line {clock.line}: no port stands behind the clock {clock.path}")
+            before = seen.setdefault((clock.path, clock.is_falling), [])
+            if before and clock.is_own and clock.reset in (None, *(it.reset for it in before)):
+                raise Fault(f"the map {self.name}, line {clock.line}: a second line for the clock {clock.path}, of line {before[0].line}")
+            before.append(clock)
+
+    def once(self, name: str, *what: object) -> None:
+        """Notes that this line is the one of something; a second one is a fault."""
+        first = self.lines.setdefault(what, self.at)
+        if first != self.at:
+            raise Fault(f"the map {self.name}, line {self.at}: a second line for {name}, which stands in line {first}")
+
+    def number_of(self, client: str) -> int:
+        """The number of a client; one that no bridge has is a fault."""
+        if not 0 <= int(client) < MOST_CLIENTS:
+            raise Fault(f"the map {self.name}, line {self.at}: client {int(client)}, and clients are 0 to {MOST_CLIENTS - 1}")
+        return int(client)
 
     def take(self, line: str) -> None:
         """Takes a line."""
@@ -169,15 +200,16 @@ class Reader:
         if kind in takers:
             takers[kind](*rest)
         elif kind in TILELINK:
-            self.one_field(Key(kind, int(rest[0])), *rest[1:])
+            self.one_field(Key(kind, self.number_of(rest[0])), *rest[1:])
         else:
             self.one_field(Key(kind), *rest)
 
     def clock(self, path: str, edge: str = "rising") -> None:
-        self.map.clocks.append(Clock(path, {"rising": False, "falling": True}[edge]))
+        self.map.clocks.append(Clock(path, {"rising": False, "falling": True}[edge], line=self.at, is_own=not self.is_ready_map))
 
     def reset(self, path: str, level: str = "high") -> None:
         last = self.map.clocks[-1]
+        self.once(f"the reset of the clock {last.path}", "reset", len(self.map.clocks))
         last.reset, last.is_reset_low = path, {"high": False, "low": True}[level]
 
     def client(self, *words: str) -> None:
@@ -188,12 +220,15 @@ class Reader:
         if not 0 <= part < parts:
             raise ValueError(part)
         client, style, *prefixes = words
+        number_of = self.number_of(client)
+        self.once(f"client {number_of}", "client", number_of)
         for channel in TILELINK:
-            self.bundle(Key(channel, int(client)), style, prefixes, part, parts)
+            self.bundle(Key(channel, number_of), style, prefixes, part, parts)
 
     def axi(self, *words: str) -> None:
         """The five channels of the AXI4 port."""
         style, *prefixes = words
+        self.once("the AXI4 port", "axi")
         for channel in AXI:
             self.bundle(Key(channel), style, prefixes)
 
@@ -202,6 +237,8 @@ class Reader:
         its_style, sender, answerer = STYLES[style], prefixes[0], prefixes[-1]
         if len(prefixes) > 2 or any(it.startswith("=") for it in prefixes):
             raise ValueError(prefixes)
+        if self.channel(key):
+            raise Fault(f"the map {self.name}, line {self.at}: it undoes a line of a field of {key}, which has to stand behind it")
         for name in (*HANDSHAKE, *FIELDS[key.channel]):
             is_back = (name == "ready") != (key.channel in FROM_THE_OTHER_SIDE)
             path = its_style.path(answerer if is_back else sender, key.channel, name)
@@ -216,6 +253,8 @@ class Reader:
         """Where one field of a channel stands."""
         if name not in (*HANDSHAKE, *FIELDS[key.channel]) or signal.startswith("=") and int(signal[1:], 0) < 0:
             raise ValueError(name)
+        if not self.is_ready_map:
+            self.once(f"{name} of {key}", key, name)
         self.channel(key)[name] = Wanted(signal)
 
     def layout(self, *words: str) -> None:
@@ -233,9 +272,11 @@ class Reader:
         """Another number for an ID or a source."""
         if kind == "id":
             before, after = map(int, numbers)
+            self.once(f"another number for ID {before}", "id", before)
             self.map.ids[before] = after
         elif kind == "source":
-            client, before, after = map(int, numbers)
+            client, before, after = self.number_of(numbers[0]), *map(int, numbers[1:])
+            self.once(f"another number for source {before} of client {client}", "source", client, before)
             self.map.sources[client, before] = after
         else:
             raise ValueError(kind)
@@ -251,10 +292,10 @@ class Reader:
         file = READY / f"{name}.map"
         if len(client) > 1 or not file.is_file():
             raise Fault(f"the map {self.name} uses {name}, and the ready maps are {', '.join(ready())}")
-        before, self.map.widths = self.map.widths, {**self.map.widths, **widths}
+        before, self.map.widths, self.is_ready_map = self.map.widths, {**self.map.widths, **widths}, True
         for line in file.read_text().splitlines():
             self.take(Place(path, client[0], widths).moved(line.partition("#")[0]))
-        self.map.widths = before
+        self.map.widths, self.is_ready_map = before, False
 
 
 def ready() -> List[str]:

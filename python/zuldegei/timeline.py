@@ -7,6 +7,7 @@ from string import Template
 from typing import Dict, List, Optional, Sequence
 
 from .history import Burst, History, Request
+from .index import Index
 from .observation import AT_END, GET, Beat, Verdict, Wrong
 
 HERE = Path(__file__).parent
@@ -17,8 +18,8 @@ NOT_ASKED = "not asked for"
 class Timeline:
     """The bars, rows and marks of a picture."""
 
-    def __init__(self, history: History, verdict: Verdict):
-        self.history, self.observation, self.verdict = history, history.observation, verdict
+    def __init__(self, history: History, verdict: Verdict, index: Index):
+        self.history, self.observation, self.verdict, self.index = history, history.observation, verdict, index
         self.last = max([self.time(it.line) for it in self.observation.beats()] + [1])
         names = sorted({self.request_row(it) for it in history.requests}) + sorted({self.burst_row(it) for it in history.bursts})
         self.rows: Dict[tuple, int] = {name: at for at, name in enumerate([*names, (2, 0, 0)])}
@@ -77,15 +78,12 @@ class Timeline:
     def waiting(self, wrong: Wrong) -> Optional[object]:
         """What a beat that belongs to nothing is shown beside: a request or burst without an answer, or the last request of its source."""
         if wrong.side is not None:
-            bursts = [it for it in self.history.bursts if it.id == wrong.id and it.is_write == (wrong.side == "write") and not it.answer]
-            return bursts[0] if bursts else None
+            return self.index.unanswered.get((wrong.side == "write", wrong.id))
         client, source = wrong.client, wrong.source
         if wrong.name == "UNASKED":
             words = self.observation.lines[wrong.line].split()
             client, source = (int(it) if it.isdigit() else None for it in (words[1], words[5]))
-        found = [it for it in self.history.requests if (it.client, it.source) == (client, source) and it.begun < wrong.line]
-        is_open = [it for it in found if it.ended is None] if wrong.name in AT_END else found
-        return is_open[-1] if is_open else None
+        return self.index.last_of(client, source, wrong.line, wrong.name in AT_END)
 
     def data(self, texts: List[str], causes: Sequence[Sequence[object]]) -> dict:
         """All that the page's script draws; `causes` has what is behind each of the first wrong beats."""
@@ -101,9 +99,11 @@ class Timeline:
         }
 
 
-def page(history: History, verdict: Verdict, texts: List[str], causes: Sequence[Sequence[object]], title: str) -> str:
+def page(
+    history: History, verdict: Verdict, texts: List[str], causes: Sequence[Sequence[object]], title: str, index: Optional[Index] = None
+) -> str:
     """The page of a time line."""
-    data = json.dumps(Timeline(history, verdict).data(texts, causes), separators=(",", ":")).replace("<", "\\u003c")
+    data = json.dumps(Timeline(history, verdict, index or Index(history)).data(texts, causes), separators=(",", ":")).replace("<", "\\u003c")
     escaped = title.replace("&", "&amp;").replace("<", "&lt;")
     return Template((HERE / "timeline.html").read_text()).substitute(
         TITLE=escaped, DATA=data, SCRIPT=(HERE / "timeline.js").read_text()

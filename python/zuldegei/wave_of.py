@@ -10,6 +10,7 @@ from typing import Dict, Iterator, List, NamedTuple, Sequence, TextIO, Tuple
 from .command import Status, ended, words_of
 from .explain import read
 from .observation import A, AR, AW, B, D, OPERATIONS, R, W, Beat, Observation, Verdict
+from .whole import written
 
 NAME = "zuldegei-wave-of"
 SCOPE, WRONG = "tlscore", "wrong"
@@ -135,9 +136,9 @@ def work(arguments: Sequence[str]) -> int:
         words.error(f"{given.timescale} is no unit of a VCD, as 1ns and 10ps are")
     observation, verdict = read(given.observation, given.verdict)
     found, vcd = changes(observation, verdict), Path(given.vcd)
-    with vcd.open("w") as file:
+    with written(vcd) as file:
         write_vcd(found, given.timescale, file)
-    with vcd.with_suffix(".gtkw").open("w") as file:
+    with written(vcd.with_suffix(".gtkw")) as file:
         write_gtkw(found, vcd, file)
     return Status.WRONG if verdict.wrong else Status.DONE
 

@@ -3,16 +3,18 @@
 import sys
 import time
 from pathlib import Path
-from typing import Callable, Dict, List, Sequence
+from typing import Callable, Dict, List, Optional, Sequence, Tuple
 
 from .command import Fault, Status, ended, words_of
-from .ports import Domain, Observer
-from .signal_map import HELP, Finder, Reader, SignalMap, ready
+from .ports import Domain, Observer, Port
+from .signal_map import HELP, TILELINK, Finder, Reader, SignalMap, ready
 from .signals import Names
 from .vcd import Dump, opened
 
 NAME = "zuldegei-waves"
 MOST_TOLD = 6  # names in a remark
+SIDES = (tuple(TILELINK), ("aw", "w", "b"), ("ar", "r"))  # channels of which none is without beats where another has some
+SHOWN = tuple(channel for side in SIDES for channel in side)
 EVERY = 0.5  # seconds between two looks at the progress
 
 
@@ -81,9 +83,58 @@ def sample(dump: Dump, domains: List[Domain], observer: Observer, values: List[b
             values[slot] = value
 
 
+def ports_of(observer: Observer) -> Dict[str, List[Tuple[Domain, Port]]]:
+    """The channels of each port, with their clocks, by the port's name: the clients first."""
+    found = [(domain, port) for domain in observer.domains for port in domain.ports]
+    found.sort(key=lambda it: (it[1].key.client is None, it[1].key.client or 0, SHOWN.index(it[1].key.channel)))
+    ports: Dict[str, List[Tuple[Domain, Port]]] = {}
+    for domain, port in found:
+        ports.setdefault("AXI4" if port.key.client is None else f"client {port.key.client}", []).append((domain, port))
+    return ports
+
+
+def counted(ports: Dict[str, List[Tuple[Domain, Port]]]) -> str:
+    """How many beats passed at each port."""
+    parts = [f"{name} {', '.join(f'{it.key.channel.upper()} {it.beats}' for _, it in channels)}" for name, channels in ports.items()]
+    return f"beats: {'; '.join(parts)}"
+
+
+def held(domain: Domain) -> Optional[str]:
+    """What to look at where the reset of a clock held at most of its edges, and no beat passed at the others."""
+    if domain.reset is None or 2 * domain.resets <= domain.edges or any(it.beats for it in domain.ports):
+        return None
+    advice = "is high in reset, leave out the word `low`" if domain.released == "1" else "is low in reset, write `low` behind it"
+    edges = f"at {'all' if domain.resets == domain.edges else f'{domain.resets} of'} {domain.edges} edges of {domain.name}"
+    return f"the reset {domain.reset_name} held, or wasn't known, {edges}, so that no beat passed: if it {advice}; else look at its name"
+
+
+def silent(name: str, channels: List[Tuple[Domain, Port]]) -> List[str]:
+    """What to look at where a port has no beat, or one of its channels none where another of its side has some."""
+    if not any(it.beats for _, it in channels):
+        waiting = [it for it in channels if it[1].waits] or channels
+        return [f"no beat passed at {name}: {why(*waiting[0])}; look at its names and its clock"] if channels else []
+    by_channel = {it.key.channel: (domain, it) for domain, it in channels}
+    said = []
+    for side in SIDES:
+        its = [by_channel[it] for it in side if it in by_channel]
+        if any(port.beats for _, port in its):
+            said += [f"no beat passed on {it[1].key.channel.upper()} of {name}: {why(*it)}" for it in its if not it[1].beats]
+    return said
+
+
+def why(domain: Domain, port: Port) -> str:
+    """How the handshake of a channel without a beat stood."""
+    valid, ready = port.fields["valid"].name, port.fields["ready"].name
+    if port.waits:
+        return f"its valid {valid} was high at {port.waits} edges of {domain.name}, and its ready {ready} at none of them"
+    return f"its valid {valid} was high at no edge of {domain.name}"
+
+
 def remarks(observer: Observer) -> List[str]:
     """What is to be said of an observation beside its lines."""
-    said = []
+    ports = ports_of(observer)
+    said = [counted(ports), *filter(None, map(held, observer.domains))]
+    said += [it for name, its in ports.items() for it in silent(name, [it for it in its if not held(it[0])])][:MOST_TOLD]
     lacking = [name for domain in observer.domains for name in domain.lacking]
     if lacking:
         shown = ", ".join(lacking[:MOST_TOLD]) + (f" and {len(lacking) - MOST_TOLD} more" if len(lacking) > MOST_TOLD else "")
