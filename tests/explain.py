@@ -78,7 +78,8 @@ SENTENCES = {
         "6 reply 8 X expected D 1 1 0 3 7 0 0000000000000000 0", "reply", ("The reply came before R brought this byte.", "line 5"),
         ("isn't known",)),
     "a reply ahead of its answer, where another client's read of the same byte was answered": (
-        (PUT, *WROTE, DONE, "A 0 4 0 3 9 00000008 ff 0000000000000000 0", "AR 2 00010008 0 3 1", GET, AR, R.format(WORD).replace("3", "2", 1),
+        (PUT, *WROTE, DONE, "A 0 4 0 3 9 00000008 ff 0000000000000000 0", "AR 2 00010008 0 3 1", GET, AR,
+         R.format(WORD).replace("3", "2", 1),
          "D 1 1 0 3 7 0 xxxxxxxxxxxxxxxx 0"),
         f"14 reply 8 X {DUE}", "reply", ("The reply came before R brought this byte.", "(line 12)"), ("isn't known",)),
     "a reply of x behind its answer": ((GET, AR, R.format("0" * 16), "D 1 1 0 3 7 0 xxxxxxxxxxxxxxxx 0"),
@@ -116,8 +117,8 @@ SENTENCES = {
          "in the midst of its message on channel A: line 7, of client 1",
          "line 11, W has what is given by PutFull of 8 bytes at 00000100, client 1 source 6 (line 7)"), ()),
     "a message that another client's Get cuts into": (
-        (LONG.format(0xA1), LONG.format(0xA2), "AW 0 00010020 3 3 1", GET, LONG.format(0xA3), "W 00000000000000a1 ff 0", "W 00000000000000a2 ff 0",
-         "W 0000000000000000 ff 0", "W 00000000000000a3 ff 0", LONG.format(0xA4)), "12 axi 8 WLAST", "write",
+        (LONG.format(0xA1), LONG.format(0xA2), "AW 0 00010020 3 3 1", GET, LONG.format(0xA3), "W 00000000000000a1 ff 0",
+         "W 00000000000000a2 ff 0", "W 0000000000000000 ff 0", "W 00000000000000a3 ff 0", LONG.format(0xA4)), "12 axi 8 WLAST", "write",
         ("it is beat 4 of 4, and `last` is 0; among its data stand those that its request doesn't give.", "line 7, of client 1",
          "line 11, W has what its request doesn't give"), ("another request",)),
     "a `last` too early, beside another client's beat": (
@@ -128,7 +129,8 @@ SENTENCES = {
         (*(LONG.format(it) for it in (0xA1, 0xA2, 0xA3, 0xA4)), "W 00000000000000a1 ff 0", "W 00000000000000a2 ff 1", "AW 0 00010020 3 3 1"),
         "11 axi 8 WLAST", "write", ("line 10 is beat 2 of 4, and `last` is 1.",), ("among its data",)),
     "a Put of one byte, and one in flight to other bytes": (
-        ("A 0 0 0 0 5 00000008 01 0000000000000099 0", "AW 0 00010008 0 0 1", "W 0000000000000099 01 1", "B 0 OKAY", "D 0 0 0 0 5 0 0000000000000000 0",
+        ("A 0 0 0 0 5 00000008 01 0000000000000099 0", "AW 0 00010008 0 0 1", "W 0000000000000099 01 1", "B 0 OKAY",
+         "D 0 0 0 0 5 0 0000000000000000 0",
          "A 0 0 0 3 6 00000010 ff 0000000000000001 0", GET, "A 0 1 0 3 8 00000008 f0 aabbccdd00000000 0", AR, R.format("0" * 14 + "99"),
          "D 1 1 0 3 7 0 0000000000000098 0"), "14 reply 7 PAYLOAD expected D 1 1 0 3 7 0 0000000000000099 0", "read",
         ("last given by PutFull of 1 bytes at 00000008, client 0 source 5 (line 4)", "in flight with it: PutPartial of 8 bytes at 00000008"),
