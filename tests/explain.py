@@ -78,7 +78,8 @@ SENTENCES = {
         "6 reply 8 X expected D 1 1 0 3 7 0 0000000000000000 0", "reply", ("The reply came before R brought this byte.", "line 5"),
         ("isn't known",)),
     "a reply ahead of its answer, where another client's read of the same byte was answered": (
-        (PUT, *WROTE, DONE, "A 0 4 0 3 9 00000008 ff 0000000000000000 0", "AR 2 00010008 0 3 1", GET, AR, R.format(WORD).replace("3", "2", 1),
+        (PUT, *WROTE, DONE, "A 0 4 0 3 9 00000008 ff 0000000000000000 0", "AR 2 00010008 0 3 1", GET, AR,
+         R.format(WORD).replace("3", "2", 1),
          "D 1 1 0 3 7 0 xxxxxxxxxxxxxxxx 0"),
         f"14 reply 8 X {DUE}", "reply", ("The reply came before R brought this byte.", "(line 12)"), ("isn't known",)),
     "a reply of x behind its answer": ((GET, AR, R.format("0" * 16), "D 1 1 0 3 7 0 xxxxxxxxxxxxxxxx 0"),
@@ -116,14 +117,27 @@ SENTENCES = {
          "in the midst of its message on channel A: line 7, of client 1",
          "line 11, W has what is given by PutFull of 8 bytes at 00000100, client 1 source 6 (line 7)"), ()),
     "a message that another client's Get cuts into": (
-        (LONG.format(0xA1), LONG.format(0xA2), "AW 0 00010020 3 3 1", GET, LONG.format(0xA3), "W 00000000000000a1 ff 0", "W 00000000000000a2 ff 0",
-         "W 0000000000000000 ff 0", "W 00000000000000a3 ff 0", LONG.format(0xA4)), "12 axi 8 WLAST", "write",
+        (LONG.format(0xA1), LONG.format(0xA2), "AW 0 00010020 3 3 1", GET, LONG.format(0xA3), "W 00000000000000a1 ff 0",
+         "W 00000000000000a2 ff 0", "W 0000000000000000 ff 0", "W 00000000000000a3 ff 0", LONG.format(0xA4)), "12 axi 8 WLAST", "write",
         ("it is beat 4 of 4, and `last` is 0; among its data stand those that its request doesn't give.", "line 7, of client 1",
          "line 11, W has what its request doesn't give"), ("another request",)),
     "a `last` too early, beside another client's beat": (
         (LONG.format(0xA1), LONG.format(0xA2), "AW 0 00010020 3 3 1", "A 1 0 0 3 6 00000100 ff 00000000000000bb 0", LONG.format(0xA3),
          "W 00000000000000a1 ff 0", "W 00000000000000a2 ff 0", "W 00000000000000a3 ff 1", LONG.format(0xA4)), "11 axi 8 WLAST", "write",
         ("it is beat 3 of 4, and `last` is 1.",), ("client 1", "another request")),
+    "tilelink: data ahead of their address, of which a `last` is too early": (
+        (*(LONG.format(it) for it in (0xA1, 0xA2, 0xA3, 0xA4)), "W 00000000000000a1 ff 0", "W 00000000000000a2 ff 1", "AW 0 00010020 3 3 1"),
+        "11 axi 8 WLAST", "write", ("line 10 is beat 2 of 4, and `last` is 1.",), ("among its data",)),
+    "a Put of one byte, and one in flight to other bytes": (
+        ("A 0 0 0 0 5 00000008 01 0000000000000099 0", "AW 0 00010008 0 0 1", "W 0000000000000099 01 1", "B 0 OKAY",
+         "D 0 0 0 0 5 0 0000000000000000 0",
+         "A 0 0 0 3 6 00000010 ff 0000000000000001 0", GET, "A 0 1 0 3 8 00000008 f0 aabbccdd00000000 0", AR, R.format("0" * 14 + "99"),
+         "D 1 1 0 3 7 0 0000000000000098 0"), "14 reply 7 PAYLOAD expected D 1 1 0 3 7 0 0000000000000099 0", "read",
+        ("last given by PutFull of 1 bytes at 00000008, client 0 source 5 (line 4)", "in flight with it: PutPartial of 8 bytes at 00000008"),
+        ("at 00000010",)),
+    "a reply with the source of another": ((GET, "A 1 4 0 3 8 00000010 ff 0000000000000000 0", "D 1 1 0 3 9 0 0000000000000000 0"),
+        "6 reply 1 UNASKED", "reply", ("No reply is due to source 9; one like it is due to source 7: it may have the wrong source.",
+         "the client waits for the reply to Get of 8 bytes at 00000010, client 1 source 8 (line 5)"), ()),
     "a byte that raced, beside one that is wrong": (
         (PUT, *WROTE, DONE, "A 0 0 0 0 5 00000008 01 0000000000000099 0", GET, AR, R.format(WORD), "D 1 1 0 3 7 0 1122334455660088 0"),
         "14 reply 7 PAYLOAD expected D 1 1 0 3 7 0 1122334455667799 0", "read", ("at 00000009: due 77, came 00",), ("at 00000008:",)),
@@ -199,7 +213,7 @@ def sentences(folder: Path, score: str) -> Iterator[Case]:
     """What is said of observations by hand, of which one beat is wrong: side, sentence and what it rests on, and the bursts in the picture."""
     for name, (beats, wrong, side, has, hasnt) in SENTENCES.items():
         lines, verdict, drawn_page = (folder / f"sentence.{it}" for it in ("lines", "told", "html"))
-        head = HEAD.format(bus=" 4" if "32 bits" in name else "") + ("profile tilelink\n" if "raced" in name else "")
+        head = HEAD.format(bus=" 4" if "32 bits" in name else "") + ("profile tilelink\n" if re.search("raced|tilelink", name) else "")
         text = head + "".join(f"{it}\n" for it in beats)
         lines.write_text(text)
         verdict.write_text(judged(score, text))

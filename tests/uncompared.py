@@ -94,6 +94,15 @@ LISTS = {
     with Arithmetic of 8 bytes at 00000008, client 0 source 5 (line 5)
     8 bytes at 00000008 to 0000000f, told in line 8
 """),
+    "a Get in flight with a Put of four beats that was answered early": ("good", ANY,
+        ("A 0 0 0 5 1 00000020 ff 0000000000000001 0", "D 0 0 0 5 1 0 0000000000000000 0", "A 0 0 0 5 1 00000020 ff 0000000000000002 0",
+         "A 1 4 0 3 7 00000020 ff 0000000000000000 0", *["A 0 0 0 5 1 00000020 ff 0000000000000003 0"] * 2, TOLD.format(0),
+         "A 1 4 0 3 7 00000020 ff 0000000000000000 0", TOLD.format(1)), (8, 16), """
+8 bytes raced, 1 pair:
+  Get of 8 bytes at 00000020, client 1 source 7 (line 9)
+    with PutFull of 32 bytes at 00000020, client 0 source 1 (line 6)
+    8 bytes at 00000020 to 00000027, told in line 12
+"""),
     "a Get behind a corrupt Put": ("good", ANY, (f"{PUT[:-1]}1", ACKNOWLEDGED, GET, TOLD.format(7)), (8, 8), """
 8 bytes were left by requests that failed:
   PutFull of 8 bytes at 00000008, client 0 source 5 (line 6)

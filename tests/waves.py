@@ -481,7 +481,8 @@ TWICE = (
     ("a client and a ready map of it", "use rocket-chip top\nclient 0 flat top.\n", ("line 2", "client 0", "line 1")),
 )
 BEYOND = ("client -1 flat top.", "client 8 flat top.", "a 8 corrupt =0", "d -1 denied =0", "renumber source 8 1 2", "use rocket-chip top 8")
-ONCE = (TWO_RESETS, "use opentitan top\nuse pulp top\n", f"{HAND}client 7 flat top.\n", "use opentitan top\nd 0 denied =0\n", f"{HAND}clock top.clock falling\nclient 1 flat top.\n")
+ONCE = (TWO_RESETS, "use opentitan top\nuse pulp top\n", f"{HAND}client 7 flat top.\n", "use opentitan top\nd 0 denied =0\n",
+        f"{HAND}clock top.clock falling\nclient 1 flat top.\n")
 
 
 def said_twice() -> Iterator[Case]:

@@ -106,10 +106,7 @@ class Comparison:
     def fails(self, request: Request, beats: List[Beat], at: int) -> bool:
         """Whether its reply, or this word of it, is due with an error where errors are told in one way."""
         place = self.place(request, beats)
-        if place is None:
-            is_there = request.port_address is not None and self.observation.permits(request.opcode, request.address)
-            return is_corrupt(beats) or not (is_there and request.is_intent)
-        return is_corrupt(beats) or request.has_reply_data and place // WORD * WORD + WORD * at in self.observation.bad
+        return place is None or is_corrupt(beats) or request.has_reply_data and place // WORD * WORD + WORD * at in self.observation.bad
 
     # ---- channel A
 
