@@ -31,7 +31,7 @@ SYSTEMVERILOG = TOP / "interfaces/systemverilog"
 MODULES = [SYSTEMVERILOG / "zuldegei_pkg.sv", SYSTEMVERILOG / "zuldegei_monitor.sv", SYSTEMVERILOG / "example_bind.sv"]
 UNOPTIMIZED = ["OPT_FAST=-O0", "OPT_GLOBAL=-O0"]
 TOLD = re.compile(r"(?m)(= (?:wrong|judged) .*)$")
-TIMED = re.compile(r"(?m)^\[(\d+)\] %Error: .*zuldegei: (= wrong .*|the run failed: 1 wrong)$")
+TIMED = re.compile(r"(?m)^\[(\d+)\] %Error: .*zuldegei: (= wrong .*|the run failed: \d+ wrong)$")
 NO_LIMIT = "+verilator+error+limit+1000000"  # each $error and $fatal goes on, as far as Verilator is asked
 LINES, SECONDS = 200_000, 10  # of a long set-up; in how many it is read on a busy machine, by a testbench that isn't optimized
 PIPED = (run.RIGHT, "REPLY_TWICE", "UNKNOWN_READ")
@@ -90,10 +90,10 @@ def whole_wrong(ran: Simulated, judged: str) -> Optional[str]:
     return failed_wrong(ran, int(wrong > 0), how)
 
 
-def failed_wrong(ran: Simulated, status: int, how: str) -> Optional[str]:
+def failed_wrong(ran: Simulated, status: int, how: str, module: str = "scoreboard") -> Optional[str]:
     """How a run doesn't end with this status, and with a last line that says how it ended."""
     last = ran.text.splitlines()[-1]
-    return None if (ran.status, last) == (status, f"zuldegei: {how} (TOP.testbench.scoreboard)") else f"status {ran.status}, {last!r}"
+    return None if (ran.status, last) == (status, f"zuldegei: {how} (TOP.testbench.{module})") else f"status {ran.status}, {last!r}"
 
 
 def stopped_wrong(ran: Simulated, first: run.Wrong, ends_it: bool) -> Optional[str]:

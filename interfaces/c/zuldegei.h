@@ -84,7 +84,8 @@ void tlscore_free(tlscore *board);
    RESP is 0 OKAY, 1 EXOKAY, 2 SLVERR or 3 DECERR. An ADDRESS is below 2^32, each other number below 256; else TLSCORE_RANGE. A client
    that the set-up hasn't is no error, but found wrong.
 
-   DATA are the LENGTH bytes of a payload, lane 0 first. There are 8; on an AXI4 port of 32 bits there may be 4; and where a message
+   DATA are the LENGTH bytes of a payload, lane 0 first. There are 8; on an AXI4 port of 32 bits (WIDTH 4 of `config`) there may be 4, on
+   one of 64 bits 4 are TLSCORE_RANGE; and where a message
    carries no data (opcodes 4 and above on channel A, all but 1 on channel D) there may be 0, and DATA may be null. MASK, STROBES and
    UNKNOWN have a bit for each lane, of UNKNOWN where a digit of it is x or z; UNKNOWN and STROBES have none for lanes that aren't given. */
 
