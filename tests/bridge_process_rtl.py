@@ -1,9 +1,10 @@
 """The free memory and the predictor of interfaces/systemverilog, over the testbench of examples/testbench/rtl under Verilator. In front of
 the memory the right bridges aren't blamed, by what each promises; and there are faults that are told in front of it, and hidden where it
 keeps all in order. The predictor finds nothing wrong of the right bridge, and a fault at the time at which tlscore finds the first wrong
-reply of the same run, where it also stops. A run in which it finds one, or in which it or the memory can't do its work, has a status other
-than 0, with Verilator's limit of errors and without. Each call of the model by DPI-C gives what it should. The comparison of replies, which needs
-no library, takes an x as it should under Icarus. A simulator that isn't installed is named, and what needs it isn't tried.
+reply of the same run, where it also stops. A run in which it finds one, or in which it or the memory can't do its work, has a status
+other than 0, with Verilator's limit of errors and without. Each call of the model by DPI-C gives what it should. The comparison of
+replies, which needs no library, takes an x as it should under Icarus. A simulator that isn't installed is named, and what needs it isn't
+tried.
 
     python3 tests/bridge_process_rtl.py TLSCORE [--seeds N] [--library FOLDER] [--jobs N]
 """

@@ -74,7 +74,8 @@ def simulated(bench: Path, seed: int, setup: Path, *more: str) -> Simulated:
 
 def started(bench: Path, *words: str) -> Simulated:
     """A run by its words, of whose lines nobody asks."""
-    ran = subprocess.run([bench, *words], cwd=bench.parent, stdout=subprocess.PIPE, stderr=subprocess.STDOUT, text=True, timeout=300, check=False)
+    pipe = subprocess.PIPE
+    ran = subprocess.run([bench, *words], cwd=bench.parent, stdout=pipe, stderr=subprocess.STDOUT, text=True, timeout=300, check=False)
     return Simulated(ran.returncode, ran.stdout, "")
 
 

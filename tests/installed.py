@@ -1,7 +1,8 @@
 """What ./install and ./release give. Each name that is installed is on docs/INSTALL.md, and the other way round; modes, links and
 manual pages are as Debian asks; nothing names the folder of the build; the C example is compiled by pkg-config's words;
 --uninstall leaves nothing. Archives of two copies of the repository are the same bytes; unpacked in an empty folder, with nothing
-of the toolchain on PATH, the commands of the page print what it shows, and pip installs its package without a network. In the copies a stand-in for rt builds what isn't built.
+of the toolchain on PATH, the commands of the page print what it shows, and pip installs its package without a network. In the
+copies a stand-in for rt builds what isn't built.
 
     python3 tests/installed.py TLSCORE TLBRIDGE LIBRARY
 """
@@ -316,6 +317,8 @@ def by_pip(room: Path) -> Iterator[Case]:
     before = files_below(room)
     done = ran(["sh", "-c", command[1] if command else "false"], room, env)
     yield "the package by pip", why(done)
+    if done.returncode:
+        return
     odd = sorted(it for it in files_below(room) ^ before if not it.startswith(("by pip/", ".cache/")) and "__pycache__" not in it)
     yield "pip leaves the archive as it is", f"apart are {odd[:5]}" if odd else None
     for module in MODULES:
