@@ -13,6 +13,7 @@ import argparse
 import os
 import re
 import shutil
+import signal
 import subprocess
 import sys
 import tempfile
@@ -33,6 +34,7 @@ UNOPTIMIZED = ["OPT_FAST=-O0", "OPT_GLOBAL=-O0"]
 TOLD = re.compile(r"(?m)(= (?:wrong|judged) .*)$")
 TIMED = re.compile(r"(?m)^\[(\d+)\] %Error: .*zuldegei: (= wrong .*|the run failed: \d+ wrong)$")
 NO_LIMIT = "+verilator+error+limit+1000000"  # each $error and $fatal goes on, as far as Verilator is asked
+ABORTED = -signal.SIGABRT  # as which Verilator ends a run, and a shell says 134
 LINES, SECONDS = 200_000, 10  # of a long set-up; in how many it is read on a busy machine, by a testbench that isn't optimized
 PIPED = (run.RIGHT, "REPLY_TWICE", "UNKNOWN_READ")
 Case = Tuple[str, Optional[str]]
@@ -107,6 +109,12 @@ def stopped_wrong(ran: Simulated, first: run.Wrong, ends_it: bool) -> Optional[s
     return f"told at {times[0]}, and wrong at {first.time}" if times[0] != first.time or "Verilog $finish" in ran.text else None
 
 
+def aborted_wrong(ran: Simulated, judged: str) -> Optional[str]:
+    """How a run that Verilator ends at the first $error isn't ended so."""
+    is_told = TOLD.findall(ran.text)[:1] == TOLD.findall(judged)[:1]
+    return None if is_told and (ran.status, ran.text[-12:]) == (ABORTED, "Aborting...\n") else f"status {ran.status}: {ran.text[-200:]!r}"
+
+
 def stopped_below_limit(ran: Simulated, judged: str, count: int) -> Optional[str]:
     """How a run that is to stop with a wrong beat of this number, where Verilator goes on behind $fatal, doesn't: it tells what is wrong up
     to there, and ends itself."""
@@ -141,7 +149,7 @@ def words_tried(bench: Path) -> Iterator[Case]:
         ran = started(bench, NO_LIMIT, *words)
         yield f"with {words}", failed_wrong(ran, 1, f"the run failed: {why}")
         ran = started(bench, *words)
-        is_told = f"zuldegei: the run failed: {why}\n" in ran.text and ran.status != 0
+        is_told = f"zuldegei: the run failed: {why}\n" in ran.text and ran.status == ABORTED
         yield f"with {words}, and no limit of errors", None if is_told else f"status {ran.status}: {ran.text[-300:]!r}"
 
 
@@ -174,6 +182,7 @@ def tried(bug: str, bench: Path, given: argparse.Namespace) -> Iterator[Case]:
                 found += 1
                 stops = simulated(bench, seed, setup, "+zuldegei_stop=1", "+verilator+error+limit+2", *x)
                 yield f"{name}, stopped", stopped_wrong(stops, first, "UNANSWERED" in first.name)
+                yield f"{name}, without words", aborted_wrong(simulated(bench, seed, setup, *x), judged)
                 for count in {1, judged.count("= wrong")}:
                     stops = simulated(bench, seed, setup, f"+zuldegei_stop={count}", NO_LIMIT, *x)
                     yield f"{name}, stopped by {count} below the limit of errors", stopped_below_limit(stops, judged, count)

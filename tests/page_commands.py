@@ -23,7 +23,7 @@ BLOCK = re.compile(r"(?ms)^```shell\n(.*?)^```\n\n```printed (\d+)\n(.*?)^```$")
 SHOWN = re.compile(r"(?m)^```shell$")
 TOOLS = ("waves", "fill", "explain", "wave-of", "regress")
 NEEDED = ("iverilog", "verilator", "fst2vcd", "vcd2fst", "cc", "chromium")  # of Debian, where a block names one
-NEEDS_LIBRARY = re.compile(r"libzuldegei|import .*(?:Scoreboard|Bridge)")
+NEEDS_LIBRARY = re.compile(r"libzuldegei|inside/bench|import .*(?:Scoreboard|Bridge)")
 Case = Tuple[str, Optional[str]]
 
 
