@@ -173,6 +173,8 @@ def in_python(library):
                 why = f"it gave {call(bridge)!r}"
             except BridgeError as got:
                 why = None if (got.status, str(got)) == (status, text) else f"{got.status}, {got}"
+            except Exception as got:
+                why = f"it raised {type(got).__name__}: {got}"
             yield name, why or (None if bridge.work() == 0 and bridge.choices() == 0 else "the bridge has changed")
     try:
         yield "a bridge that was closed", f"it gave {bridge.drain()!r}"

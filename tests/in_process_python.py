@@ -81,6 +81,8 @@ def refused(library: object) -> Iterator[Case]:
                 yield name, f"it gave {call(board)!r}"
             except ScoreboardError as why:
                 yield name, differs((why.status, str(why)), (status, text)) or differs(board.counts(), Judged(0, 0, 0, 0, 0, 0))
+            except Exception as why:
+                yield name, f"it raised {type(why).__name__}: {why}"
     board.close()
     try:
         yield "a board that was closed", f"it gave {board.reset()!r}"
@@ -95,12 +97,13 @@ def fillings(library: object) -> Iterator[Case]:
     for name, first, length in (("its page", 0x20000 - 9000 % 4096, 9000), ("good pages", 0x13000, 9000), ("pages of any", 0x20000, 9000),
                                 ("all addresses", 0xFFFFFF00, 9000)):  # fmt: skip
         with Scoreboard(setup, library) as board:
-            before = [board.byte(first + at) for at in range(0, 4096, 32)]
+            places = range(first, min(first + 4096, 2**32), 32)
+            before = [board.byte(at) for at in places]
             try:
                 why = f"it gave {board.fill(first, bytes([7]) * length)!r}"
             except ScoreboardError as got:
                 why = differs(got.status, Error.WORD - 2)
-            yield f"a filling that leaves {name}", why or differs([board.byte(first + at) for at in range(0, 4096, 32)], before)
+            yield f"a filling that leaves {name}", why or differs([board.byte(at) for at in places], before)
     with Scoreboard(setup, library) as board:
         board.fill(0x10000, bytes([7]) * 0x4000)
         board.fill(0x20000, [8] * 4096)
