@@ -2,9 +2,9 @@
 the memory the right bridges aren't blamed, by what each promises; and there are faults that are told in front of it, and hidden where it
 keeps all in order. The predictor finds nothing wrong of the right bridge, and a fault at the time at which tlscore finds the first wrong
 reply of the same run, where it also stops. A run in which it finds one, or in which it or the memory can't do its work, has a status
-other than 0, with Verilator's limit of errors and without. Each call of the model by DPI-C gives what it should. The comparison of
-replies, which needs no library, takes an x as it should under Icarus. A simulator that isn't installed is named, and what needs it isn't
-tried.
+other than 0, with Verilator's limit of errors and without; a set-up of 200,000 lines is read in few seconds. Each call of the model by
+DPI-C gives what it should. The comparison of replies, which needs no library, takes an x as it should under Icarus. A simulator that
+isn't installed is named, and what needs it isn't tried.
 
     python3 tests/bridge_process_rtl.py TLSCORE [--seeds N] [--library FOLDER] [--jobs N]
 """
@@ -21,7 +21,7 @@ from pathlib import Path
 from typing import Iterator, List, NamedTuple, Optional, Tuple
 
 from ends import told
-from in_process_rtl import SYSTEMVERILOG, TOP, UNOPTIMIZED, Simulated, built, failed_wrong, run, started
+from in_process_rtl import SYSTEMVERILOG, TOP, UNOPTIMIZED, Simulated, built, failed_wrong, long_setup, run, started
 
 MEMORY, PREDICTOR = SYSTEMVERILOG / "zuldegei_axi_memory.sv", SYSTEMVERILOG / "zuldegei_predictor.sv"
 PACKAGE, BIND = SYSTEMVERILOG / "zuldegei_pkg.sv", SYSTEMVERILOG / "example_predictor_bind.sv"
@@ -176,6 +176,7 @@ def in_verilator(given: argparse.Namespace) -> Iterator[Case]:
         yield from calls(library, folder)
         programs = [*pool.map(lambda it: made(it, library, folder), BENCHES)]
         yield from words_tried(programs[0])
+        yield from long_setup(programs[0], "fill 10000 00 00 00 00\n", "predictor")
         for found in pool.map(lambda it: [*tried(*it, given)], zip(BENCHES, programs)):
             yield from found
 

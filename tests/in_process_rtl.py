@@ -34,6 +34,7 @@ UNOPTIMIZED = ["OPT_FAST=-O0", "OPT_GLOBAL=-O0"]
 TOLD = re.compile(r"(?m)(= (?:wrong|judged) .*)$")
 TIMED = re.compile(r"(?m)^\[(\d+)\] %Error: .*zuldegei: (= wrong .*|the run failed: \d+ wrong)$")
 NO_LIMIT = "+verilator+error+limit+1000000"  # each $error and $fatal goes on, as far as Verilator is asked
+LONG_LINES = ("# a line of a set-up\n", "fill 10000 00 00 00 00\n")
 ABORTED = -signal.SIGABRT  # as which Verilator ends a run, and a shell says 134
 LINES, SECONDS = 200_000, 10  # of a long set-up; in how many it is read on a busy machine, by a testbench that isn't optimized
 PIPED = (run.RIGHT, "REPLY_TWICE", "UNKNOWN_READ")
@@ -153,16 +154,16 @@ def words_tried(bench: Path) -> Iterator[Case]:
         yield f"with {words}, and no limit of errors", None if is_told else f"status {ran.status}: {ran.text[-300:]!r}"
 
 
-def long_setup(bench: Path) -> Iterator[Case]:
-    """A set-up of very many lines, whose last ones say what the memory began with: the bench finds zeros there."""
+def long_setup(bench: Path, line: str, module: str = "scoreboard") -> Iterator[Case]:
+    """A set-up of very many lines, of which nearly all are this one."""
     setup = bench.parent / "long.lines"
     lines = (run.HERE / "setup.lines").read_text()
-    setup.write_text(lines + "# a line of a set-up\n" * (LINES - len(lines.splitlines())))
+    setup.write_text(lines + line * (LINES - len(lines.splitlines())))
     began = time.monotonic()
     ran = started(bench, f"+zuldegei_setup={setup}", "+seed=1", "+zuldegei_end")
     took = time.monotonic() - began
-    yield f"a set-up of {LINES} lines", failed_wrong(ran, 0, "the run is right")
-    yield f"the time of a set-up of {LINES} lines", None if took < SECONDS else f"{took:.1f} s"
+    yield f"a set-up of {LINES} lines, {line!r}", failed_wrong(ran, 0, "the run is right", module)
+    yield f"the time of a set-up of {LINES} lines, {line!r}", None if took < SECONDS else f"{took:.1f} s"
 
 
 def tried(bug: str, bench: Path, given: argparse.Namespace) -> Iterator[Case]:
@@ -203,7 +204,8 @@ def in_process(given: argparse.Namespace) -> Iterator[Case]:
         for found in pool.map(lambda it: [*tried(*it, given)], zip(bugs, benches)):
             yield from found
         yield from words_tried(first)
-        yield from long_setup(first) if bugs[0] == run.RIGHT else ()
+        for line in LONG_LINES if bugs[0] == run.RIGHT else ():
+            yield from long_setup(first, line)
 
 
 def piped(words: list, asked: run.Asked, score: Path, folder: Path) -> Tuple[str, str]:
