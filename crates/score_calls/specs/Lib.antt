@@ -1,4 +1,5 @@
 pub mod Answers
 pub mod CallCommands
 pub mod CallWords
+pub mod HandleRuns
 pub mod Handles

@@ -1,1 +1,3 @@
+mod LetGo
 mod Lent
+mod Opened

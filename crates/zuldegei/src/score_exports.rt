@@ -1,18 +1,30 @@
 //! The scoreboard: `tlscore_open` makes one, and `tlscore_call` takes the words of calls, which interfaces/c/zuldegei.c puts together.
+ghost use Rattle.std.specs.Prelude.{IfSome};
 ghost use Rattle.std.specs.Borrow.{full_share, sem};
 ghost use Rattle.std.specs.Ptr.{lies_at};
 ghost use base.Fml.{fex};
+ghost use Rattle.score_calls.specs.HandleRuns.{IsNew};
 ghost use Rattle.score_calls.specs.Handles.{Called};
 ghost use Rattle.score_calls.specs.contracts.handle.Handle.{the_row};
 ghost use Rattle.score_calls.specs.declared.handle.Handle as declared;
+ghost use Rattle.zuldegei.specs.Opened.{HandedOut};
 
 use score_calls::Handle;
 use std::alloc::Global;
 
+/// A scoreboard without a set-up, if there is memory for it.
+fn made(alloc: Global) -> Option<Box<Handle>>
+    ensures { IfSome result (λ handle. IsNew handle.value) }
+{
+    Box::new(alloc, Handle::new(alloc)).ok()
+}
+
 /// Makes a scoreboard without a set-up, and hands out where it lies. The answer is whether there was memory.
 #[unsafe(no_mangle)]
-pub extern "C" fn tlscore_open(alloc: Global, out: &mut *mut u8) -> bool {
-    let Ok(handle) = Box::new(alloc, Handle::new(alloc)) else {
+pub extern "C" fn tlscore_open(alloc: Global, out: &mut *mut u8) -> bool
+    ensures* { sem 𝓛 (HandedOut the_row IsNew result out.old out.new) }
+{
+    let Some(handle) = made(alloc) else {
         return false;
     };
     *out = Box::into_raw(handle) as *mut u8;
