@@ -1,10 +1,9 @@
 -- A type's own destructor, which says nothing of the value that it lets go, is what a bound `T: Drop` asks of the type as it is passed.
 use Rattle.std.proofs.Common.{[], ◌∷◌}
 use seplogic.Ra.Ura.{Ura}
-use base.Logic.{SProp, ent, sep, emp, id⊢, mono_l, via}
+use base.Logic.{sep, emp, mono_l, via}
 use base.Fml.{ftrue, fsep, flft}
 use mir.Syntax.{Ty, Dict, Callee, method, no_args}
-use mir.Val.{Val}
 use prog.Model.{Model}
 use prog.Routine.{◌≼⁺◌}
 use contract.Running.{Running}
@@ -18,7 +17,6 @@ use denote.RattleType.{RattleType, owns}
 use denote.Signature.{plain}
 use denote.Steps.{nothing}
 use denote.Triple.Clauses.{Clauses, Ended, closing}
-use denote.Triple.Entry.{alive}
 use denote.Triple.Spec.{Back, Meets, triple_of}
 use denote.Triple.Table.{run_framed, widened}
 

@@ -1,26 +1,26 @@
 -- A function that is handed a place for a pointer has another make a value on the heap, and writes there where it lies: what the other says of the
 -- value holds of what lies there then. Each export that opens a handle is one.
-use Rattle.std.proofs.Common.{◌≡◌, ℕ, List, [], ◌∷◌, ◌++◌, Bool, true, false, IfSome, Some, None, refl, sym, ap, subst, ◌∙◌, lit<, w64, MutBor}
+use Rattle.std.proofs.Common.{◌≡◌, List, [], ◌∷◌, ◌++◌, Bool, true, false, IfSome, Some, None, refl, ap, subst, ◌∙◌, lit<}
 use Rattle.std.proofs.raw_atomic.Walks.{proved}
 use seplogic.Ra.Ura.{Ura}
 use base.Fraction.{full_share}
 use base.Logic.{SProp, ent, id⊢, emp}
-use base.Fml.{Fml, Lft, Incl, ftrue, fsep, feq, fex, flft}
+use base.Fml.{Fml, Lft, ftrue, fsep, fex, flft}
 use mir.Syntax.{Ty, Dict, Body, impl, a_type, dcons, dnil, Sym, ty_bool, ty_ptr, ty_ref, ty_struct, ty_enum, tcons, tnil, ttcons, ttnil, named, mut, local, value_local, place, deref, variant, field, copy, opd_true, opd_false, rv_opd, assign, call, switch, arm, no_default, seq, return, Fn, Callee}
 use mir.Raw.{raw as bare}
 use mir.Val.{Val, has_ty, WT, vbool, vptr, vcons, vnil, of_list}
 use lib.Dec.{T as Tells}
 use prog.Model.{Model}
 use prog.Wired.{Wired}
-use prog.Wp.{Env, Wp, WpFn, Closed, after_seq, at_return}
+use prog.Wp.{Env, Wp, Closed, after_seq, at_return}
 use contract.Monad.{fact, fact_i}
 use contract.BorrowLft.{◌⊑◌, ⊑_static}
 use contract.Running.{Running, tables}
 use types.Logic.{Logic, sem}
-use types.Kit.{Post as After, any_q, at_ret, Sq, Goal, Seq, Item, ‵, raw, ◌⊛◌, some, later, prop, ◌$◌, ◌∵◌, !, qed, done, move, keep, drop, use0, use1, use2, split, split3, join, fsplit, fsplit3, fjoin, fjoin3, fpack, fpick, feq_i, feq_l, pick, await, rewrite, suffices, group}
+use types.Kit.{Post as After, any_q, at_ret, Sq, Goal, Seq, Item, ‵, raw, ◌⊛◌, some, later, prop, ◌$◌, ◌∵◌, !, qed, done, move, keep, drop, use0, use1, use2, split, split3, join, fsplit, fsplit3, fjoin3, fpack, fpick, feq_i, feq_l, pick, await, rewrite, suffices, group}
 use types.Tokens.{lft_new}
 use types.Match.{live, vrt, in_variant}
-use types.Part.{whole, sub}
+use types.Part.{whole}
 use types.Run.{enter, of_opd, true_lit, false_lit, stop, fld, no_more, and_then, assigns, store, first, switches_on, exec, returns, returns_within}
 use types.ByLocal.{alloc_all, pass_all, free_all, look_at, get, get_in, get_tag, through, sets, sets_last, lands_as, env}
 use denote.Builtin.{bool}
@@ -38,7 +38,6 @@ use denote.Signature.{plain, mut_ref_to}
 use denote.Steps.{heard, nothing, only, opens, closes, owned}
 use denote.Triple.Call.{calls_at}
 use denote.Triple.Clauses.{Clauses, Ended, closing, lasts}
-use denote.Triple.Entry.{on_entry}
 use denote.Triple.Spec.{Meets, triple_of}
 use denote.Triple.Walked.{Stays, walk_of, stay_dropped, Goes-dropped, stay_ref, Goes-ref, ends_at}
 use denote.Triple.Table.{framed}
@@ -180,11 +179,11 @@ module _ (T : RattleType) (τ : Ty) (L : Laws (arg τ no T)) (drops : Dict) (Is 
         let y : W.Ghost = ((κs, qs, bounds, a, (heap_val ∷ [], (vs, tt))), tt) in
         let Ref : Ptr → Fml = λ p. (MutRef (named 0) κ RawPtr).own_val (record r { now = p }) vs in
         let ends : (told : Bool) (now : Ptr) → Sq 𝓛 (‵ (Ref now) ∷ ‵ (flft κ q) ∷ ‵ (HandedOut T Is told r.now now) ∷ []) (prop (W.post y (vbool told))) = λ told now.
-            suffices ! _ (ends_at 𝓛 opener stayed c y (vbool told) told (tt, (now, tt)) (tt, (tt, tt))) $
-            nothing ! $ move ! (1 ∷ 0 ∷ []) $ join ! $ nothing ! $ join ! $ nothing ! $ move ! (2 ∷ 0 ∷ []) $ join ! $
-            owned ! bool _ (bool_Makes 𝓛) told _ refl $ move ! (1 ∷ 2 ∷ 0 ∷ []) $ group ! 3 $ done ! in
+        suffices ! _ (ends_at 𝓛 opener stayed c y (vbool told) told (tt, (now, tt)) (tt, (tt, tt))) $
+        nothing ! $ move ! (1 ∷ 0 ∷ []) $ join ! $ nothing ! $ join ! $ nothing ! $ move ! (2 ∷ 0 ∷ []) $ join ! $
+        owned ! bool _ (bool_Makes 𝓛) told _ refl $ move ! (1 ∷ 2 ∷ 0 ∷ []) $ group ! 3 $ done ! in
         qed 𝓛 (((‵ (flft κ q) ⊛ ‵ ftrue) ⊛ ‵ ((Heap.the_row).own_val a.0 (heap_val ∷ [])) ⊛ ‵ (Ref r.now) ⊛ ‵ ftrue) ∷ ‵ ftrue ∷ []) ∵
-        split ! $ split ! $ move ! (2 ∷ []) $ split3 ! $ keep ! (0 ∷ 1 ∷ 3 ∷ []) $ 
+        split ! $ split ! $ move ! (2 ∷ []) $ split3 ! $ keep ! (0 ∷ 1 ∷ 3 ∷ []) $
         enter ! _ _ _ _ _ $ alloc_all ! (λ l. pass_all ! refl ((tt, ((tt, tt), tt)), ((tt, tt), tt)) $
         -- [the allocator; the reference; its token]
         let Gm = triple_of 𝓛 maker.signature (closing 𝓛 maker (maker_clauses 𝓤)) in
@@ -205,7 +204,7 @@ module _ (T : RattleType) (τ : Ty) (L : Laws (arg τ no T)) (drops : Dict) (Is 
         lands_as ! (ev ∙ ap (λ xs. live 1 (of_list (xs ++ []))) ws) refl full $ first ! $ switches_on ! (get_tag ! (vrt ! refl (fld ! refl (stop !))) (whole !)) $
         exec ! 𝓣.C 𝓣.Λ En (arm_body 0 choice) Then $ sets_last ! (of_opd ! (get_in ! (vrt ! refl (fld ! refl (stop !))) (in_variant ! 1 0 refl refl (whole !)))) refl typed $
         exec ! 𝓣.C 𝓣.Λ En (after 2 fn.body) (at_ret En Post) $ sets ! (of_opd ! (get ! refl)) refl typed $
-        lft_new ! tt (λ α. lft_new ! tt (λ β. 
+        lft_new ! tt (λ α. lft_new ! tt (λ β.
         let x : k.Ghost = (((α ∷ [], (β ∷ [], tt)), (full_share, (full_share, tt)), tt, (b, tt), (w ∷ [], tt)), tt) in
         let tokens = ‵ (flft (α ∷ []) full_share) ⊛ ‵ (flft (β ∷ []) full_share) ⊛ ‵ ftrue in
         nothing ! $ move ! (1 ∷ 0 ∷ []) $ join ! $ move ! (1 ∷ 0 ∷ []) $ join ! $ move ! (1 ∷ []) $ nothing ! $ move ! (1 ∷ 0 ∷ []) $ join ! $ move ! (1 ∷ 0 ∷ []) $ join ! $
