@@ -254,7 +254,7 @@ STATEMENTS = (
 )
 
 BEGINS = re.compile(r"^(?:(?:abbrev|unfoldable|opaque) )?(?:pub )?(?:(record|data) )?([\w◌≡-]+)(?= )")
-NAMES = re.compile(r"^use Rattle\.([\w.]+?)(?:\.\{(.*)\}| as (\w+))$")
+NAMES = re.compile(r"^use (?:Rattle\.)?([\w.]+?)(?:\.\{(.*)\}| as (\w+))$")
 
 
 @dataclass
