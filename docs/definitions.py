@@ -235,8 +235,6 @@ STATEMENTS = (
             ("script_text", "Scripts", "EndsOrStops"),
             ("score_script", "Scores", "score_reading"),
             ("score_script", "Scores", "opening_state"),
-            ("script_text", "Scripts", "text_of"),
-            ("script_text", "Scripts", "text_before_failure"),
         ),
     ),
     Statement(
@@ -250,6 +248,18 @@ STATEMENTS = (
         "What a call of the model's handle does",
         "`bridge_calls::BridgeHandle::call`.",
         (("bridge_calls", "Handles", "Called"),),
+    ),
+    Statement(
+        "score-calls",
+        "What a list of calls of the scoreboard's handle comes to",
+        "`score_calls::Handle::new`, clause `exactly`.",
+        (("score_calls", "HandleRuns", "OnlyExact"),),
+    ),
+    Statement(
+        "bridge-calls",
+        "What a list of calls of the model's handle comes to",
+        "`bridge_calls::BridgeHandle::new`, clause `runs`.",
+        (("bridge_calls", "HandleRuns", "OnlyRuns"),),
     ),
 )
 

@@ -29,14 +29,14 @@ all_map : {X Y : Type 0} (p : Y → Bool) (f : X → Y) (xs : List X) → ((x : 
 all_map p f [] each = refl
 all_map p f (x ∷ xs) each = grind (arith, each x, all_map p f xs each)
 
-all_at : {X : Type 0} (p : X → Bool) (xs : List X) (k : ℕ) (x : X) → list_all p xs ≡ true → slice_get xs k ≡ Some x → p x ≡ true
+pub all_at : {X : Type 0} (p : X → Bool) (xs : List X) (k : ℕ) (x : X) → list_all p xs ≡ true → slice_get xs k ≡ Some x → p x ≡ true
 all_at p [] k x all there = absurd (cc (there))
 all_at p (y ∷ ys) zero x all there = grind (arith, all, there)
 all_at p (y ∷ ys) (suc k) x all there = grind (arith, all, there, all_at p ys k x)
 
 -- ---- steps
 
-abbrev is_own : Step → Bool
+abbrev pub is_own : Step → Bool
 is_own (Offer client beat) = false
 is_own Pump = true
 is_own (Perform serial beat) = true
@@ -48,7 +48,7 @@ pump_own : (burst : Option Burst) → list_all is_own (if is_some burst then Pum
 pump_own None = refl
 pump_own (Some burst) = refl
 
-own_enabled : (state : WorldState) → list_all is_own (enabled state) ≡ true
+pub own_enabled : (state : WorldState) → list_all is_own (enabled state) ≡ true
 own_enabled state =
     let performs = map perform_at (waiting_beats state.memory) in
     let bs = map AnswerB (ids_with_b state.memory) in

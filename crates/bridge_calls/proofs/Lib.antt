@@ -1,2 +1,3 @@
+mod CallRuns
 mod Choosing
 mod SetUpLines

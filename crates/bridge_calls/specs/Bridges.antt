@@ -3,6 +3,7 @@ use Rattle.std.specs.Prelude.{ℕ, ◌≡◌, List, [], length, IsTrue, if◌the
 use Rattle.axi_beats.specs.Boxes.{w_beats_of}
 use Rattle.tl_messages.specs.declared.DBeat.{DBeat}
 use Rattle.setups.specs.Setups.{SetupLists}
+use Rattle.world.specs.Choices.{LeadsTo}
 use Rattle.world.specs.Laws.{IsDrained, IsSoundWorld, TakeAll}
 use Rattle.world.specs.World.{Outcome, WorldState, byte_of, drained, enabled, in_flight, is_reply, leaves_all, next, opening_world, work_left}
 use Rattle.world.specs.declared.Answer.{Answer}
@@ -50,6 +51,8 @@ pub record AfterDrain (old : BridgeState) (made : ℕ) (new : BridgeState) : Typ
   pub answer : made ≡ (drained old.world).0
   pub state : new ≡ record old { world = (drained old.world).1 }
   pub drains : IsDrained old.world made new.world
+  -- each is the first that is enabled, and bridge and memory agree before it
+  pub leads : LeadsTo old.world made new.world
   pub laws : IsSoundWorld new.world
   pub order : (order : Order) → KeepsOrder order old.world → KeepsOrder order new.world
 

@@ -1,7 +1,8 @@
 -- What lies behind a handle, and what a call does there (this project's profile).
-use Rattle.std.specs.Prelude.{ℕ, ◌≡◌, ◌+◌, ◌/◌, Bool, true, false, List, [], Option, Some, None, Result, Ok, Err, get_or}
+use Rattle.std.specs.Prelude.{ℕ, ◌≡◌, ◌+◌, ◌/◌, Bool, true, false, List, [], Option, Some, None, Result, Ok, Err, IfOk, get_or}
 use Rattle.script_text.specs.Stages.{GivesWorld, world_at}
 use Rattle.script_text.specs.declared.faults.ScriptFault.{ScriptFault}
+use Rattle.world.specs.Laws.{IsSoundWorld}
 use Rattle.world.specs.declared.Step.{Step}
 use Rattle.call_words.specs.Answers.{FaultTold, fault_answer}
 use Rattle.call_words.specs.CallWords.{byte_in, bytes_of, low_in}
@@ -64,11 +65,12 @@ abbrev pub BegunLeft : Result BridgeState ScriptFault → Stage → ℕ → Type
 BegunLeft (Ok bridge) new answer = (new ≡ Running bridge) × (answer ≡ 0)
 BegunLeft (Err fault) new answer = (new ≡ Closed) × (answer ≡ fault_answer fault)
 
--- its world is made, and is in order
+-- its world is made and in order, and bridge and memory agree there
 pub record Begun (old : SetUpState) (new : Stage) (answer : ℕ) : Type 0 where
   pub given : Result BridgeState ScriptFault
   pub made : GivesWorld (λ (bridge : BridgeState). bridge) (world_at set_up_kind (stage_in old) (old.number + 1)) given
   pub order : OpensInOrder (stage_in old) given
+  pub laws : IfOk given (λ (bridge : BridgeState). IsSoundWorld bridge.world)
   pub left : BegunLeft given new answer
 
 abbrev pub BeginDone : Stage → Stage → ℕ → Type 0

@@ -25,6 +25,8 @@ set_up_kind =
       opened = λ own setup. unless_refused (opening_bridge setup) (setup_fault setup);
       commanded = λ bridge number command. Err 1;
       ending = λ bridge. ([], false);
+      wants = λ bridge command. false;
+      wants_at_end = λ bridge. false;
     }
 
 abbrev pub set_up_reading : Reading (Stage SetupLists (Unit {0}) BridgeState) Bool

@@ -2,6 +2,7 @@
 ghost use Rattle.std.specs.Prelude.{◌≡◌, ◌⊎◌, Some, IfErr, IfOk, IfSome, slice_get};
 ghost use Rattle.setups.specs.Setups.{lists_of, setup_fault};
 ghost use Rattle.setups.specs.declared.SetupFault.TheVariants.{NoMemory};
+ghost use Rattle.world.specs.Laws.{IsSoundWorld};
 ghost use Rattle.world.specs.World.{enabled, next};
 ghost use Rattle.bridge_calls.specs.Bridges.{AfterDrain, AfterStep, asked_of, opening_bridge};
 
@@ -64,6 +65,13 @@ impl Bridge {
             reply,
             last: Answer::Nothing,
         })
+    }
+
+    /// Bridge and memory agree, as they always do: it does nothing, and is there for what it says.
+    pub(crate) fn agrees(&self)
+        ensures { IsSoundWorld self.now.world }
+    {
+        let _ = &self.last;
     }
 
     /// Makes a step.

@@ -3,6 +3,7 @@ ghost use Rattle.std.specs.Prelude.{◌≡◌, ◌/◌, []};
 ghost use Rattle.call_words.specs.Answers.{FaultTold, fault_answer};
 ghost use Rattle.call_words.specs.CallWords.{byte_in, bytes_of, low_in};
 ghost use Rattle.call_words.specs.PendingCalls.{no_call};
+ghost use Rattle.bridge_calls.specs.HandleRuns.{OnlyRuns};
 ghost use Rattle.bridge_calls.specs.Handles.{BeginDone, Called, DrainTold, Finished, LineDone, StepTold, asked_in};
 ghost use Rattle.bridge_calls.specs.SetUps.{no_line};
 ghost use Rattle.bridge_calls.specs.declared.handle.Stage.TheVariants.{Closed, SettingUp};
@@ -47,6 +48,7 @@ impl BridgeHandle {
         ensures stage { result.stage ≡ SettingUp no_line }
         ensures call { result.call ≡ no_call }
         ensures text { result.text.items ≡ [] }
+        ensures runs { OnlyRuns result }
     {
         BridgeHandle {
             alloc,

@@ -1,5 +1,6 @@
 //! The set-up: lines as they stand in a script of `tlbridge run` before its first command.
-ghost use Rattle.std.specs.Prelude.{◌≡◌, ◌+◌};
+ghost use Rattle.std.specs.Prelude.{◌≡◌, ◌+◌, IfOk};
+ghost use Rattle.world.specs.Laws.{IsSoundWorld};
 ghost use Rattle.script_text.specs.Stages.{GivesWorld, Opening, world_at};
 ghost use Rattle.bridge_calls.specs.SetUps.{OpensInOrder, SetUpTold, set_up_kind, stage_in};
 
@@ -161,8 +162,11 @@ impl SetUp {
     pub(crate) fn begin(self, alloc: Global) -> Result<Bridge, ScriptFault>
         ensures world { GivesWorld (λ bridge. bridge) (world_at set_up_kind (stage_in self) (self.number + 1)) result }
         ensures order { OpensInOrder (stage_in self) result }
+        ensures laws { IfOk result (λ bridge. IsSoundWorld bridge.world) }
     {
         let SetUp { script, number } = self;
-        script.into_world(alloc, number + 1)
+        let bridge = script.into_world(alloc, number + 1)?;
+        bridge.agrees();
+        Ok(bridge)
     }
 }

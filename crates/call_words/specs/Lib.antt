@@ -1,3 +1,4 @@
 pub mod Answers
 pub mod CallWords
 pub mod PendingCalls
+pub mod WordLists

@@ -51,6 +51,8 @@ check_kind =
       opened = λ own setup. opened setup.config (is_valid setup.config);
       commanded = λ table number command. Ok (check_text table command, table_after table command);
       ending = λ table. ([], table.refused);
+      wants = λ table command. false;
+      wants_at_end = λ table. false;
     }
 
 abbrev pub check_reading : Reading (Stage SetupLists (Unit {0}) PortTable) Bool

@@ -93,6 +93,8 @@ run_kind =
       opened = λ own setup. unless_refused (opening_world setup) (setup_fault setup);
       commanded = λ world number command. Ok (commanded world command);
       ending = λ world. ([], false);
+      wants = λ world command. false;
+      wants_at_end = λ world. false;
     }
 
 abbrev pub run_reading : Reading (Stage SetupLists (Unit {0}) WorldState) Bool

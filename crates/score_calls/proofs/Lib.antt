@@ -1,1 +1,2 @@
+mod CallsJudged
 mod Fillings

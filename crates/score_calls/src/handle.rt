@@ -4,6 +4,7 @@ ghost use Rattle.call_words.specs.Answers.{FaultTold};
 ghost use Rattle.call_words.specs.CallWords.{byte_in, bytes_of};
 ghost use Rattle.call_words.specs.PendingCalls.{no_call};
 ghost use Rattle.score_calls.specs.Answers.{answer_of};
+ghost use Rattle.score_calls.specs.HandleRuns.{OnlyExact};
 ghost use Rattle.score_calls.specs.Handles.{BeginDone, Called, CommandTold, Finished, LineDone, TextTold, asked_in, no_line};
 ghost use Rattle.score_calls.specs.declared.handle.Stage.TheVariants.{Closed, SettingUp};
 
@@ -46,6 +47,7 @@ impl Handle {
         ensures stage { result.stage ≡ SettingUp no_line }
         ensures call { result.call ≡ no_call }
         ensures text { result.text.items ≡ [] }
+        ensures exactly { OnlyExact }
     {
         Handle {
             alloc,

@@ -1,11 +1,12 @@
 -- What is written of a command that is carried out: what it finds, and what has no answer.
-use Rattle.std.proofs.Common.{◌≡◌, ◌++◌, ℕ, List, [], Bool, ◌||◌, Option, refl, subst, ap, ap₂, ◌∙◌}
+use Rattle.std.proofs.Common.{◌≡◌, ◌++◌, ℕ, List, [], Bool, ◌||◌, Option, append-nil, refl, subst, sym, ap, ap₂, ◌∙◌}
 use Rattle.std.proofs.lemmas.List.{append_assoc}
 use Rattle.score_script.specs.FindingTexts.{optional_text}
 use Rattle.score_script.specs.Scores.{Score, commanded_score, finds, finds_text, line_at, observed_as, settling, unanswered_by}
 use Rattle.score_script.specs.declared.findings.Line.{Line}
 use Rattle.scoreboard.specs.declared.ObservedBeat.{ObservedBeat}
 use Rattle.score_script.specs.declared.findings.Finding.{Finding}
+use Rattle.score_script.specs.declared.lines.SeenBeat.{SeenBeat}
 use Rattle.score_script.specs.declared.score.Command.{Command}
 use Rattle.score_script.specs.declared.score.Command.TheVariants as command
 use Rattle.scoreboard.specs.declared.ObservedBeat.TheVariants.{A, D, Axi, Drained}
@@ -42,3 +43,16 @@ text_written score after number said held own old between new found left is_held
     ∙ append_assoc (optional_text own_text.held) (optional_text own_text.own) own_text.unanswered in
     subst (λ (text : List ℕ). Wrote text old new (found || left)) texts
     (wrote_both (optional_text held ++ optional_text own) (unanswered_by after number said) old between new found left first second)
+
+-- of an observed beat what it finds is all
+pub observed_written : (score : Score) (number : ℕ) (seen : SeenBeat) (held own : Option Finding) (old new : Option (List ℕ)) (found : Bool)
+    → held ≡ (finds score number (command.Observed seen)).held → own ≡ (finds score number (command.Observed seen)).own
+    → Wrote (optional_text held ++ optional_text own) old new found → Wrote (finds_text (finds score number (command.Observed seen))) old new found
+observed_written score number seen held own old new found is_held is_own wrote =
+    let own_text = finds score number (command.Observed seen) in
+    let whole : optional_text own_text.own ≡ optional_text own_text.own ++ own_text.unanswered =
+    sym (append-nil (optional_text own_text.own)) ∙ ap (λ (left : List ℕ). optional_text own_text.own ++ left) (left_text score number (command.Observed seen)) in
+    let texts : optional_text held ++ optional_text own ≡ finds_text own_text =
+    ap₂ (λ (one other : Option Finding). optional_text one ++ optional_text other) is_held is_own
+    ∙ ap (λ (back : List ℕ). optional_text own_text.held ++ back) whole in
+    subst (λ (text : List ℕ). Wrote text old new found) texts wrote

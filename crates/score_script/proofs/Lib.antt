@@ -4,3 +4,4 @@ mod FillLaws
 mod UnansweredLines
 mod Carried
 mod UnknownNumbers
+mod Wanting

@@ -80,24 +80,24 @@ line_told old new line said told done taken = told_by old new line said (wrong_c
 -- ---- a line of the set-up
 
 -- by its number, and how far the set-up had come
-pub setup_fault_told : (old new : SetUpState) (line : List ℕ) (number : ℕ) (stage after : Stage RangeLists Asked Score) (fault : ScriptFault) (before behind : Option (List ℕ)) → stage ≡ stage_in old → number ≡ old.number + 1
-    → TakesStep score_reading true (line_step score_reading stage number (strip_carriage_return line)) nothing_written stage after before behind (Err fault) → SetUpTold old line new (Err fault)
-setup_fault_told old new line number stage after (Script at word) before behind there is step = inl (ap₂ (λ (s : Stage RangeLists Asked Score) (n : ℕ). line_step score_reading s n (strip_carriage_return line)) (sym there) (sym is) ∙ step.0)
-setup_fault_told old new line number stage after (Setup fault) before behind there is step = ap₂ (λ (s : Stage RangeLists Asked Score) (n : ℕ). line_step score_reading s n (strip_carriage_return line)) (sym there) (sym is) ∙ step.0
-setup_fault_told old new line number stage after Read before behind there is step = step
-setup_fault_told old new line number stage after Write before behind there is step = rw (sym there, sym is) step
-setup_fault_told old new line number stage after NoMemory before behind there is (inl (silent, gives), kept) =
+pub setup_fault_told : (grows : Bool) (old new : SetUpState) (line : List ℕ) (number : ℕ) (stage after : Stage RangeLists Asked Score) (fault : ScriptFault) (before behind : Option (List ℕ)) → stage ≡ stage_in old → number ≡ old.number + 1
+    → TakesStep score_reading grows (line_step score_reading stage number (strip_carriage_return line)) nothing_written stage after before behind (Err fault) → SetUpTold old line new (Err fault)
+setup_fault_told grows old new line number stage after (Script at word) before behind there is step = inl (ap₂ (λ (s : Stage RangeLists Asked Score) (n : ℕ). line_step score_reading s n (strip_carriage_return line)) (sym there) (sym is) ∙ step.0)
+setup_fault_told grows old new line number stage after (Setup fault) before behind there is step = ap₂ (λ (s : Stage RangeLists Asked Score) (n : ℕ). line_step score_reading s n (strip_carriage_return line)) (sym there) (sym is) ∙ step.0
+setup_fault_told grows old new line number stage after Read before behind there is step = step
+setup_fault_told grows old new line number stage after Write before behind there is step = rw (sym there, sym is) step
+setup_fault_told grows old new line number stage after NoMemory before behind there is (inl (silent, gives), kept) =
     let done = ap₂ (λ (s : Stage RangeLists Asked Score) (n : ℕ). line_step score_reading s n (strip_carriage_return line)) (sym there) (sym is) ∙ gives.0.step_is in rw done refl
-setup_fault_told old new line number stage after NoMemory before behind there is (inr (grows, stands), kept) =
+setup_fault_told grows old new line number stage after NoMemory before behind there is (inr (may, stands), kept) =
     let done = ap₂ (λ (s : Stage RangeLists Asked Score) (n : ℕ). line_step score_reading s n (strip_carriage_return line)) (sym there) (sym is) ∙ stands.step_is in rw done refl
 
 -- where the line's step ended so
-pub setup_err_told : (old new : SetUpState) (line : List ℕ) (number : ℕ) (stage after : Stage RangeLists Asked Score) (told : Result Bool ScriptFault) (fault : ScriptFault) (before behind : Option (List ℕ)) → stage ≡ stage_in old
+pub setup_err_told : (grows : Bool) (old new : SetUpState) (line : List ℕ) (number : ℕ) (stage after : Stage RangeLists Asked Score) (told : Result Bool ScriptFault) (fault : ScriptFault) (before behind : Option (List ℕ)) → stage ≡ stage_in old
     → number ≡ old.number + 1 → told ≡ Err fault
-    → TakesStep score_reading true (line_step score_reading stage number (strip_carriage_return line)) nothing_written stage after before behind told → SetUpTold old line new (Err fault)
-setup_err_told old new line number stage after told fault before behind there is ended step =
-    setup_fault_told old new line number stage after fault before behind there is
-    (subst (λ (t : Result Bool ScriptFault). TakesStep score_reading true (line_step score_reading stage number (strip_carriage_return line)) nothing_written stage after before behind t) ended step)
+    → TakesStep score_reading grows (line_step score_reading stage number (strip_carriage_return line)) nothing_written stage after before behind told → SetUpTold old line new (Err fault)
+setup_err_told grows old new line number stage after told fault before behind there is ended step =
+    setup_fault_told grows old new line number stage after fault before behind there is
+    (subst (λ (t : Result Bool ScriptFault). TakesStep score_reading grows (line_step score_reading stage number (strip_carriage_return line)) nothing_written stage after before behind t) ended step)
 
 -- one that has text is refused so
 pub setup_text_told : (old other : SetUpState) (line : List ℕ) (number : ℕ) (stage after : Stage RangeLists Asked Score) (before behind : Option (List ℕ)) (wrote : Bool) → stage ≡ stage_in old → number ≡ next_number old.number

@@ -18,6 +18,7 @@ use Rattle.score_script.specs.declared.score.Counts.{Counts}
 use Rattle.score_script.specs.declared.score.HeldBeat.{HeldBeat}
 use Rattle.burst_plan.specs.declared.Region.{Region}
 use Rattle.scoreboard.specs.Places.{wrong_place}
+use Rattle.scoreboard.specs.Room.{asks_for_room}
 use Rattle.scoreboard.specs.Unanswered.{messages_begun, writes_without_address}
 use Rattle.scoreboard.specs.declared.ObservedBeat.{ObservedBeat}
 use Rattle.scoreboard.specs.declared.ObservedBeat.TheVariants.{A, D, Axi, Drained}
@@ -307,6 +308,19 @@ finds_text given = optional_text given.held ++ (optional_text given.own ++ given
 abbrev pub commanded : Score → ℕ → Command → Result (List ℕ × Score) ℕ
 commanded score number said = unless_wrong (finds_text (finds score number said), commanded_score score number said) (wrong_command score said)
 
+-- ---- where memory may be asked for
+
+-- whether a beat that is held gives bytes to a good page, which may have no room for them
+abbrev pub held_wants : PolicyBoard → Option HeldBeat → Bool
+held_wants judge None = false
+held_wants judge (Some held) = asks_for_room judge.policy judge.board (λ page. false) (A held.client held.beat)
+
+-- at a command: where it fills the memory, or the held beat is judged, and that beat does
+abbrev pub command_wants : Score → Command → Bool
+command_wants score (command.Fill address bytes) = true
+command_wants score command.Withdrawal = false
+command_wants score said = held_wants score.board score.held
+
 -- ---- a whole observation
 
 -- the held beat is judged, and the last line tells how many beats were, and how many bytes were compared, with whether a beat is wrong
@@ -333,6 +347,8 @@ score_kind =
       opened = λ asked setup. unless_refused (opening_score asked setup) (score_setup_fault (one_by_one setup));
       commanded = commanded;
       ending = λ score. closing (settling score);
+      wants = command_wants;
+      wants_at_end = λ score. held_wants score.board score.held;
     }
 
 -- an observation as it is read: a board is made at the end where none was

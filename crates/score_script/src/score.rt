@@ -1,13 +1,15 @@
 //! What was found of the beats that were read so far, and what each line finds.
-ghost use Rattle.std.specs.Prelude.{◌≡◌, ◌⊎◌, Err, IfErr, IfOk, IfSome, None, OnErr, OnOk, Some, if◌then◌else◌, is_some, true};
+ghost use Rattle.std.specs.Prelude.{◌≡◌, ◌⊎◌, Err, IfErr, IfOk, IfSome, None, OnErr, OnOk, Some, false, if◌then◌else◌, is_some, true};
 ghost use Rattle.std.specs.Option.{option_or};
 ghost use Rattle.script_text.specs.Stages.{Writes, WritesEnd};
+ghost use Rattle.script_text.specs.declared.faults.ScriptFault.TheVariants as script;
 ghost use Rattle.scoreboard.specs.Observed.{is_request};
+ghost use Rattle.scoreboard.specs.Room.{asks_for_room};
 ghost use Rattle.score_setup.specs.ScoreSetups.{lists_of, ranges_of, score_setup_fault};
 ghost use Rattle.setups.specs.declared.SetupFault.TheVariants.{NoMemory};
 ghost use Rattle.score_script.specs.Profiles.{byte_in, filled_in};
 ghost use Rattle.score_script.specs.declared.profiles.Asked.{Asked};
-ghost use Rattle.score_script.specs.Scores.{found, FailsBy, Leaves, LeavesBy, begins_after, called_score, counts_of, finds_at_once, judged_behind, commanded, commanded_score, unanswered_by, wrong_command, wrong_fill, beats_judged, client_of, closing, counted, ended_score, finds, judging, line_at, misplaced_in, observing, opening_score, reset_score, settling, unclear, unknown_on, with_more, without_data, wrong_behind};
+ghost use Rattle.score_script.specs.Scores.{found, FailsBy, Leaves, LeavesBy, begins_after, called_score, command_wants, held_wants, counts_of, finds_at_once, judged_behind, commanded, commanded_score, unanswered_by, wrong_command, wrong_fill, beats_judged, client_of, closing, counted, ended_score, finds, judging, line_at, misplaced_in, observing, opening_score, reset_score, settling, unclear, unknown_on, with_more, without_data, wrong_behind};
 ghost use Rattle.score_script.specs.ScoreStates.{score_of};
 ghost use Rattle.score_script.specs.declared.score.Command.TheVariants.{Answer, Observed};
 ghost use Rattle.score_script.specs.FindingTexts.{WritesText};
@@ -300,6 +302,7 @@ impl Score {
         ensures kept { OnErr result (score_of self.new ≡ score_of self.old) }
         ensures quiet { OnErr result (finding.new ≡ finding.old) }
         ensures grows { OnErr result (is_request seen.now.beat ≡ true) }
+        ensures cause { OnErr result (asks_for_room (score_of self.old).board.policy (score_of self.old).board.board (λ page. false) seen.now.beat ≡ true) }
     {
         let SeenBeat { beat, unknown } = seen;
         let telling = self.board.telling(beat);
@@ -322,6 +325,7 @@ impl Score {
         ensures state { OnOk result (score_of self.new ≡ (settling (score_of self.old)).1) }
         ensures kept { OnErr result (score_of self.new ≡ score_of self.old) }
         ensures quiet { OnErr result (finding.new ≡ finding.old) }
+        ensures cause { OnErr result (held_wants (score_of self.old).board self.old.held ≡ true) }
     {
         if self.held.is_none() {
             *finding = None;
@@ -338,6 +342,7 @@ impl Score {
         ensures state { OnOk result (score_of self.new ≡ (settling (score_of self.old)).1) }
         ensures kept { OnErr result (score_of self.new ≡ score_of self.old) }
         ensures quiet { OnErr result (finding.new ≡ finding.old) }
+        ensures cause { OnErr result (held_wants (score_of self.old).board self.old.held ≡ true) }
     {
         let Some(held) = self.held else {
             unreachable!();
@@ -368,6 +373,7 @@ impl Score {
         ensures state { OnOk result (score_of self.new ≡ (observing (settling (score_of self.old)) line seen.now).after) }
         ensures kept { OnErr result (score_of self.new ≡ score_of self.old) }
         ensures quiet { OnErr result (findings.new.held ≡ findings.old.held) }
+        ensures cause { OnErr result (held_wants (score_of self.old).board self.old.held ≡ true) }
     {
         self.settle(&mut findings.held)?;
         let ObservedBeat::A(client, beat) = seen.beat else {
@@ -398,6 +404,7 @@ impl Score {
         ensures state { OnOk result (score_of self.new ≡ (unclear (settling (score_of self.old)) line channel client).after) }
         ensures kept { OnErr result (score_of self.new ≡ score_of self.old) }
         ensures quiet { OnErr result (findings.new.held ≡ findings.old.held) }
+        ensures cause { OnErr result (held_wants (score_of self.old).board self.old.held ≡ true) }
     {
         self.settle(&mut findings.held)?;
         let wrong = unknown_on(self.board.clients(), channel, client);
@@ -414,6 +421,7 @@ impl Score {
         ensures state { OnOk result (score_of self.new ≡ reset_score (settling (score_of self.old)).1) }
         ensures kept { OnErr result (score_of self.new ≡ score_of self.old) }
         ensures quiet { OnErr result (findings.new.held ≡ findings.old.held) }
+        ensures cause { OnErr result (held_wants (score_of self.old).board self.old.held ≡ true) }
     {
         self.settle(&mut findings.held)?;
         findings.own = None;
@@ -428,6 +436,7 @@ impl Score {
         ensures state { OnOk result (score_of self.new ≡ ended_score (settling (score_of self.old)).1) }
         ensures kept { OnErr result (score_of self.new ≡ score_of self.old) }
         ensures quiet { OnErr result (findings.new.held ≡ findings.old.held) }
+        ensures cause { OnErr result (held_wants (score_of self.old).board self.old.held ≡ true) }
     {
         self.settle(&mut findings.held)?;
         findings.own = None;
@@ -443,6 +452,7 @@ impl Score {
     fn check_open(&self, number: u32) -> Result<(), ScriptFault>
         ensures open { OnOk result (wrong_behind (score_of self.now) ≡ None) }
         ensures fault { IfErr result (λ fault. FailsBy number (wrong_behind (score_of self.now)) fault) }
+        ensures place { IfErr result (λ fault. fault ≡ script.Script number 1) }
     {
         if self.ended {
             return Err(ScriptFault::Script {
@@ -497,6 +507,7 @@ impl Score {
         ensures kept { OnErr result (score_of self.new ≡ score_of self.old) }
         ensures quiet { OnErr result (findings.new.held ≡ findings.old.held) }
         ensures fault { IfErr result (λ fault. FailsBy number (wrong_command (score_of self.old) command.now) fault) }
+        ensures cause { IfErr result (λ fault. fault ≡ script.NoMemory → command_wants (score_of self.old) command.now ≡ true) }
     {
         match command {
             Command::Observed(seen) => {
@@ -554,6 +565,7 @@ impl Score {
         ensures state { OnOk result (score_of self.new ≡ commanded_score (score_of self.old) number (Observed seen.now)) }
         ensures kept { OnErr result (score_of self.new ≡ score_of self.old) }
         ensures fault { IfErr result (λ fault. FailsBy number (wrong_behind (score_of self.old)) fault) }
+        ensures cause { IfErr result (λ fault. fault ≡ script.NoMemory → held_wants (score_of self.old).board self.old.held ≡ true) }
     {
         self.check_open(number)?;
         self.observe(self.line_at(number), seen, findings)?;
@@ -575,6 +587,7 @@ impl Score {
         ensures kept { OnErr result (score_of self.new ≡ score_of self.old) }
         ensures quiet { OnErr result (findings.new.held ≡ findings.old.held) }
         ensures fault { IfErr result (λ fault. FailsBy number (wrong_command (score_of self.old) command.now) fault) }
+        ensures cause { IfErr result (λ fault. fault ≡ script.NoMemory → command_wants (score_of self.old) command.now ≡ true) }
     {
         let begins = begins_after(self.begins, command);
         self.find(number, command, findings)?;
@@ -685,7 +698,7 @@ impl Score {
         command: &Command,
         writer: &mut W,
     ) -> Result<bool, ScriptFault>
-        ensures { Writes true number (commanded (score_of self.old) number command.now) (score_of self.new) (W.contents writer.old) (W.contents writer.new) result }
+        ensures { Writes (command_wants (score_of self.old) command.now) number (commanded (score_of self.old) number command.now) (score_of self.new) (W.contents writer.old) (W.contents writer.new) result }
     {
         let mut findings = Findings::none();
         self.take(number, command, &mut findings)?;
@@ -702,7 +715,7 @@ impl Score {
         seen: &SeenBeat,
         writer: &mut W,
     ) -> Result<bool, ScriptFault>
-        ensures { Writes true number (commanded (score_of self.old) number (Observed seen.now)) (score_of self.new) (W.contents writer.old) (W.contents writer.new) result }
+        ensures { Writes (command_wants (score_of self.old) (Observed seen.now)) number (commanded (score_of self.old) number (Observed seen.now)) (score_of self.new) (W.contents writer.old) (W.contents writer.new) result }
     {
         let mut findings = Findings::none();
         self.take_seen(number, seen, &mut findings)?;
@@ -716,7 +729,7 @@ impl Score {
         _number: u32,
         writer: &mut W,
     ) -> Result<bool, ScriptFault>
-        ensures { Writes true _number (commanded (score_of self.old) _number Answer) (score_of self.new) (W.contents writer.old) (W.contents writer.new) result }
+        ensures { Writes (command_wants (score_of self.old) Answer) _number (commanded (score_of self.old) _number Answer) (score_of self.new) (W.contents writer.old) (W.contents writer.new) result }
     {
         if self.held.is_none() {
             return Ok(false);
@@ -729,7 +742,7 @@ impl Score {
     /// Judges the beat that is held, and writes the last line. The answer is whether a beat is wrong. A fault is that of the
     /// writer, or that memory was refused.
     pub(crate) fn close<W: Write>(&mut self, writer: &mut W) -> Result<bool, ScriptFault>
-        ensures { WritesEnd true (closing (settling (score_of self.old))) (W.contents writer.old) (W.contents writer.new) result }
+        ensures { WritesEnd (held_wants (score_of self.old).board self.old.held) (closing (settling (score_of self.old))) (W.contents writer.old) (W.contents writer.new) result }
     {
         let mut held = None;
         self.settle(&mut held)?;

@@ -1,6 +1,6 @@
 //! An observation, as it is read.
 ghost use Rattle.std.specs.Prelude.{true};
-ghost use Rattle.script_text.specs.Scripts.{EndsOrStops, text_before_failure, text_of};
+ghost use Rattle.script_text.specs.Scripts.{EndsOrStops};
 ghost use Rattle.score_script.specs.Scores.{opening_state, score_reading};
 
 use crate::lines::{command_of, known_beat, only_settles};
@@ -154,7 +154,7 @@ pub fn score_text<R: Read, W: Write>(
     reader: &mut R,
     writer: &mut W,
 ) -> Result<bool, ScriptFault>
-    ensures { EndsOrStops true 4294967294 (text_of score_reading opening_state) (text_before_failure score_reading opening_state) (R.remaining reader.old) (R.remaining reader.new) (W.contents writer.old) (W.contents writer.new) result }
+    ensures { EndsOrStops true score_reading opening_state (R.remaining reader.old) (R.remaining reader.new) (W.contents writer.old) (W.contents writer.new) result }
 {
     let script = StagedScript::new(ScoreScript);
     read_script(script, alloc, reader, writer)

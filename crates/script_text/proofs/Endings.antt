@@ -1,6 +1,8 @@
 -- How a call ends that reads a script.
-use Rattle.std.proofs.Common.{◌≡◌, ◌≢◌, ◌<◌, ◌≤◌, ◌⊎◌, inl, inr, ℕ, ◌+◌, ◌*◌, List, [], ◌∷◌, ◌++◌, length, length-append, Bool, true, Option, None, Some, Result, Ok, Err, IsOk, refl, sym, ap, ◌∙◌, append_assoc, append-nil, arith}
+use Rattle.std.proofs.Common.{◌≡◌, ◌≢◌, ◌<◌, ◌≤◌, ◌⊎◌, inl, inr, ℕ, ◌+◌, ◌*◌, List, [], ◌∷◌, ◌++◌, length, length-append, Bool, true, false, ◌||◌, Option, None, Some, Result, Ok, Err, IsOk, refl, sym, ap, ◌∙◌, append_assoc, append-nil, arith}
 use Rattle.std.proofs.KnownBytes.{Appends-nil, Appends-trans, Appends-kept, Consumes-trans, Keeps-trans}
+use Rattle.std.proofs.lemmas.Bool.{and_from, and_parts}
+use Rattle.std.specs.Prelude.{◌&&◌}
 use Rattle.std.specs.Io.KnownBytes.{Appends, Consumes, Keeps, IsAtEnd, prepend_known}
 use Rattle.std.specs.Str.Lines.{strip_carriage_return}
 use Rattle.line_text.proofs.Parts.{Lacks, Lacks-push}
@@ -8,7 +10,7 @@ use Rattle.script_text.proofs.Progress.{LastText, Progress, failed_within, grown
 use Rattle.script_text.proofs.ScriptLines.{ended_lines_of-line, lines_of-line, lines_of-last, begins, begins-not_plain, lines_of-some}
 use Rattle.line_text.proofs.TraceTexts.{some_after, some_before}
 use Rattle.script_text.specs.Reads.{BlockState, IsSmall, Stops, Takes, TakesByte, left}
-use Rattle.script_text.specs.Scripts.{Reading, TextResult, AreCarriedOut, EndsAs, EndsOrStops, HasText, IsAllJudged, IsFront, IsSettled, LineStep, StopsForMemory, Tells, after_text, ended, line_step, lines_result, text_failing_from, text_from, text_of, text_before_failure}
+use Rattle.script_text.specs.Scripts.{Reading, TextResult, asks_at_end, asks_last, end_wants, last_wants, line_wants, rest_wants, where_it_stands, AreCarriedOut, EndsAs, EndsOrStops, HasText, IsAllJudged, IsFront, IsSettled, LineStep, StopsForMemory, Tells, after_text, ended, line_step, lines_result, text_failing_from, text_from, text_of, text_before_failure}
 use Rattle.script_text.specs.Steps.{GivesText, Goes, Speaks, Stands, TakesStep, TakesRest}
 use Rattle.line_text.specs.Words.{lines_of}
 use Rattle.script_text.specs.declared.faults.ScriptFault.{ScriptFault}
@@ -72,10 +74,36 @@ failing_line {A = A} reading state next number line text lacks went =
 -- how a script that asks for memory in mid-run ends at its last line
 abbrev LastRest : {S A : Type 0} → Reading S A → Bool → (S → Bool) → S → ℕ → List ℕ → Option (List ℕ) → Option (List ℕ) → Result A ScriptFault → Type 0
 LastRest reading grows is_silent state number line w z result =
-    TakesRest (text_from reading state number line) (text_failing_from reading state number (line ++ 10 ∷ [])).output grows (is_silent state) w z result
+    TakesRest (text_from reading state number line) (text_failing_from reading state number (line ++ 10 ∷ [])).output (grows && rest_wants reading state number line) (is_silent state) w z
+    result
+
+or_left : (a b : Bool) → a ≡ true → (a || b) ≡ true
+or_left a b is = rw is refl
+
+or_right : (a b : Bool) → b ≡ true → (a || b) ≡ true
+or_right true b is = refl
+or_right false b is = is
+
+-- it may be asked for at the last line, or at the end behind it
+rest_at_end : {S A : Type 0} (reading : Reading S A) (grows : Bool) (state next : S) (number : ℕ) (line text : List ℕ) → Lacks 10 line → 0 < length line
+    → line_step reading state number (strip_carriage_return line) ≡ Ok (text, next) → (grows && reading.wants_at_end next) ≡ true → (grows && rest_wants reading state number line) ≡ true
+rest_at_end reading grows state next number line text lacks some went may =
+    let parts = and_parts grows (reading.wants_at_end next) may in
+    let ends : end_wants reading state number (lines_of line) ≡ true =
+    ap (end_wants reading state number) (lines_of-last line lacks some) ∙ ap (where_it_stands (λ after. reading.wants_at_end after)) went ∙ parts.1 in
+    and_from grows _ parts.0 (or_right (last_wants reading false state number (lines_of line)) (end_wants reading state number (lines_of line)) ends)
+
+rest_at_line : {S A : Type 0} (reading : Reading S A) (grows : Bool) (state next : S) (number : ℕ) (line text : List ℕ) → Lacks 10 line → 0 < length line
+    → line_step reading state number (strip_carriage_return line) ≡ Ok (text, next) → (grows && line_wants reading state (strip_carriage_return line)) ≡ true
+    → (grows && rest_wants reading state number line) ≡ true
+rest_at_line reading grows state next number line text lacks some went may =
+    let parts = and_parts grows (line_wants reading state (strip_carriage_return line)) may in
+    let last : last_wants reading false state number (lines_of line) ≡ true =
+    ap (last_wants reading false state number) (lines_of-last line lacks some) ∙ ap (where_it_stands (λ after. line_wants reading state (strip_carriage_return line))) went ∙ parts.1 in
+    and_from grows _ parts.0 (or_left (last_wants reading false state number (lines_of line)) (end_wants reading state number (lines_of line)) last)
 
 pub TakesRest-line : {S A : Type 0} (reading : Reading S A) (grows : Bool) (is_silent : S → Bool) (state next : S) (number : ℕ) (line : List ℕ) (w v z : Option (List ℕ)) (wrote : Bool) (result : Result A ScriptFault) → Lacks 10 line → 0 < length line
-    → Goes reading (line_step reading state number (strip_carriage_return line)) is_silent state next w v wrote → TakesRest (reading.ending next (number + 1)) [] grows (is_silent next) v z result
+    → Goes reading (line_step reading state number (strip_carriage_return line)) is_silent state next w v wrote → TakesRest (reading.ending next (number + 1)) [] (grows && reading.wants_at_end next) (is_silent next) v z result
     → LastRest reading grows is_silent state number line w z result
 TakesRest-line {A = A} reading grows is_silent state next number line w v z wrote result lacks some goes ends = by_result result ends
   where
@@ -87,7 +115,7 @@ TakesRest-line {A = A} reading grows is_silent state next number line w v z wrot
     written (inl kept) = rw (failing_line reading state next number line goes.text lacks goes.step_is) (Appends-kept w v z goes.text goes.written kept)
     written (inr none) = rw (failing_line reading state next number line goes.text lacks goes.step_is) (Appends-kept w v z goes.text goes.written (Keeps-none v z none))
 
-    by_result : (r : Result A ScriptFault) → TakesRest (reading.ending next (number + 1)) [] grows (is_silent next) v z r → LastRest reading grows is_silent state number line w z r
+    by_result : (r : Result A ScriptFault) → TakesRest (reading.ending next (number + 1)) [] (grows && reading.wants_at_end next) (is_silent next) v z r → LastRest reading grows is_silent state number line w z r
     by_result (Ok answer) tells = tells_after _ _ goes.text w v z (Ok answer) told goes.written tells
     by_result (Err (Script l word)) tells = tells_after _ _ goes.text w v z (Err (Script l word)) told goes.written tells
     by_result (Err (Setup fault)) tells = tells_after _ _ goes.text w v z (Err (Setup fault)) told goes.written tells
@@ -96,13 +124,15 @@ TakesRest-line {A = A} reading grows is_silent state next number line w v z wrot
     by_result (Err NoMemory) (ok, inl (still, kept)) =
         let quiet = goes.silent still in
         (ok_after _ _ goes.text told ok, inl (quiet.0, Keeps-trans w v z (Keeps-none w v (rw quiet.1 at goes.written)) kept))
-    by_result (Err NoMemory) (ok, inr (may, none)) = (ok_after _ _ goes.text told ok, inr (may, inr (written none)))
+    by_result (Err NoMemory) (ok, inr (may, none)) =
+        (ok_after _ _ goes.text told ok, inr (rest_at_end reading grows state next number line goes.text lacks some goes.step_is may, inr (written none)))
 
 tells_fault : {A : Type 0} (whole : TextResult A) (fault : ScriptFault) (before after : Option (List ℕ)) → whole ≡ ended (Err fault) → Keeps before after → Tells whole before after (Err fault)
 tells_fault whole fault before after told kept = rw told ((Appends-none before after kept, refl))
 
 pub TakesRest-fault : {S A : Type 0} (reading : Reading S A) (grows : Bool) (is_silent : S → Bool) (state next : S) (number : ℕ) (line : List ℕ) (w v : Option (List ℕ)) (fault : ScriptFault) → Lacks 10 line → 0 < length line
-    → TakesStep reading grows (line_step reading state number (strip_carriage_return line)) is_silent state next w v (Err fault) → LastRest reading grows is_silent state number line w v (Err fault)
+    → TakesStep reading (grows && line_wants reading state (strip_carriage_return line)) (line_step reading state number (strip_carriage_return line)) is_silent state next w v (Err fault)
+    → LastRest reading grows is_silent state number line w v (Err fault)
 TakesRest-fault reading grows is_silent state next number line w v (Script l word) lacks some (stops, kept) = tells_fault _ _ w v (told_with_fault reading state number line _ lacks some stops) kept
 TakesRest-fault reading grows is_silent state next number line w v (Setup fault) lacks some (stops, kept) = tells_fault _ _ w v (told_with_fault reading state number line _ lacks some stops) kept
 TakesRest-fault reading grows is_silent state next number line w v Read lacks some stops = stops
@@ -110,8 +140,20 @@ TakesRest-fault reading grows is_silent state next number line w v Write lacks s
     speaks_well reading _ speaks (number + 1) _ (told_with_line reading state speaks.0.next number line speaks.0.text lacks some speaks.0.step_is)
 TakesRest-fault reading grows is_silent state next number line w v NoMemory lacks some (inl (quiet, gives), kept) =
     ((gives_well reading _ gives (number + 1) _ (told_with_line reading state gives.0.next number line gives.0.text lacks some gives.0.step_is)).0, inl (quiet, kept))
-TakesRest-fault reading grows is_silent state next number line w v NoMemory lacks some (inr (may, stands), kept) =
-    (stands_well reading _ stands (number + 1) _ (told_with_line reading state stands.next number line stands.text lacks some stands.step_is), inr (may, inl kept))
+TakesRest-fault reading grows is_silent state next number line w v NoMemory lacks some (inr (may, stands), kept) = (
+  stands_well reading _ stands (number + 1) _ (told_with_line reading state stands.next number line stands.text lacks some stands.step_is),
+  inr (rest_at_line reading grows state stands.next number line stands.text lacks some stands.step_is may, inl kept),
+)
+
+-- where it may have been asked for at a line among some, it may whatever came before them
+last_whatever : {S A : Type 0} (reading : Reading S A) (before : Bool) (state : S) (number : ℕ) (lines : List (List ℕ)) → last_wants reading false state number lines ≡ true
+    → last_wants reading before state number lines ≡ true
+last_whatever reading before state number [] may = absurd (cc (may))
+last_whatever reading before state number (line ∷ lines) may = may
+
+or_true : (a b : Bool) → (a || b) ≡ true → (a ≡ true) ⊎ (b ≡ true)
+or_true true b is = inl refl
+or_true false b is = inr is
 
 -- ---- the whole call
 
@@ -120,7 +162,7 @@ Ends reading start input rest old new result = EndsAs reading.most_lines (text_o
 
 -- or in mid-run, where the script grows
 abbrev pub EndsOr : {S A : Type 0} → Reading S A → Bool → S → Option (List ℕ) → Option (List ℕ) → Option (List ℕ) → Option (List ℕ) → Result A ScriptFault → Type 0
-EndsOr reading grows start input rest old new result = EndsOrStops grows reading.most_lines (text_of reading start) (text_before_failure reading start) input rest old new result
+EndsOr reading grows start input rest old new result = EndsOrStops grows reading start input rest old new result
 
 -- which is nothing while the script is silent
 silent_within : {S A : Type 0} (reading : Reading S A) (is_silent : S → Bool) (start state : S) (number : ℕ) (block : BlockState) (input rest old new : Option (List ℕ)) (line : List ℕ)
@@ -172,10 +214,19 @@ Ends-rest {A = A} reading grows is_silent start state number block later input r
     whole_input : IsAllJudged [] after
     whole_input = (refl, at_end)
 
+    -- memory may have been asked for at the last line, or behind it
+    cause : rest_wants reading state number line ≡ true → (asks_last reading start read ≡ true) ⊎ (IsAllJudged [] after × (asks_at_end reading start read ≡ true))
+    cause may = by_parts (or_true (last_wants reading false state number (lines_of line)) (end_wants reading state number (lines_of line)) may)
+      where
+        by_parts : (last_wants reading false state number (lines_of line) ≡ true) ⊎ (end_wants reading state number (lines_of line) ≡ true)
+            → (asks_last reading start read ≡ true) ⊎ (IsAllJudged [] after × (asks_at_end reading start read ≡ true))
+        by_parts (inl last) = inl (so_far.asks line ∙ last_whatever reading so_far.wanted state number (lines_of line) last)
+        by_parts (inr ends) = inr (whole_input, so_far.asks_then line ∙ ends)
+
     -- memory was refused in mid-run: these lines were carried out
-    stops : (lines text : List ℕ) → AreCarriedOut lines read [] after → IsOk (text_from reading state number line).result → (text_before_failure reading start lines).output ≡ so_far.text ++ text → Appends flushed newer text
-        → StopsForMemory reading.most_lines (text_of reading start) (text_before_failure reading start) input after old newer
-    stops lines text carried ok is appended =
+    stops : (lines text : List ℕ) → rest_wants reading state number line ≡ true → AreCarriedOut lines read [] after → IsOk (text_from reading state number line).result → (text_before_failure reading start lines).output ≡ so_far.text ++ text → Appends flushed newer text
+        → StopsForMemory reading start input after old newer
+    stops lines text wants carried ok is appended =
         record {
           judged = read;
           ahead = [];
@@ -186,6 +237,7 @@ Ends-rest {A = A} reading grows is_silent start state number block later input r
           sound = ok_after _ _ so_far.text (so_far.whole line) ok;
           carried_out = carried;
           written = rw is (Appends-trans old flushed newer so_far.text text written appended);
+          cause = cause wants;
         }
 
     by_result : (r : Result A ScriptFault) → LastRest reading grows is_silent state number line flushed newer r → EndsOr reading grows start input after old newer r
@@ -224,17 +276,17 @@ Ends-rest {A = A} reading grows is_silent start state number block later input r
         })
     by_result (Err NoMemory) (ok, inr (may, inl kept)) =
         inr (
-          may,
+          (and_parts grows (rest_wants reading state number line) may).0,
           refl,
-          stops read [] (inl (inr (refl, whole_input))) ok
+          stops read [] (and_parts grows (rest_wants reading state number line) may).1 (inl (inr (refl, whole_input))) ok
               (ap (λ (told : TextResult A). told.output) (failed_within reading is_silent start state number block input rest old new line so_far lacks))
               (Appends-none flushed newer kept),
         )
     by_result (Err NoMemory) (ok, inr (may, inr appended)) =
         inr (
-          may,
+          (and_parts grows (rest_wants reading state number line) may).0,
           refl,
-          stops (read ++ 10 ∷ []) _ (inr (refl, whole_input)) ok
+          stops (read ++ 10 ∷ []) _ (and_parts grows (rest_wants reading state number line) may).1 (inr (refl, whole_input)) ok
               (ap (λ (told : TextResult A). told.output) (ap (text_before_failure reading start) (append_assoc so_far.read line (10 ∷ [])) ∙ so_far.failed (line ++ 10 ∷ [])))
               appended,
         )
@@ -254,7 +306,8 @@ settled reading start state number ahead rest old new newer read text tail fault
 -- at a fault of a line
 pub Ends-fault : {S A : Type 0} (reading : Reading S A) (grows : Bool) (is_silent : S → Bool) (start state next : S) (number : ℕ) (block later : BlockState) (input rest after old new flushed newer : Option (List ℕ)) (line : List ℕ) (fault : ScriptFault)
     → Progress reading is_silent start state number block input rest old new → number ≤ reading.most_lines → Lacks 10 line → length line ≤ 129 → Takes block later rest after (line ++ 10 ∷ []) → IsSmall later → Keeps new flushed
-    → TakesStep reading grows (line_step reading state number (strip_carriage_return line)) is_silent state next flushed newer (Err fault) → EndsOr reading grows start input after old newer (Err fault)
+    → TakesStep reading (grows && line_wants reading state (strip_carriage_return line)) (line_step reading state number (strip_carriage_return line)) is_silent state next flushed newer (Err fault)
+    → EndsOr reading grows start input after old newer (Err fault)
 Ends-fault {S} reading grows is_silent start state next number block later input rest after old new flushed newer line fault so_far within lacks short taken few flushes takes = by_fault fault takes
   where
     tail : List ℕ
@@ -281,7 +334,14 @@ Ends-fault {S} reading grows is_silent start state next number block later input
     front : IsFront (so_far.read ++ line) (so_far.read ++ tail) later.ahead after
     front = inl (sym (append_assoc so_far.read line (10 ∷ [])))
 
-    by_fault : (f : ScriptFault) → TakesStep reading grows (line_step reading state number (strip_carriage_return line)) is_silent state next flushed newer (Err f) → EndsOr reading grows start input after old newer (Err f)
+    -- memory may have been asked for at the line
+    cause : (text : List ℕ) (after_state : S) → line_step reading state number (strip_carriage_return line) ≡ Ok (text, after_state) → line_wants reading state (strip_carriage_return line) ≡ true
+        → asks_last reading start (so_far.read ++ tail) ≡ true
+    cause text after_state went may =
+        so_far.asks tail ∙ ap (last_wants reading so_far.wanted state number) (lines_of-line line [] lacks)
+        ∙ ap (where_it_stands (λ later_state. line_wants reading state (strip_carriage_return line))) went ∙ may
+
+    by_fault : (f : ScriptFault) → TakesStep reading (grows && line_wants reading state (strip_carriage_return line)) (line_step reading state number (strip_carriage_return line)) is_silent state next flushed newer (Err f) → EndsOr reading grows start input after old newer (Err f)
     by_fault (Script l word) (stops, kept) =
         inl
         (record {
@@ -320,8 +380,8 @@ Ends-fault {S} reading grows is_silent start state next number block later input
           );
         })
     by_fault NoMemory (inr (may, stands), kept) =
-        inr (
-          may,
+        let parts = and_parts grows (line_wants reading state (strip_carriage_return line)) may in inr (
+          parts.0,
           refl,
           record {
             judged = so_far.read ++ tail;
@@ -333,6 +393,7 @@ Ends-fault {S} reading grows is_silent start state next number block later input
             sound = ok_after _ _ so_far.text (so_far.whole tail) (stands_well reading _ stands (number + 1) _ (after_line stands.text stands.next stands.step_is));
             carried_out = inl front;
             written = rw (failed_within reading is_silent start state number block input rest old new line so_far lacks) (rw (append-nil so_far.text) (Appends-kept old flushed newer so_far.text written kept));
+            cause = inl (cause stands.text stands.next stands.step_is parts.1);
           },
         )
     by_fault NoMemory (inl (quiet, gives), kept) =
@@ -476,7 +537,7 @@ Ends-unread reading is_silent start state number block later input rest after ol
 
 -- a line more than a script may have writes nothing
 unread : {S A : Type 0} (reading : Reading S A) (grows : Bool) (is_silent : S → Bool) (state : S) (number : ℕ) (w z : Option (List ℕ)) (result : Result A ScriptFault) → number ≡ reading.most_lines + 1
-    → TakesRest (reading.ending state number) [] grows (is_silent state) w z result → LastRest reading grows is_silent state number [] w z result
+    → TakesRest (reading.ending state number) [] (grows && reading.wants_at_end state) (is_silent state) w z result → LastRest reading grows is_silent state number [] w z result
 unread {A = A} reading grows is_silent state number w z result late takes =
     let none : (text_failing_from reading state number (10 ∷ [])).output ≡ [] =
     ap (λ (told : TextResult A). told.output) (lines_result-fault reading (λ s n. ended (Err Read)) state number [] [] (Script number 0) (rw late (line_step-late reading state []))) in
@@ -485,7 +546,7 @@ unread {A = A} reading grows is_silent state number w z result late takes =
 -- at the input's end, after as many lines as may stand
 pub Ends-full : {S A : Type 0} (reading : Reading S A) (grows : Bool) (is_silent : S → Bool) (start state : S) (number : ℕ) (block later : BlockState) (input rest after old new flushed newer : Option (List ℕ)) (result : Result A ScriptFault)
     → Progress reading is_silent start state number block input rest old new → number ≡ reading.most_lines + 1 → TakesByte block later rest after (Ok None) → Keeps new flushed
-    → TakesRest (reading.ending state number) [] grows (is_silent state) flushed newer result → EndsOr reading grows start input after old newer result
+    → TakesRest (reading.ending state number) [] (grows && reading.wants_at_end state) (is_silent state) flushed newer result → EndsOr reading grows start input after old newer result
 Ends-full reading grows is_silent start state number block later input rest after old new flushed newer result so_far late (taken, none, at_end) flushes takes =
     Ends-rest reading grows is_silent start state number block later input rest after old new flushed newer [] result so_far (omega (arith, late)) nothing taken none at_end flushes
     (unread reading grows is_silent state number flushed newer result late takes)

@@ -8,7 +8,7 @@ use Rattle.line_text.proofs.Parts.{Lacks}
 use Rattle.script_text.proofs.ScriptLines.{lines_of-line, ended_lines_of-line, ended_lines_of-last}
 use Rattle.line_text.proofs.TraceTexts.{grows}
 use Rattle.script_text.specs.Reads.{BlockState, Takes, left}
-use Rattle.script_text.specs.Scripts.{Reading, TextResult, after_step, after_text, ended, line_step, lines_result, text_from, text_of, text_before_failure}
+use Rattle.script_text.specs.Scripts.{Reading, TextResult, after_step, after_text, asks_at_end, asks_last, end_wants, ended, last_wants, line_step, line_wants, lines_result, text_from, text_of, text_before_failure, where_it_stands}
 use Rattle.script_text.specs.Steps.{Goes}
 use Rattle.line_text.specs.Words.{lines_of, ended_lines_of, is_plain_line, is_skipped, words_of}
 use Rattle.script_text.specs.declared.faults.ScriptFault.{ScriptFault}
@@ -65,6 +65,10 @@ pub record Progress {S A : Type 0} (reading : Reading S A) (is_silent : S → Bo
       ≡ after_text text (lines_result reading (λ s n. ended (Err Read)) state number (ended_lines_of more))
   pub silent : is_silent state ≡ true → text ≡ []
   pub last : block.has_text ≡ true → LastText reading start read block.taken
+  -- whether memory may have been asked for at the last of them
+  pub wanted : Bool
+  pub asks : (more : List ℕ) → asks_last reading start (read ++ more) ≡ last_wants reading wanted state number (lines_of more)
+  pub asks_then : (more : List ℕ) → asks_at_end reading start (read ++ more) ≡ end_wants reading state number (lines_of more)
 
 pub Progress-start : {S A : Type 0} (reading : Reading S A) (is_silent : S → Bool) (start : S) (block : BlockState) (input old : Option (List ℕ)) → block ≡ record { ahead = []; taken = 0; has_text = false; line = [] }
     → Progress reading is_silent start start 1 block input input old old
@@ -79,6 +83,9 @@ Progress-start reading is_silent start block input old none =
       failed = λ more. refl;
       silent = λ quiet. refl;
       last = λ text. absurd (never (rw none at text));
+      wanted = false;
+      asks = λ more. refl;
+      asks_then = λ more. refl;
     }
   where
     by_known : (a : Option (List ℕ)) → Consumes a (prepend_known [] a) []
@@ -161,6 +168,13 @@ progress_by reading is_silent start state next number block later noted input re
           let both = goes.silent quiet in
           rw (so_far.silent both.0, both.1) refl;
       last = last;
+      wanted = line_wants reading state (strip_carriage_return line);
+      asks = λ more.
+          ap (asks_last reading start) (joined more) ∙ so_far.asks (line ++ 10 ∷ more) ∙ ap (last_wants reading so_far.wanted state number) (lines_of-line line more lacks)
+          ∙ ap (where_it_stands (λ after. last_wants reading (line_wants reading state (strip_carriage_return line)) after (number + 1) (lines_of more))) goes.step_is;
+      asks_then = λ more.
+          ap (asks_at_end reading start) (joined more) ∙ so_far.asks_then (line ++ 10 ∷ more) ∙ ap (end_wants reading state number) (lines_of-line line more lacks)
+          ∙ ap (where_it_stands (λ after. end_wants reading after (number + 1) (lines_of more))) goes.step_is;
     }
   where
     joined : (more : List ℕ) → (so_far.read ++ (line ++ 10 ∷ [])) ++ more ≡ so_far.read ++ (line ++ 10 ∷ more)

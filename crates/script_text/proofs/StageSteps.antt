@@ -1,11 +1,12 @@
 -- What a command makes of a script, and what a refused opening does.
+use Rattle.std.specs.Prelude.{◌&&◌}
 use Rattle.std.proofs.Common.{◌≡◌, ◌≢◌, ◌++◌, ◌⊎◌, inl, inr, ℕ, List, [], Bool, true, false, Option, Some, None, IfSome, IfOk, IfErr, Result, Ok, Err, IsOk, refl, subst, sym, ap, ◌∙◌, rules}
 use Rattle.std.proofs.KnownBytes.{Appends-nil, Keeps-refl}
 use Rattle.burst_plan.specs.PageMap.{region_fault}
 use Rattle.config.specs.Configs.{is_valid}
 use Rattle.script_text.specs.Forms.{told_as}
 use Rattle.script_text.specs.Scripts.{LineStep}
-use Rattle.script_text.specs.Stages.{GivesSome, Kind, OpensAs, OpensStage, Opening, Running, SettingUp, Stage, Writes, command_step, commanded_step, is_misplaced, line_commanded, nothing_written, reading_of, set_up_as, set_up_with, setup_step, stage_as, stage_of, stage_step, told_step, unless_refused, world_at, wrong_first, wrong_opened, wrong_word}
+use Rattle.script_text.specs.Stages.{GivesSome, Kind, OpensAs, OpensStage, Opening, Running, SettingUp, Stage, Writes, command_step, commanded_step, is_misplaced, line_commanded, nothing_written, reading_of, set_up_as, set_up_with, setup_step, stage_as, stage_of, stage_step, stage_wants, told_step, unless_refused, wants_where, world_at, wrong_first, wrong_opened, wrong_word}
 use Rattle.script_text.specs.Steps.{GivesText, Stands, TakesStep}
 use Rattle.script_text.specs.declared.faults.ScriptFault.{ScriptFault}
 use Rattle.script_text.specs.declared.faults.ScriptFault.TheVariants.{Script, Setup, Read, Write, NoMemory}
@@ -123,12 +124,20 @@ carried_by kind grows stage step number next before after (Err word) (Ok wrote) 
 carried_by kind grows stage step number next before after (Err word) (Err fault) is (wrong, kept) =
     rw wrong (is, kept)
 
+-- what commands work on is what it is whatever the line's number
+found_at : {Z S W C : Type 0} (kind : Kind Z S W C) (stage : Stage Z S W) (number : ℕ) (world : W) → world_at kind stage number ≡ Ok world → world_at kind stage 0 ≡ Ok world
+found_at kind Opening number world found = search rules
+found_at kind (SettingUp setup own) number world found = found
+found_at kind (Running other) number world found = found
+
 pub TakesStep-carried : {Z S W C : Type 0} (kind : Kind Z S W C) (grows : Bool) (stage : Stage Z S W) (number : ℕ) (world next : W) (command : C) (before after : Option (List ℕ)) (result : Result Bool ScriptFault) → world_at kind stage number ≡ Ok world
-    → Writes grows number (kind.commanded world number command) next before after result
-    → TakesStep (reading_of kind) grows (command_step kind (world_at kind stage number) number command) nothing_written stage (Running next) before after result
-TakesStep-carried kind grows stage number world next command before after result found =
-    carried_by kind grows stage (command_step kind (world_at kind stage number) number command) number next before after (kind.commanded world number command) result
-    (ap (λ w. command_step kind w number command) found)
+    → Writes (grows && kind.wants world command) number (kind.commanded world number command) next before after result
+    → TakesStep (reading_of kind) (grows && stage_wants kind stage (Ok command)) (command_step kind (world_at kind stage number) number command) nothing_written stage (Running next) before after result
+TakesStep-carried kind grows stage number world next command before after result found wrote =
+    subst (λ (asks : Bool). TakesStep (reading_of kind) (grows && asks) (command_step kind (world_at kind stage number) number command) nothing_written stage (Running next) before after result)
+    (sym (ap (wants_where (λ w. kind.wants w command)) (found_at kind stage number world found)))
+    (carried_by kind (grows && kind.wants world command) stage (command_step kind (world_at kind stage number) number command) number next before after (kind.commanded world number command) result
+    (ap (λ w. command_step kind w number command) found) wrote)
 
 -- a line behind the first command, by what it says
 told_is : {Z S W C : Type 0} (kind : Kind Z S W C) (world : W) (number : ℕ) (told : Result C ℕ) → told_step kind (Running world) number told ≡ commanded_step number (line_commanded kind world number told)

@@ -1,5 +1,5 @@
 -- How a script is read, whatever its lines do, and how a call that reads one ends (this project's profile).
-use Rattle.std.specs.Prelude.{◌≡◌, ◌≢◌, ◌≤◌, ◌⊎◌, ℕ, ◌+◌, ◌*◌, Bool, true, not, ◌||◌, List, [], ◌∷◌, ◌++◌, length, Option, Result, Ok, Err, IsOk, if◌then◌else◌, nat_lt}
+use Rattle.std.specs.Prelude.{◌≡◌, ◌≢◌, ◌≤◌, ◌⊎◌, ℕ, ◌+◌, ◌*◌, Bool, true, false, not, ◌&&◌, ◌||◌, List, [], ◌∷◌, ◌++◌, length, Option, Result, Ok, Err, IsOk, if◌then◌else◌, nat_lt}
 use Rattle.std.specs.Io.KnownBytes.{Appends, Consumes, Keeps, IsAtEnd}
 use Rattle.line_text.specs.Words.{lines_of, ended_lines_of, is_plain_line, is_skipped, words_of}
 use Rattle.script_text.specs.declared.faults.ScriptFault.{ScriptFault}
@@ -17,11 +17,14 @@ abbrev pub LineStep : Type 0 → Type 0
 LineStep S = Result (List ℕ × S) ScriptFault
 
 -- a kind of script, by its states and its answers: how many lines it may have, what the words of a line do, by the line's number from 1, and
--- how the script ends where no line has a fault, by the number of the line after the last
+-- how the script ends where no line has a fault, by the number of the line after the last; and, of one that may ask for memory in mid-run, at which
+-- lines it may, by their words, and whether it may at its end
 pub record Reading (S A : Type 0) : Type 0 where
   pub most_lines : ℕ
   pub step : S → ℕ → List (List ℕ) → LineStep S
   pub ending : S → ℕ → TextResult A
+  pub wants : S → List (List ℕ) → Bool
+  pub wants_at_end : S → Bool
 
 -- one line: at fault at word 0 where its bytes may not stand or it is one more than a script may have, skipped, or read by its words
 abbrev pub line_step : {S A : Type 0} → Reading S A → S → ℕ → List ℕ → LineStep S
@@ -128,28 +131,60 @@ pub record EndsAs {A : Type 0} (most_lines : ℕ) (whole before_failure : List �
   pub block : length ahead ≤ 65536
   pub ends : EndsAfter whole before_failure judged ahead rest old new result
 
--- ---- a script that may ask for memory at each of its lines
+-- ---- a script that may ask for memory in mid-run
+
+-- whether memory may be asked for at a line: at none that is skipped
+abbrev pub line_wants : {S A : Type 0} → Reading S A → S → List ℕ → Bool
+line_wants reading state line = not (is_skipped (words_of line)) && reading.wants state (words_of line)
+
+-- of a line without fault, by the state after it
+abbrev pub where_it_stands : {S : Type 0} → (S → Bool) → LineStep S → Bool
+where_it_stands test (Ok went) = test went.1
+where_it_stands test (Err fault) = false
+
+-- whether memory may be asked for at the last of these lines, which have no fault, where it may have been at the one before them
+abbrev pub last_wants : {S A : Type 0} → Reading S A → Bool → S → ℕ → List (List ℕ) → Bool
+last_wants reading before state number [] = before
+last_wants reading before state number (line ∷ lines) =
+    where_it_stands (λ next. last_wants reading (line_wants reading state line) next (number + 1) lines) (line_step reading state number line)
+
+-- whether it may be at the script's end after them
+abbrev pub end_wants : {S A : Type 0} → Reading S A → S → ℕ → List (List ℕ) → Bool
+end_wants reading state number [] = reading.wants_at_end state
+end_wants reading state number (line ∷ lines) = where_it_stands (λ next. end_wants reading next (number + 1) lines) (line_step reading state number line)
+
+-- the same of a whole input
+abbrev pub asks_last : {S A : Type 0} → Reading S A → S → List ℕ → Bool
+asks_last reading start input = last_wants reading false start 1 (lines_of input)
+
+abbrev pub asks_at_end : {S A : Type 0} → Reading S A → S → List ℕ → Bool
+asks_at_end reading start input = end_wants reading start 1 (lines_of input)
+
+-- whether it may be at a last line without a line feed, if there is one, or at the script's end behind it
+abbrev pub rest_wants : {S A : Type 0} → Reading S A → S → ℕ → List ℕ → Bool
+rest_wants reading state number line = last_wants reading false state number (lines_of line) || end_wants reading state number (lines_of line)
 
 -- the lines that were carried out: those before the last that was judged, or at the input's end all of them, the last of which then has a line feed
 -- here
 abbrev pub AreCarriedOut : List ℕ → List ℕ → List ℕ → Option (List ℕ) → Type 0
 AreCarriedOut lines judged ahead rest = IsFront lines judged ahead rest ⊎ ((lines ≡ judged ++ 10 ∷ []) × IsAllJudged ahead rest)
 
--- where memory was refused in mid-run: no line is at fault, and the text of the lines that were carried out was written. What left the reader is
--- bounded as it is wherever a call ends
-pub record StopsForMemory {A : Type 0} (most_lines : ℕ) (whole before_failure : List ℕ → TextResult A) (input rest old new : Option (List ℕ)) : Type 0 where
+-- where memory was refused in mid-run: no line is at fault, and the text of the lines that were carried out was written. It may be asked for at the
+-- last line that was judged, or at the script's end. What left the reader is bounded as it is wherever a call ends
+pub record StopsForMemory {S A : Type 0} (reading : Reading S A) (start : S) (input rest old new : Option (List ℕ)) : Type 0 where
   pub judged : List ℕ
   pub ahead : List ℕ
   pub lines : List ℕ
   pub consumed : Consumes input rest (judged ++ ahead)
-  pub bound : length judged ≤ 130 * most_lines + 1
+  pub bound : length judged ≤ 130 * reading.most_lines + 1
   pub block : length ahead ≤ 65536
-  pub sound : IsOk (whole judged).result
+  pub sound : IsOk (text_of reading start judged).result
   pub carried_out : AreCarriedOut lines judged ahead rest
-  pub written : Appends old new (before_failure lines).output
+  pub written : Appends old new (text_before_failure reading start lines).output
+  pub cause : (asks_last reading start judged ≡ true) ⊎ (IsAllJudged ahead rest × (asks_at_end reading start judged ≡ true))
 
--- how a call ends that asks for memory also in mid-run, where the script `grows`
-abbrev pub EndsOrStops : {A : Type 0} → Bool → ℕ → (List ℕ → TextResult A) → (List ℕ → TextResult A) → Option (List ℕ) → Option (List ℕ) → Option (List ℕ) → Option (List ℕ) → Result A ScriptFault → Type 0
-EndsOrStops grows most_lines whole before_failure input rest old new result =
-    EndsAs most_lines whole before_failure input rest old new result
-    ⊎ ((grows ≡ true) × (result ≡ Err NoMemory) × StopsForMemory most_lines whole before_failure input rest old new)
+-- how a call ends that may ask for memory also in mid-run, where the script `grows`
+abbrev pub EndsOrStops : {S A : Type 0} → Bool → Reading S A → S → Option (List ℕ) → Option (List ℕ) → Option (List ℕ) → Option (List ℕ) → Result A ScriptFault → Type 0
+EndsOrStops grows reading start input rest old new result =
+    EndsAs reading.most_lines (text_of reading start) (text_before_failure reading start) input rest old new result
+    ⊎ ((grows ≡ true) × (result ≡ Err NoMemory) × StopsForMemory reading start input rest old new)

@@ -25,7 +25,8 @@ pub data Stage (Z S W : Type 0) : Type 0 where
 -- lines have said before the first of them, and with one line more, or that line's first wrong word, where it is one of them; whether a line is passed
 -- over where it stands before the first command; what the words of a command's line say, or the first wrong word, which is word 1 where no command
 -- begins so; what its commands work on, or why the set-up is refused; what a command writes, by the number of its line, and what is there after it, or
--- that line's wrong word, where it may not stand there; and what is written at the input's end, with the result
+-- that line's wrong word, where it may not stand there; and what is written at the input's end, with the result. Of one that may ask for
+-- memory in mid-run also at which commands it may, and whether it may at the input's end
 pub record Kind (Z S W C : Type 0) : Type 0 where
   pub most_lines : ℕ
   pub takes : Form → Bool
@@ -37,6 +38,8 @@ pub record Kind (Z S W C : Type 0) : Type 0 where
   pub opened : S → Z → Result W SetupFault
   pub commanded : W → ℕ → C → Result (List ℕ × W) ℕ
   pub ending : W → List ℕ × Bool
+  pub wants : W → C → Bool
+  pub wants_at_end : W → Bool
 
 -- whether no command was carried out yet
 abbrev pub nothing_written : {Z S W : Type 0} → Stage Z S W → Bool
@@ -180,8 +183,31 @@ ending_of kind (Err fault) = ended (Err fault)
 abbrev pub stage_ending : {Z S W C : Type 0} → Kind Z S W C → Stage Z S W → ℕ → TextResult Bool
 stage_ending kind stage number = ending_of kind (world_at kind stage number)
 
+-- whether memory may be asked for at a command, by what its line says
+abbrev pub told_wants : {Z S W C : Type 0} → Kind Z S W C → W → Result C ℕ → Bool
+told_wants kind world (Ok command) = kind.wants world command
+told_wants kind world (Err word) = false
+
+-- by what commands work on; at the first by what is made for it
+abbrev pub wants_where : {W : Type 0} → (W → Bool) → Result W ScriptFault → Bool
+wants_where test (Ok world) = test world
+wants_where test (Err fault) = false
+
+abbrev pub stage_wants : {Z S W C : Type 0} → Kind Z S W C → Stage Z S W → Result C ℕ → Bool
+stage_wants kind stage told = wants_where (λ world. told_wants kind world told) (world_at kind stage 0)
+
+abbrev pub stage_wants_at_end : {Z S W C : Type 0} → Kind Z S W C → Stage Z S W → Bool
+stage_wants_at_end kind stage = wants_where kind.wants_at_end (world_at kind stage 0)
+
 abbrev pub reading_of : {Z S W C : Type 0} → Kind Z S W C → Reading (Stage Z S W) Bool
-reading_of kind = record { most_lines = kind.most_lines; step = stage_step kind; ending = stage_ending kind }
+reading_of kind =
+    record {
+      most_lines = kind.most_lines;
+      step = stage_step kind;
+      ending = stage_ending kind;
+      wants = λ stage words. stage_wants kind stage (kind.command_of words);
+      wants_at_end = stage_wants_at_end kind;
+    }
 
 -- what commands work on where a set-up has no fault
 abbrev pub unless_refused : {W : Type 0} → W → Option SetupFault → Result W SetupFault

@@ -1,9 +1,9 @@
 //! How a script is read and carried out, line by line, whatever its lines do.
-ghost use Rattle.std.specs.Prelude.{◌≡◌, ◌≤◌, ◌<◌, ◌++◌, ◌∷◌, [], true, false, MatchOption};
+ghost use Rattle.std.specs.Prelude.{◌≡◌, ◌≤◌, ◌<◌, ◌++◌, ◌∷◌, ◌&&◌, [], true, false, MatchOption};
 ghost use Rattle.std.specs.Str.Lines.{strip_carriage_return};
 ghost use Rattle.script_text.specs.Reads.{IsOneLine};
 ghost use Rattle.line_text.specs.Words.{is_plain_line};
-ghost use Rattle.script_text.specs.Scripts.{line_step, text_failing_from, text_from, text_of, text_before_failure, EndsOrStops};
+ghost use Rattle.script_text.specs.Scripts.{line_step, line_wants, rest_wants, text_failing_from, text_from, EndsOrStops};
 ghost use Rattle.script_text.specs.Steps.{TakesStep, TakesRest};
 
 use crate::faults::ScriptFault;
@@ -14,7 +14,7 @@ use std::io::{Read, Write};
 
 /// The state of a script that is read line by line.
 pub trait Script {
-    ghost use Rattle.std.specs.Prelude.{Bool, []};
+    ghost use Rattle.std.specs.Prelude.{Bool, ◌&&◌, []};
     ghost use Rattle.script_text.specs.Scripts.{Reading};
 
     /// What a script that ends answers.
@@ -32,7 +32,7 @@ pub trait Script {
     /// Whether nothing was written so far, so that memory may still be asked for.
     ghost is_silent: { State → Bool };
 
-    /// Whether memory may be asked for at each line.
+    /// Whether memory may be asked for also where something was written, at the lines that its reading says.
     ghost grows: { Bool };
 
     /// How many lines it may have.
@@ -48,7 +48,7 @@ pub trait Script {
         words: &Words<'_>,
         writer: &mut W,
     ) -> Result<bool, ScriptFault>
-        ensures { TakesStep reading grows (reading.step (state self.old) number words.now) is_silent (state self.old) (state self.new) (W.contents writer.old) (W.contents writer.new) result };
+        ensures { TakesStep reading (grows && reading.wants (state self.old) words.now) (reading.step (state self.old) number words.now) is_silent (state self.old) (state self.new) (W.contents writer.old) (W.contents writer.new) result };
 
     /// Ends the script, by the number of the line after the last.
     fn end<W: Write>(
@@ -57,7 +57,7 @@ pub trait Script {
         number: u32,
         writer: &mut W,
     ) -> Result<Self::Answer, ScriptFault>
-        ensures { TakesRest (reading.ending (state self) number) [] grows (is_silent (state self)) (W.contents writer.old) (W.contents writer.new) result };
+        ensures { TakesRest (reading.ending (state self) number) [] (grows && reading.wants_at_end (state self)) (is_silent (state self)) (W.contents writer.old) (W.contents writer.new) result };
 }
 
 /// A line without the carriage return at its end, if it has one.
@@ -77,7 +77,7 @@ fn take_plain<S: Script, W: Write>(
 ) -> Result<bool, ScriptFault>
     requires number { number ≤ S.reading.most_lines }
     requires plain { is_plain_line text.now ≡ true }
-    ensures { TakesStep S.reading S.grows (line_step S.reading (S.state script.old) number text.now) S.is_silent (S.state script.old) (S.state script.new) (W.contents writer.old) (W.contents writer.new) result }
+    ensures { TakesStep S.reading (S.grows && line_wants S.reading (S.state script.old) text.now) (line_step S.reading (S.state script.old) number text.now) S.is_silent (S.state script.old) (S.state script.new) (W.contents writer.old) (W.contents writer.new) result }
 {
     if is_comment(text) {
         return Ok(false);
@@ -100,7 +100,7 @@ pub fn take_line<S: Script, W: Write>(
     writer: &mut W,
 ) -> Result<bool, ScriptFault>
     requires { number ≤ S.reading.most_lines }
-    ensures { TakesStep S.reading S.grows (line_step S.reading (S.state script.old) number (strip_carriage_return line.now)) S.is_silent (S.state script.old) (S.state script.new) (W.contents writer.old) (W.contents writer.new) result }
+    ensures { TakesStep S.reading (S.grows && line_wants S.reading (S.state script.old) (strip_carriage_return line.now)) (line_step S.reading (S.state script.old) number (strip_carriage_return line.now)) S.is_silent (S.state script.old) (S.state script.new) (W.contents writer.old) (W.contents writer.new) result }
 {
     let text = without_return(line);
     if !may_stand(text) {
@@ -121,7 +121,7 @@ fn take_read<S: Script, W: Write>(
     writer: &mut W,
 ) -> Result<bool, ScriptFault>
     requires { number ≤ S.reading.most_lines }
-    ensures { TakesStep S.reading S.grows (line_step S.reading (S.state script.old) number (strip_carriage_return block.now.line)) S.is_silent (S.state script.old) (S.state script.new) (W.contents writer.old) (W.contents writer.new) result }
+    ensures { TakesStep S.reading (S.grows && line_wants S.reading (S.state script.old) (strip_carriage_return block.now.line)) (line_step S.reading (S.state script.old) number (strip_carriage_return block.now.line)) S.is_silent (S.state script.old) (S.state script.new) (W.contents writer.old) (W.contents writer.new) result }
 {
     if block.has_plain_line() {
         return take_plain(script, alloc, number, block.line(), writer);
@@ -140,7 +140,7 @@ fn take_rest<S: Script + Drop, W: Write>(
     requires number { number ≤ S.reading.most_lines }
     requires small { number < 4294967295 }
     requires line { IsOneLine line.now }
-    ensures { TakesRest (text_from S.reading (S.state script) number line.now) (text_failing_from S.reading (S.state script) number (line.now ++ 10 ∷ [])).output S.grows (S.is_silent (S.state script)) (W.contents writer.old) (W.contents writer.new) result }
+    ensures { TakesRest (text_from S.reading (S.state script) number line.now) (text_failing_from S.reading (S.state script) number (line.now ++ 10 ∷ [])).output (S.grows && rest_wants S.reading (S.state script) number line.now) (S.is_silent (S.state script)) (W.contents writer.old) (W.contents writer.new) result }
 {
     if line.is_empty() {
         return script.end(alloc, number, writer);
@@ -161,7 +161,7 @@ pub fn read_script<S: Script + Drop, R: Read, W: Write>(
     writer: &mut W,
 ) -> Result<S::Answer, ScriptFault>
     requires { S.is_silent (S.state script) ≡ true }
-    ensures { EndsOrStops S.grows S.reading.most_lines (text_of S.reading (S.state script)) (text_before_failure S.reading (S.state script)) (R.remaining reader.old) (R.remaining reader.new) (W.contents writer.old) (W.contents writer.new) result }
+    ensures { EndsOrStops S.grows S.reading (S.state script) (R.remaining reader.old) (R.remaining reader.new) (W.contents writer.old) (W.contents writer.new) result }
 {
     let Ok(mut block) = Block::new(alloc) else {
         return Err(ScriptFault::NoMemory);

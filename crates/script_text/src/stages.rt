@@ -1,7 +1,7 @@
 //! What every kind of script has in common: a `config` line, other set-up lines, and then commands.
-ghost use Rattle.std.specs.Prelude.{◌≡◌, ◌<◌, [], false, true};
+ghost use Rattle.std.specs.Prelude.{◌≡◌, ◌<◌, ◌&&◌, [], false, true, Ok};
 ghost use Rattle.script_text.specs.Forms.{told_as};
-ghost use Rattle.script_text.specs.Stages.{GivesWorld, OpensAs, Opening, OpensStage, TakesLine, Writes, WritesEnd, command_step, early_step, is_misplaced, nothing_written, other_step, reading_of, set_up_with, setup_step, stage_as, stage_ending, told_step, world_at, wrong_first};
+ghost use Rattle.script_text.specs.Stages.{GivesWorld, OpensAs, Opening, OpensStage, TakesLine, Writes, WritesEnd, command_step, early_step, is_misplaced, nothing_written, other_step, reading_of, set_up_with, setup_step, stage_as, stage_ending, stage_wants, stage_wants_at_end, told_step, world_at, wrong_first};
 ghost use Rattle.script_text.specs.Steps.{TakesRest, TakesStep};
 
 use crate::driver::Script;
@@ -16,8 +16,8 @@ use std::marker::Model;
 
 /// A kind of script: the lines that it has, and what its commands do.
 pub trait Kind {
-    ghost use Rattle.std.specs.Prelude.{Bool};
-    ghost use Rattle.script_text.specs.Stages.{GivesSome, Kind as Rules, line_commanded, wrong_opened};
+    ghost use Rattle.std.specs.Prelude.{Bool, ◌&&◌};
+    ghost use Rattle.script_text.specs.Stages.{GivesSome, Kind as Rules, line_commanded, told_wants, wrong_opened};
 
     /// What its set-up lines add up to.
     type Setup: Drop;
@@ -46,7 +46,7 @@ pub trait Kind {
     /// What its lines do.
     ghost rules: { Rules Lists Self.Own State Self.Command };
 
-    /// Whether what commands work on may ask for memory at each command, and at the input's end.
+    /// Whether what commands work on may ask for memory in mid-run, at the commands that the rules say and at the input's end.
     ghost grows: { Bool };
 
     /// How many lines a script may have.
@@ -114,7 +114,7 @@ pub trait Kind {
         command: &Self::Command,
         writer: &mut W,
     ) -> Result<bool, ScriptFault>
-        ensures { Writes grows number (rules.commanded (said world.old) number command.now) (said world.new) (W.contents writer.old) (W.contents writer.new) result };
+        ensures { Writes (grows && rules.wants (said world.old) command.now) number (rules.commanded (said world.old) number command.now) (said world.new) (W.contents writer.old) (W.contents writer.new) result };
 
     /// Carries out the command that a line behind the first command says, and writes its text: `command_of` and `carry_out` in one,
     /// where no value has to hold whatever command there is. Answer and fault are those of both.
@@ -125,7 +125,7 @@ pub trait Kind {
         words: &Words<'_>,
         writer: &mut W,
     ) -> Result<bool, ScriptFault>
-        ensures { Writes grows number (line_commanded rules (said world.old) number (rules.command_of words.now)) (said world.new) (W.contents writer.old) (W.contents writer.new) result }
+        ensures { Writes (grows && told_wants rules (said world.old) (rules.command_of words.now)) number (line_commanded rules (said world.old) number (rules.command_of words.now)) (said world.new) (W.contents writer.old) (W.contents writer.new) result }
     {
         let read = Self::command_of(words);
         match &read {
@@ -143,7 +143,7 @@ pub trait Kind {
         world: &mut Self::World,
         writer: &mut W,
     ) -> Result<bool, ScriptFault>
-        ensures { WritesEnd grows (rules.ending (said world.old)) (W.contents writer.old) (W.contents writer.new) result };
+        ensures { WritesEnd (grows && rules.wants_at_end (said world.old)) (rules.ending (said world.old)) (W.contents writer.old) (W.contents writer.new) result };
 
     /// A command has text, or a script that ends after it.
     ghost gives_text: { GivesSome rules };
@@ -221,7 +221,7 @@ impl<K: Kind> StagedScript<K> {
         form: Form,
         _writer: &mut W,
     ) -> Result<bool, ScriptFault>
-        ensures { TakesStep (reading_of K.rules) K.grows (setup_step K.rules (stage_as K.lists K.said self.old) number words.now form) nothing_written (stage_as K.lists K.said self.old) (stage_as K.lists K.said self.new) (W.contents _writer.old) (W.contents _writer.new) result }
+        ensures { TakesStep (reading_of K.rules) (K.grows && stage_wants K.rules (stage_as K.lists K.said self.old) (K.rules.command_of words.now)) (setup_step K.rules (stage_as K.lists K.said self.old) number words.now form) nothing_written (stage_as K.lists K.said self.old) (stage_as K.lists K.said self.new) (W.contents _writer.old) (W.contents _writer.new) result }
     {
         if !K::takes(form) || self.is_misplaced(form, words) {
             return Err(ScriptFault::Script {
@@ -243,7 +243,7 @@ impl<K: Kind> StagedScript<K> {
         words: &Words<'_>,
         writer: &mut W,
     ) -> Result<bool, ScriptFault>
-        ensures { TakesStep (reading_of K.rules) K.grows (other_step K.rules (stage_as K.lists K.said self.old) number words.now) nothing_written (stage_as K.lists K.said self.old) (stage_as K.lists K.said self.new) (W.contents writer.old) (W.contents writer.new) result }
+        ensures { TakesStep (reading_of K.rules) (K.grows && stage_wants K.rules (stage_as K.lists K.said self.old) (K.rules.command_of words.now)) (other_step K.rules (stage_as K.lists K.said self.old) number words.now) nothing_written (stage_as K.lists K.said self.old) (stage_as K.lists K.said self.new) (W.contents writer.old) (W.contents writer.new) result }
     {
         let Stage::SettingUp(_, own) = &mut self.stage else {
             return Err(ScriptFault::Script {
@@ -271,7 +271,7 @@ impl<K: Kind> StagedScript<K> {
         writer: &mut W,
     ) -> Result<bool, ScriptFault>
         requires { nothing_written (stage_as K.lists K.said self.old) ≡ true }
-        ensures { TakesStep (reading_of K.rules) K.grows (early_step K.rules (stage_as K.lists K.said self.old) number words.now) nothing_written (stage_as K.lists K.said self.old) (stage_as K.lists K.said self.new) (W.contents writer.old) (W.contents writer.new) result }
+        ensures { TakesStep (reading_of K.rules) (K.grows && stage_wants K.rules (stage_as K.lists K.said self.old) (K.rules.command_of words.now)) (early_step K.rules (stage_as K.lists K.said self.old) number words.now) nothing_written (stage_as K.lists K.said self.old) (stage_as K.lists K.said self.new) (W.contents writer.old) (W.contents writer.new) result }
     {
         if K::passes(words) {
             return Ok(false);
@@ -339,7 +339,7 @@ impl<K: Kind> StagedScript<K> {
         command: &K::Command,
         writer: &mut W,
     ) -> Result<bool, ScriptFault>
-        ensures { TakesStep (reading_of K.rules) K.grows (command_step K.rules (world_at K.rules (stage_as K.lists K.said self.old) number) number command.now) nothing_written (stage_as K.lists K.said self.old) (stage_as K.lists K.said self.new) (W.contents writer.old) (W.contents writer.new) result }
+        ensures { TakesStep (reading_of K.rules) (K.grows && stage_wants K.rules (stage_as K.lists K.said self.old) (Ok command.now)) (command_step K.rules (world_at K.rules (stage_as K.lists K.said self.old) number) number command.now) nothing_written (stage_as K.lists K.said self.old) (stage_as K.lists K.said self.new) (W.contents writer.old) (W.contents writer.new) result }
     {
         if let Some(word) = self.wrong_first(number, command) {
             return Err(ScriptFault::Script { line: number, word });
@@ -359,7 +359,7 @@ impl<K: Kind> StagedScript<K> {
         words: &Words<'_>,
         writer: &mut W,
     ) -> Result<bool, ScriptFault>
-        ensures { TakesStep (reading_of K.rules) K.grows (told_step K.rules (stage_as K.lists K.said self.old) number (K.rules.command_of words.now)) nothing_written (stage_as K.lists K.said self.old) (stage_as K.lists K.said self.new) (W.contents writer.old) (W.contents writer.new) result }
+        ensures { TakesStep (reading_of K.rules) (K.grows && stage_wants K.rules (stage_as K.lists K.said self.old) (K.rules.command_of words.now)) (told_step K.rules (stage_as K.lists K.said self.old) number (K.rules.command_of words.now)) nothing_written (stage_as K.lists K.said self.old) (stage_as K.lists K.said self.new) (W.contents writer.old) (W.contents writer.new) result }
     {
         let read = K::command_of(words);
         let command = match &read {
@@ -381,7 +381,7 @@ impl<K: Kind> StagedScript<K> {
         number: u32,
         writer: &mut W,
     ) -> Result<bool, ScriptFault>
-        ensures { TakesRest (stage_ending K.rules (stage_as K.lists K.said self.old) number) [] K.grows (nothing_written (stage_as K.lists K.said self.old)) (W.contents writer.old) (W.contents writer.new) result }
+        ensures { TakesRest (stage_ending K.rules (stage_as K.lists K.said self.old) number) [] (K.grows && stage_wants_at_end K.rules (stage_as K.lists K.said self.old)) (nothing_written (stage_as K.lists K.said self.old)) (W.contents writer.old) (W.contents writer.new) result }
     {
         self.open(alloc, number)?;
         let Stage::Running(world) = &mut self.stage else {

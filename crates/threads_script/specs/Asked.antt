@@ -139,6 +139,8 @@ threads_reading =
       most_lines = 65536;
       step = λ asked number words. added_step number (asked_by asked words);
       ending = λ asked number. asked_at_end asked number asked.setup;
+      wants = λ asked words. false;
+      wants_at_end = λ asked. false;
     }
 
 -- ---- what such a script is fit for

@@ -2,7 +2,7 @@
 ghost use Rattle.std.specs.Prelude.{◌≡◌, ◌≢◌, ◌⊎◌, [], Some, Err, true};
 ghost use Rattle.std.specs.Io.Buffered.{writer_buffer, writer_contents};
 ghost use Rattle.std.specs.Io.KnownBytes.{Keeps};
-ghost use Rattle.script_text.specs.Scripts.{EndsOrStops, text_before_failure, text_of};
+ghost use Rattle.script_text.specs.Scripts.{EndsOrStops};
 ghost use Rattle.score_script.specs.Scores.{opening_state, score_reading};
 ghost use Rattle.tlscore.specs.Endings.{Flushes, status_of};
 
@@ -40,7 +40,7 @@ pub(crate) fn scored<R: Read, W: Write + Drop>(
     reader: &mut R,
     writer: &mut BufWriter<W>,
 ) -> Result<bool, ScriptFault>
-    ensures ends { Flushes (λ held. EndsOrStops true 4294967294 (text_of score_reading opening_state) (text_before_failure score_reading opening_state) (R.remaining reader.old) (R.remaining reader.new) (writer_contents W.contents writer.old) held) (writer_contents W.contents writer.new) result }
+    ensures ends { Flushes (λ held. EndsOrStops true score_reading opening_state (R.remaining reader.old) (R.remaining reader.new) (writer_contents W.contents writer.old) held) (writer_contents W.contents writer.new) result }
 
     // Nothing is left in the buffer, but where a write failed.
     ensures flushed { (result ≡ Err ScriptFault.Write) ⊎ (writer_buffer writer.new ≡ []) }

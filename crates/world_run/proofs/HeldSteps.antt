@@ -35,7 +35,7 @@ use Rattle.setups.specs.Setups.{SetupLists}
 use Rattle.world.specs.World.{Outcome, WorldState, next, opening_world}
 use Rattle.world.specs.declared.Step.{Step}
 use Rattle.world.proofs.Events.{each_way}
-use Rattle.world_run.specs.InOrder.{HoldsBack, is_finished, has_begun, is_over, started, IsForeseen, IsForeseenBy, IsInOrder, KeepsOrder, IsHistory}
+use Rattle.world_run.specs.InOrder.{HoldsBack, is_finished, has_begun, is_over, started, IsForeseen, IsForeseenBy, IsInItsTurn, KeepsOrder, IsHistory}
 use Rattle.world_run.specs.Serial.{Order, asked, is_intent, touches, touches_byte, touches_from, writes}
 use Rattle.meaning.specs.Meaning.{Bytes}
 use Rattle.world_run.proofs.BytesLeft.{message_touches}
@@ -477,7 +477,7 @@ accepts_on order table message all sound regions foreseen = record {
 
 pub are_asked : (order : Order) (state : WorldState) → KeepsOrder order state → AreAsked order state.bridge.requests.live
 are_asked order state keeps =
-    all-map (IsInOrder order state.memory.bus_bytes keeps.wrote) (λ r. asked order r.flight.number ≡ Some (request_of r.message)) state.bridge.requests.live (λ r is. is.asked) keeps.live
+    all-map (IsInItsTurn order state.memory.bus_bytes keeps.wrote) (λ r. asked order r.flight.number ≡ Some (request_of r.message)) state.bridge.requests.live (λ r is. is.asked) keeps.live
 
 module _ (order : Order) (state : WorldState) (sound : IsSoundWorld state) (regions : state.bridge.requests.regions ≡ order.regions) (all : AreAsked order state.bridge.requests.live) where
   abbrev Moves : Step → Outcome → Type 0

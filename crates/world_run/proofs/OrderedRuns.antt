@@ -20,7 +20,7 @@ use Rattle.burst_plan.specs.PageMap.{address_of}
 use Rattle.subordinate.specs.Faults.{Faults, is_good, standing_at}
 use Rattle.world_run.specs.Headline.{IsReplyTo, byte_shown}
 use Rattle.meaning.specs.InTurn.{bytes_of_all, replies_of, AcceptedMessage, requests_of}
-use Rattle.world_run.specs.InOrder.{IsGathered, IsForeseen, IsForeseenBy, IsInOrder, IsOrdered, KeepsOrder, is_finished, memory_bytes, order_of, started}
+use Rattle.world_run.specs.InOrder.{IsGathered, IsForeseen, IsForeseenBy, IsInItsTurn, IsOrdered, KeepsOrder, is_finished, memory_bytes, order_of, started}
 use Rattle.world.specs.Laws.{AreSoundAlong, IsSoundWorld}
 use Rattle.meaning.specs.Meaning.{Bytes, bytes_after_all, meaning, replies_in_order, zeros}
 use Rattle.world_run.specs.Runs.{HandedReply, answers_of, handed_at, handed_in, messages_in}
@@ -95,7 +95,7 @@ reply_is order state client request sound keeps first beats = record {
 }
   where
     is : asked order request.flight.number ≡ Some (request_of request.message)
-    is = (all-find (IsInOrder order state.memory.bus_bytes keeps.wrote) (is_done_for client) state.bridge.requests.live request keeps.live first).asked
+    is = (all-find (IsInItsTurn order state.memory.bus_bytes keeps.wrote) (is_done_for client) state.bridge.requests.live request keeps.live first).asked
 
 -- the reply that a client may take
 pub reply_served : (order : Order) (state : WorldState) (client : ℕ) (request : BridgedRequest) → IsSoundWorld state → KeepsOrder order state → reply_taken state.bridge client ≡ Some request
@@ -108,7 +108,7 @@ reply_served order state client request sound keeps taken =
     (all-mapped (IsSoundRequest (table_limits_of state.bridge.requests.config) state.bridge.requests.accepted) (λ (r : BridgedRequest). r.flight) state.bridge.requests.live sound.bridge_laws.requests.flights.requests) first)
     (and_parts (request.flight.client == client) request.flight.done (find-passes (is_done_for client) state.bridge.requests.live request first)).1
     (subst (λ (bus_bytes : ℕ). IsGathered order bus_bytes request (address_of order.regions (request_of request.message))) sound.bus
-    (all-find (IsInOrder order state.memory.bus_bytes keeps.wrote) (is_done_for client) state.bridge.requests.live request keeps.live first).gathered)
+    (all-find (IsInItsTurn order state.memory.bus_bytes keeps.wrote) (is_done_for client) state.bridge.requests.live request keeps.live first).gathered)
   where
     first_of : (none : Bool) (o : Option BridgedRequest) → (if none then None else o) ≡ Some request → o ≡ Some request
     first_of none o is = grind (arith, is)

@@ -192,7 +192,7 @@ IsGathered order bus_bytes request (Some address) = HasGathered order bus_bytes 
 
 -- a live request: it is the one of its number; what its answered writes put is written, and nothing is of a write that isn't sent, or of a
 -- request that reads; and what it has gathered is what it finds
-pub record IsInOrder (order : Order) (bus_bytes : ℕ) (wrote : ℕ → ℕ → Bool) (request : BridgedRequest) : Type 0 where
+pub record IsInItsTurn (order : Order) (bus_bytes : ℕ) (wrote : ℕ → ℕ → Bool) (request : BridgedRequest) : Type 0 where
   -- its message spells the request of its number
   pub asked : asked order request.flight.number ≡ Some (request_of request.message)
   -- a request that reads has written nothing, so its reads find what the requests before it leave
@@ -227,7 +227,7 @@ pub record KeepsOrder (order : Order) (state : WorldState) : Type 0 where
   -- conflicting requests start in the order of acceptance
   pub held : HoldsBack (writes order) (touches order) (started state.bridge.requests) (is_finished state.bridge.requests)
   -- each live request has gathered what it finds
-  pub live : AllByRecursion (IsInOrder order state.memory.bus_bytes wrote) state.bridge.requests.live
+  pub live : AllByRecursion (IsInItsTurn order state.memory.bus_bytes wrote) state.bridge.requests.live
   -- the open bursts of each ID are those of its holder
   pub bursts :
       (id : ℕ) → AreOfHolder order state.memory.bus_bytes wrote (filter (is_of_id id) state.memory.pending) (holder id state.bridge.requests.live)

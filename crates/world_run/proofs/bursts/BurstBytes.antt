@@ -42,7 +42,7 @@ use Rattle.subordinate.specs.declared.BeatState.{BeatState}
 use Rattle.subordinate.specs.declared.BeatState.TheVariants.{Captured, Waiting}
 use Rattle.world.specs.Laws.{IsSoundWorld}
 use Rattle.world.specs.World.{WorldState}
-use Rattle.world_run.specs.InOrder.{IsBurstOf, IsReadOf, IsWriteOf, PutsSerially, IsInOrder, AreBurstsOf, AreOfHolder, is_finished, has_begun, is_of_id, is_over, started}
+use Rattle.world_run.specs.InOrder.{IsBurstOf, IsReadOf, IsWriteOf, PutsSerially, IsInItsTurn, AreBurstsOf, AreOfHolder, is_finished, has_begun, is_of_id, is_over, started}
 use Rattle.meaning.specs.Meaning.{bytes_at}
 use Rattle.world_run.specs.Serial.{Order, asked, byte_left, bytes_before, gives_byte, is_intent, touches, writes}
 use Rattle.world_run.proofs.BytesLeft.{FindsSerially, byte_left_is, gives_what_is_left, gives_where_written, gives_within, same_standing, writes_is}
@@ -276,7 +276,7 @@ failed_atomic order config request range x at served is_asked atomic isnt over f
 
 -- a live request that is done has written all that it writes: its planned writes are all answered
 pub all_written_done : (order : Order) (config : Config) (bus_bytes : ℕ) (wrote : ℕ → ℕ → Bool) (request : BridgedRequest) → is_valid config ≡ true → IsPageMap order.regions
-    → IsServed config order.regions request → IsInOrder order bus_bytes wrote request → request.flight.done ≡ true
+    → IsServed config order.regions request → IsInItsTurn order bus_bytes wrote request → request.flight.done ≡ true
     → (request.flight.writing ≡ false → reply_has_data request.flight.operation ≡ true)
     → ((range : PlannedRange) → request.flight.plan ≡ Some range → reads_then_writes request.flight ≡ true → request.flight.writing ≡ false → FindsSerially order request range.address)
     → (x : ℕ) → writes order request.flight.number x ≡ true → wrote request.flight.number x ≡ true

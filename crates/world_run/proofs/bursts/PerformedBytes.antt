@@ -28,7 +28,7 @@ use Rattle.subordinate.specs.declared.BeatState.{BeatState}
 use Rattle.subordinate.specs.declared.BeatState.TheVariants.{Captured, Waiting}
 use Rattle.subordinate.proofs.EffectLaws.{has_effect}
 use Rattle.subordinate.proofs.SoundDevices.{beat_after-performed}
-use Rattle.world_run.specs.InOrder.{AreBurstsOf, AreOfHolder, IsBurstOf, IsInOrder, IsReadOf, IsWriteOf, PutsSerially, TellsSerially, is_of_id}
+use Rattle.world_run.specs.InOrder.{AreBurstsOf, AreOfHolder, IsBurstOf, IsInItsTurn, IsReadOf, IsWriteOf, PutsSerially, TellsSerially, is_of_id}
 use Rattle.world_run.specs.Serial.{Order, byte_left, bytes_before, writes}
 
 -- ---- one more beat performed
@@ -328,7 +328,7 @@ of_holder_same order bus_bytes wrote more mine (Some request) same of =
 pub in_order_more : (order : Order) (bus_bytes : ℕ) (wrote more : ℕ → ℕ → Bool) (request : BridgedRequest) → ((x : ℕ) → wrote request.flight.number x ≡ true → more request.flight.number x ≡ true)
     → (request.flight.writing ≡ false → (x : ℕ) → more request.flight.number x ≡ wrote request.flight.number x)
     → ((k : ℕ) (piece : Piece) → request.flight.sent ≤ k → slice_get (planned request.flight) k ≡ Some piece → LeavesBurst wrote more request.flight.number piece)
-    → IsInOrder order bus_bytes wrote request → IsInOrder order bus_bytes more request
+    → IsInItsTurn order bus_bytes wrote request → IsInItsTurn order bus_bytes more request
 in_order_more order bus_bytes wrote more request kept same leaves of =
     record {
       asked = of.asked;

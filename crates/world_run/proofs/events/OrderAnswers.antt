@@ -42,7 +42,7 @@ use Rattle.world.specs.World.{WorldState, changed, answered_b, answered_r}
 use Rattle.world.specs.declared.Answer.{Answer}
 use Rattle.world.specs.declared.Answer.TheVariants.{B, R}
 use Rattle.world.proofs.Settled.{settled_number}
-use Rattle.world_run.specs.InOrder.{AreBurstsOf, AreOfHolder, IsBurstOf, IsInOrder, KeepsOrder, is_of_id, memory_bytes, IsGathered, IsWriteOf, IsReadOf, TellsSerially}
+use Rattle.world_run.specs.InOrder.{AreBurstsOf, AreOfHolder, IsBurstOf, IsInItsTurn, KeepsOrder, is_of_id, memory_bytes, IsGathered, IsWriteOf, IsReadOf, TellsSerially}
 use Rattle.world_run.specs.Serial.{Order, bytes_before, writes}
 use Rattle.world_run.proofs.bursts.BurstBytes.{HasOpen, all_written_done, has_open, planned_at}
 use Rattle.world_run.proofs.gathered.GatheredAnswers.{finds_unplanned, read_in_order, response_in_order}
@@ -54,7 +54,7 @@ use Rattle.world_run.proofs.gathered.GatheredSteps.{HasWritten, settled_in_order
 -- ---- a request that is done has written all
 
 pub done_has_written : (order : Order) (table : RequestTable) (wrote : ℕ → ℕ → Bool) (test : BridgedRequest → Bool) (request : BridgedRequest) → IsSoundRequestTable table → table.regions ≡ order.regions
-    → find test table.live ≡ Some request → IsInOrder order table.config.axi_bytes wrote request → request.flight.done ≡ true → (x : ℕ) → writes order request.flight.number x ≡ true
+    → find test table.live ≡ Some request → IsInItsTurn order table.config.axi_bytes wrote request → request.flight.done ≡ true → (x : ℕ) → writes order request.flight.number x ≡ true
     → wrote request.flight.number x ≡ true
 done_has_written order table wrote test request sound regions found of done =
     let was = all-find (IsServed table.config table.regions) test table.live request sound.served found in
@@ -74,7 +74,7 @@ pub record LeavesInOrder (order : Order) (state : WorldState) (wrote : ℕ → �
   pub number : answered.flight.number ≡ request.flight.number
   pub has_id : answered.flight.id ≡ Some id
   pub sent : answered.flight.sent ≤ length (planned answered.flight)
-  pub in_order : IsInOrder order state.memory.bus_bytes wrote (settled answered)
+  pub in_order : IsInItsTurn order state.memory.bus_bytes wrote (settled answered)
   pub own : AreBurstsOf order state.memory.bus_bytes wrote answered.flight.number answered.flight.writing (filter (is_of_id id) after) (outstanding answered.flight)
   pub others : (j : ℕ) → id ≢ j → filter (is_of_id j) after ≡ filter (is_of_id j) state.memory.pending
   pub held_by_others : (j : ℕ) (r : BridgedRequest) → holds j r ≡ false → holds j (change r) ≡ false
@@ -92,7 +92,7 @@ answered_keeps order state id request change after open_bursts answer sound keep
       history =
           history_changed (writes order) (bytes_before order) keeps.wrote (memory_bytes state) state.bridge.requests (holds id) change request rising known.held same_number (λ n was. (moves.goes n).begun was) all_written keeps.history;
       held = held;
-      live = all-change_found (IsInOrder order state.memory.bus_bytes keeps.wrote) (holds id) change state.bridge.requests.live request known.held in_order keeps.live;
+      live = all-change_found (IsInItsTurn order state.memory.bus_bytes keeps.wrote) (holds id) change state.bridge.requests.live request known.held in_order keeps.live;
       bursts = λ j.
           elim (cases_eq id j) [
             | inl same ↦ subst (λ k. AreOfHolder order state.memory.bus_bytes keeps.wrote (filter (is_of_id k) after) (holder k (change_first (holds id) change state.bridge.requests.live))) same own
@@ -106,8 +106,8 @@ answered_keeps order state id request change after open_bursts answer sound keep
     same_number : (change request).flight.number ≡ request.flight.number
     same_number = ap (λ (r : BridgedRequest). r.flight.number) leaves.becomes ∙ settled_number leaves.answered ∙ leaves.number
 
-    in_order : IsInOrder order state.memory.bus_bytes keeps.wrote (change request)
-    in_order = subst (IsInOrder order state.memory.bus_bytes keeps.wrote) (sym leaves.becomes) leaves.in_order
+    in_order : IsInItsTurn order state.memory.bus_bytes keeps.wrote (change request)
+    in_order = subst (IsInItsTurn order state.memory.bus_bytes keeps.wrote) (sym leaves.becomes) leaves.in_order
 
     found : find (is_numbered request.flight.number) (change_first (holds id) change state.bridge.requests.live) ≡ Some (change request)
     found = found_changed state.bridge.requests.live (holds id) change request rising known.held same_number
@@ -116,7 +116,7 @@ answered_keeps order state id request change after open_bursts answer sound keep
     all_written done =
         subst (λ n. (x : ℕ) → writes order n x ≡ true → keeps.wrote n x ≡ true) same_number
         (done_has_written order (changed_table (holds id) change state.bridge.requests) keeps.wrote (is_numbered request.flight.number) (change request) new keeps.regions found
-        (subst (λ bus. IsInOrder order bus keeps.wrote (change request)) sound.bus in_order) done)
+        (subst (λ bus. IsInItsTurn order bus keeps.wrote (change request)) sound.bus in_order) done)
 
     own : AreOfHolder order state.memory.bus_bytes keeps.wrote (filter (is_of_id id) after) (holder id (change_first (holds id) change state.bridge.requests.live))
     own =
@@ -179,8 +179,8 @@ module _ (order : Order) (state : WorldState) (id : ℕ) (pending : Pending) (so
   next : IsNextOf (planned write_request.flight) write_request.flight.answered write_request.flight.sent write_first.piece write_first.rest
   next = part-next (planned write_request.flight) write_request.flight.answered write_request.flight.sent write_first.piece write_first.rest write_first.outstanding
 
-  write_of : IsInOrder order state.memory.bus_bytes keeps.wrote write_request
-  write_of = all-find (IsInOrder order state.memory.bus_bytes keeps.wrote) (holds id) write_table.live write_request keeps.live write_has.known.held
+  write_of : IsInItsTurn order state.memory.bus_bytes keeps.wrote write_request
+  write_of = all-find (IsInItsTurn order state.memory.bus_bytes keeps.wrote) (holds id) write_table.live write_request keeps.live write_has.known.held
 
   write_served : IsServed write_table.config order.regions write_request
   write_served = subst (λ (map : List Region). IsServed write_table.config map write_request) keeps.regions write_has.known.served
@@ -364,8 +364,8 @@ module _ (order : Order) (state : WorldState) (id : ℕ) (pending : Pending) (pa
         few = reader.few;
       }
 
-  of : IsInOrder order state.memory.bus_bytes keeps.wrote request
-  of = all-find (IsInOrder order state.memory.bus_bytes keeps.wrote) (holds id) table.live request keeps.live has.known.held
+  of : IsInItsTurn order state.memory.bus_bytes keeps.wrote request
+  of = all-find (IsInItsTurn order state.memory.bus_bytes keeps.wrote) (holds id) table.live request keeps.live has.known.held
 
   served : IsServed table.config order.regions request
   served = subst (λ (map : List Region). IsServed table.config map request) keeps.regions has.known.served

@@ -38,7 +38,7 @@ use Rattle.world.specs.World.{WorldState, changed, taken}
 use Rattle.world.specs.declared.Answer.TheVariants.{Accepted, More, Done}
 use Rattle.world.specs.Laws.{IsSoundWorld}
 use Rattle.world.proofs.Events.{after_accepted, after_begun, sent_from}
-use Rattle.world_run.specs.InOrder.{IsHistory, IsInOrder, KeepsOrder, is_finished, is_of_id, is_over, memory_bytes, started, has_begun, AreBurstsOf, AreOfHolder, IsBurstOf, IsGathered}
+use Rattle.world_run.specs.InOrder.{IsHistory, IsInItsTurn, KeepsOrder, is_finished, is_of_id, is_over, memory_bytes, started, has_begun, AreBurstsOf, AreOfHolder, IsBurstOf, IsGathered}
 use Rattle.meaning.specs.Meaning.{Bytes}
 use Rattle.world_run.specs.Serial.{Order, asked, bytes_before, writes, byte_left, touches}
 use Rattle.world_run.proofs.gathered.GatheredSteps.{gathered-sent, gathered-start}
@@ -87,7 +87,7 @@ accept_keeps order state client beat foreseen keeps moves held =
           history_moves (writes order) (bytes_before order) (started state.bridge.requests) (is_finished state.bridge.requests) (started (with_request message state.bridge.requests))
           (is_finished (with_request message state.bridge.requests)) keeps.wrote (memory_bytes state) keeps.history (λ n was. (moves.goes n).begun was) ends;
       held = held;
-      live = all-append (IsInOrder order state.memory.bus_bytes keeps.wrote) state.bridge.requests.live (newly_live state.bridge.requests message) keeps.live in_order;
+      live = all-append (IsInItsTurn order state.memory.bus_bytes keeps.wrote) state.bridge.requests.live (newly_live state.bridge.requests message) keeps.live in_order;
       bursts = λ id.
           of_same_holder order state.memory.bus_bytes keeps.wrote (filter (is_of_id id) state.memory.pending) (holder id state.bridge.requests.live)
           (holder id (state.bridge.requests.live ++ newly_live state.bridge.requests message ∷ []))
@@ -97,7 +97,7 @@ accept_keeps order state client beat foreseen keeps moves held =
     message : HeldMessage
     message = message_with state.bridge client beat
 
-    in_order : IsInOrder order state.memory.bus_bytes keeps.wrote (newly_live state.bridge.requests (message_with state.bridge client beat))
+    in_order : IsInItsTurn order state.memory.bus_bytes keeps.wrote (newly_live state.bridge.requests (message_with state.bridge client beat))
     in_order =
         record {
           asked = foreseen;
@@ -144,7 +144,7 @@ take_keeps order state client request sound keeps held =
           (λ n was. ap (λ b. nat_lt n state.bridge.requests.accepted && b) (same_test state.bridge.requests client n has_begun rising (λ r done. begun_last (is_some r.flight.id) r.flight.done done) refl) ∙ was)
           (λ n over. inl (ap (λ b. nat_lt n state.bridge.requests.accepted && b) (sym (same_test state.bridge.requests client n is_over rising (λ r done. done) refl)) ∙ over));
       held = held;
-      live = all-without_first (IsInOrder order state.memory.bus_bytes keeps.wrote) (is_done_for client) state.bridge.requests.live keeps.live;
+      live = all-without_first (IsInItsTurn order state.memory.bus_bytes keeps.wrote) (is_done_for client) state.bridge.requests.live keeps.live;
       bursts = λ id.
           of_same_holder order state.memory.bus_bytes keeps.wrote (filter (is_of_id id) state.memory.pending) (holder id state.bridge.requests.live) (holder id (without_done client state.bridge.requests).live) (sym (same_holder id)) (keeps.bursts id);
     }
@@ -180,8 +180,8 @@ module _ (order : Order) (state : WorldState) (sending : Sending) (sent : IsNext
   abbrev sent_number : ℕ
   sent_number = request.flight.number
 
-  sent_of : IsInOrder order state.memory.bus_bytes keeps.wrote request
-  sent_of = all-find (IsInOrder order state.memory.bus_bytes keeps.wrote) (may_send sent_table) sent_table.live request keeps.live sent.found
+  sent_of : IsInItsTurn order state.memory.bus_bytes keeps.wrote request
+  sent_of = all-find (IsInItsTurn order state.memory.bus_bytes keeps.wrote) (may_send sent_table) sent_table.live request keeps.live sent.found
 
   served : IsServed sent_table.config order.regions request
   served =
@@ -218,7 +218,7 @@ module _ (order : Order) (state : WorldState) (sending : Sending) (sent : IsNext
   abbrev after : List BridgedRequest
   after = (after_sent state.bridge sending).requests.live
 
-  in_order : IsInOrder order state.memory.bus_bytes keeps.wrote (after_sending sending.id request)
+  in_order : IsInItsTurn order state.memory.bus_bytes keeps.wrote (after_sending sending.id request)
   in_order =
       record {
         asked = sent_of.asked;
@@ -277,7 +277,7 @@ module _ (order : Order) (state : WorldState) (sending : Sending) (sent : IsNext
             history_changed (writes order) (bytes_before order) keeps.wrote (memory_bytes state) sent_table (is_numbered sent_number) (after_sending sending.id) request
             sound.bridge_laws.requests.flights.rising by_number refl (λ n was. (moves.goes n).begun was) (λ over. absurd (cc (over, sent.ready.undone))) keeps.history;
         held = held;
-        live = all-change_found (IsInOrder order state.memory.bus_bytes keeps.wrote) (is_numbered sent_number) (after_sending sending.id) sent_table.live request by_number in_order keeps.live;
+        live = all-change_found (IsInItsTurn order state.memory.bus_bytes keeps.wrote) (is_numbered sent_number) (after_sending sending.id) sent_table.live request by_number in_order keeps.live;
         bursts = λ id. all_bursts id (sending.id == id) refl;
       }
 
@@ -322,8 +322,8 @@ module _ (order : Order) (state : WorldState) (pending : Pending) (beat : ℕ) (
   abbrev going : IsGoingOn order table has.request one.piece
   going = going_on order state id has.request one.place one.piece sound keeps.regions has.known one.there
 
-  of : IsInOrder order state.memory.bus_bytes keeps.wrote has.request
-  of = all-find (IsInOrder order state.memory.bus_bytes keeps.wrote) (holds id) table.live has.request keeps.live has.known.held
+  of : IsInItsTurn order state.memory.bus_bytes keeps.wrote has.request
+  of = all-find (IsInItsTurn order state.memory.bus_bytes keeps.wrote) (holds id) table.live has.request keeps.live has.known.held
 
   sound_pending : IsSoundPending state.memory.bus_bytes pending
   sound_pending = all-find (IsSoundPending state.memory.bus_bytes) (has_serial pending.serial) state.memory.pending pending sound.memory_laws.each found
@@ -440,8 +440,8 @@ module _ (order : Order) (state : WorldState) (pending : Pending) (beat : ℕ) (
           let its : (id == j) ≡ true = ap (λ (o : Option ℕ). is_id j o) (sym has.known.has_id) ∙ held in
           apart (eqb-true id j its)
 
-  live_more : AllByRecursion (IsInOrder order state.memory.bus_bytes more) table.live
-  live_more = all_both (λ (r : BridgedRequest). r.flight.number ≡ number → r ≡ has.request) (IsInOrder order state.memory.bus_bytes keeps.wrote) (IsInOrder order state.memory.bus_bytes more) table.live
+  live_more : AllByRecursion (IsInItsTurn order state.memory.bus_bytes more) table.live
+  live_more = all_both (λ (r : BridgedRequest). r.flight.number ≡ number → r ≡ has.request) (IsInItsTurn order state.memory.bus_bytes keeps.wrote) (IsInItsTurn order state.memory.bus_bytes more) table.live
       (λ r alone was. in_order_more order state.memory.bus_bytes keeps.wrote more r (kept r.flight.number) (same_unwritten r alone) (unsent_left r alone) was)
       (numbered_once (holds id) table.live has.request sound.bridge_laws.requests.flights.rising has.known.held) keeps.live
 

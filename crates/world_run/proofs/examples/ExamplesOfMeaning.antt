@@ -22,7 +22,7 @@ use Rattle.world.proofs.Examples.{a, plain, start, write_of_one}
 use Rattle.meaning.specs.Meaning.{Bytes, Effect, bytes_after_all, meaning, replies_in_order, zeros}
 use Rattle.world_run.specs.Serial.{Order, byte_left, bytes_before, touches, writes}
 use Rattle.meaning.specs.InTurn.{IsSpelled}
-use Rattle.world_run.specs.InOrder.{IsInOrder, IsWriteOf}
+use Rattle.world_run.specs.InOrder.{IsInItsTurn, IsWriteOf}
 
 -- four pages, of which the second is a slave-error page, the third absent, and a word of the first is bad
 abbrev faults : Faults
@@ -352,5 +352,5 @@ not_while_it_waits of = let none = of.unwritten 0 0x10008 refl (omega arith) ref
 abbrev just_accepted : BridgedRequest
 just_accepted = newly_live (start plain).bridge.requests (message_of 0 put [])
 
-not_before_it_is_sent : IsInOrder order_of_put 8 (λ number x. true) just_accepted → ⊥
+not_before_it_is_sent : IsInItsTurn order_of_put 8 (λ number x. true) just_accepted → ⊥
 not_before_it_is_sent of = let none = of.unsent refl 0 0 0x10008 piece (omega arith) refl (omega arith) refl in absurd (cc (none))

@@ -22,7 +22,7 @@ use Rattle.bridge_core.proofs.ResponseLinks.{not_so}
 use Rattle.bridge_core.proofs.ServedRequests.{atomic_first}
 use Rattle.subordinate.specs.Faults.{read_response, standing_at, write_response}
 use Rattle.world.proofs.Settled.{settled_has, settled_message, settled_number}
-use Rattle.world_run.specs.InOrder.{HasGathered, IsGathered, TellsAt, IsInOrder}
+use Rattle.world_run.specs.InOrder.{HasGathered, IsGathered, TellsAt, IsInItsTurn}
 use Rattle.world_run.specs.Serial.{Order, asked, writes}
 
 -- ---- a new request
@@ -244,7 +244,7 @@ settled_unsent : (wrote : ℕ → ℕ → Bool) (request : BridgedRequest) → I
 settled_unsent wrote request none unsent = settled_has (IsUnsent wrote) request unsent (λ reads writes k n x piece past there within has. none reads x) unsent
 
 pub settled_in_order : (order : Order) (bus_bytes : ℕ) (wrote : ℕ → ℕ → Bool) (request : BridgedRequest) → asked order request.flight.number ≡ Some (request_of request.message) → IsUnwritten wrote request → IsUnsent wrote request → HasWritten order wrote request
-    → IsGathered order bus_bytes (settled request) (address_of order.regions (request_of request.message)) → IsInOrder order bus_bytes wrote (settled request)
+    → IsGathered order bus_bytes (settled request) (address_of order.regions (request_of request.message)) → IsInItsTurn order bus_bytes wrote (settled request)
 settled_in_order order bus_bytes wrote request is_asked none unsent written told =
     record {
       asked = ap (asked order) (settled_number request) ∙ is_asked ∙ ap (λ m. Some (request_of m)) (sym (settled_message request));

@@ -16,4 +16,4 @@ returns-in_default g c =
     }
 
 pub returns : goal.returns
-returns g c = EndsAs-fixed _ _ _ _ _ _ _ _ (rw c.new-script.ensures at c.read_script.ensures)
+returns g c = EndsAs-fixed _ _ _ _ _ _ _ (rw c.new-script.ensures at c.read_script.ensures)

@@ -66,12 +66,12 @@ returns-in_default g c =
 
 pub run_asked-requires-after_bounds : goal.run_asked-requires-after_bounds
 run_asked-requires-after_bounds g c lifetimes outlives =
-    let read = EndsAs-fixed _ _ _ _ _ _ _ _ c.in-Ok-read_script.ensures in
+    let read = EndsAs-fixed _ _ _ _ _ _ _ c.in-Ok-read_script.ensures in
     sound_asked c.in-Ok.nothing c.in-Ok-read_script.asked 1 (lines_of read.judged) read.ends.1.1
 
 pub report_lines-requires : goal.report_lines-requires
 report_lines-requires g c =
-    let read = EndsAs-fixed _ _ _ _ _ _ _ _ c.in-Ok-read_script.ensures in
+    let read = EndsAs-fixed _ _ _ _ _ _ _ c.in-Ok-read_script.ensures in
     let sound = sound_asked c.in-Ok.nothing c.in-Ok-read_script.asked 1 (lines_of read.judged) read.ends.1.1 in
     (sound.setup, (take sound.setup.config.clients c.in-Ok-read_script.asked.scripts, c.in-Ok-run_asked.ensures.report sound.setup sound.set_up))
 
@@ -82,14 +82,14 @@ returns-in-Err-run_asked g c =
     record {
       reading = Ok asked;
       held = held;
-      read = EndsAs-fixed _ _ _ _ _ _ _ _ (rw c.in-Ok.ensures at c.in-Ok-read_script.ensures);
+      read = EndsAs-fixed _ _ _ _ _ _ _ (rw c.in-Ok.ensures at c.in-Ok-read_script.ensures);
       ran = run_failed asked held c.in-Err-run_asked.fault c.in-Err-run_asked.ensures.fault;
     }
 
 pub returns-in-Ok-report_lines : goal.returns-in-Ok-report_lines
 returns-in-Ok-report_lines g c =
     let asked = c.in-Ok-read_script.asked in
-    let read = EndsAs-fixed _ _ _ _ _ _ _ _ c.in-Ok-read_script.ensures in
+    let read = EndsAs-fixed _ _ _ _ _ _ _ c.in-Ok-read_script.ensures in
     let sound = sound_asked c.in-Ok.nothing asked 1 (lines_of read.judged) read.ends.1.1 in
     let report = c.in-Ok-run_asked.report in
     let is = c.in-Ok-run_asked.ensures.report sound.setup sound.set_up in
@@ -116,7 +116,7 @@ returns-in-Ok-report_lines g c =
 pub returns : goal.returns
 returns g c =
     let asked = c.in-Ok-read_script.asked in
-    let read = EndsAs-fixed _ _ _ _ _ _ _ _ c.in-Ok-read_script.ensures in
+    let read = EndsAs-fixed _ _ _ _ _ _ _ c.in-Ok-read_script.ensures in
     let sound = sound_asked c.in-Ok.nothing asked 1 (lines_of read.judged) read.ends.1.1 in
     let report = c.in-Ok-run_asked.report in
     let is = c.in-Ok-run_asked.ensures.report sound.setup sound.set_up in

@@ -20,6 +20,7 @@ returns c =
       answer = did.answer;
       state = ap (λ (w : WorldState). bridge w old.reply old.last) did.state;
       drains = did.drains;
+      leads = did.leads;
       laws = did.laws;
       order = λ order keeps. led_keeps order c.drain.result old.world new did.leads did.laws keeps;
     })

@@ -18,7 +18,7 @@ returns-in_err-take_line c =
     let told_is : c.from_residual.result ≡ Err c.in_err-take_line.field-0.0 = search (rules, c.from_residual.ensures) in
     let after = the_view (record { script = c.take_line.new.script; number = c.self.inside.number }) in
     subst (λ (told : Result (Unit {0}) ScriptFault). SetUpTold c.args.self.now c.args.line.now after told) (sym told_is)
-    (setup_err_told c.args.self.now after c.args.line.now c.next_number-at.result _ _ _ c.in_err-take_line.field-0.0 _ _ (ap stage_in c.self.view_is) number_is c.in_err-take_line.was c.take_line.ensures)
+    (setup_err_told _ c.args.self.now after c.args.line.now c.next_number-at.result _ _ _ c.in_err-take_line.field-0.0 _ _ (ap stage_in c.self.view_is) number_is c.in_err-take_line.was c.take_line.ensures)
 
 pub returns-then-branch : goal.returns-then-branch
 returns-then-branch c =

@@ -1,14 +1,11 @@
+-- Memory is refused only where the beat would ask for it if no page had room.
 use Rattle.std.proofs.Common.{rules}
+use Rattle.score_script.proofs.Wanting.{asks_whatever}
+use Rattle.scoreboard.specs.InsideBoards.{board_of}
+use Rattle.serial_memory.specs.SerialMemory.{rooms_of}
 use Rattle.score_script.proofs.score.Score.judge.Goals as goal
 
-pub returns-then-is_some-clause-found : goal.returns-then-is_some-clause-found
-returns-then-is_some-clause-found c = search rules
-
-pub returns-then-is_some-clause-state : goal.returns-then-is_some-clause-state
-returns-then-is_some-clause-state c = search rules
-
-pub returns-else-is_some-2-clause-found : goal.returns-else-is_some-2-clause-found
-returns-else-is_some-2-clause-found c = search rules
-
-pub returns-else-is_some-2-clause-state : goal.returns-else-is_some-2-clause-state
-returns-else-is_some-2-clause-state c = search rules
+pub returns-in_err-found-clause-cause : goal.returns-in_err-found-clause-cause
+returns-in_err-found-clause-cause c =
+    let asks = asks_whatever c.args.self.now.board.policy (board_of c.args.self.now.board) (rooms_of c.args.self.now.board.memory) c.args.seen.now.beat c.in_err-found.ensures.cause in
+    search (rules, asks, c.from_residual.ensures)

@@ -1,4 +1,4 @@
-use Rattle.std.proofs.Common.{ap, sym, ◌∙◌, rules}
+use Rattle.std.proofs.Common.{ap, sym, ◌∙◌}
 use Rattle.script_text.proofs.StageSteps.{OpensStage-running}
 use Rattle.script_text.specs.Stages.{stage_as, stage_of}
 use Rattle.script_text.proofs.stages.StagedScript.make.Goals as goal
