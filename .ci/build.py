@@ -1,11 +1,13 @@
 """Proves and builds a program, or a static library, and the crates that it stands on, side by side where none stands on another.
 
     python3 .ci/build.py PROGRAM
+    python3 .ci/build.py --ahead PROGRAM ..     builds nothing, and says how long all of these would take
 
 It is called at the top of the repository, and prints what rt does. rt locks a crate and all below it, so each is built in a copy
 of the tree in out/build, and what it gives is taken from there. A crate that was built of the sources as they are isn't built
-again, so that a build which was stopped goes on there. On standard error it says how far it is and how long the rest will take,
-by what each crate took before: the table .ci/seconds, and out/seconds, which it writes.
+again, so that a build which was stopped goes on there. On standard error it says first how long it will take, and which ways need no
+proof, then how far it is and how long the rest will take, by what each crate took before: the table .ci/seconds, and out/seconds,
+which it writes.
 """
 
 import hashlib
@@ -18,6 +20,9 @@ from concurrent.futures import FIRST_COMPLETED, ThreadPoolExecutor, wait
 from pathlib import Path
 
 ROOM, LANES, TABLES = Path("out/build"), os.cpu_count() or 1, (Path(".ci/seconds"), Path("out/seconds"))
+# The ways to a program, and to the library, that need no proof.
+OTHER_WAYS = "an archive needs no proof (docs/INSTALL.md); ./{0} --unproved .. answers in a minute or two, and proves nothing"
+OTHER_WAY = "an archive has the library, and needs no proof (docs/INSTALL.md)"
 
 
 class Crate:
@@ -27,7 +32,7 @@ class Crate:
         self.line, self.name, self.below, self.seconds, self.began = line, line.split(":")[0].split()[0], below, seconds, None
         self.folder, self.copy, self.stamp = Path("crates", self.name), ROOM / self.name, ROOM / f"{self.name}.sum"
         is_static = "staticlib" in line.split(":")[0].split()
-        self.words = ["rt", "run" if is_last and not is_static else "lib"]
+        self.is_static, self.words = is_static, ["rt", "run" if is_last and not is_static else "lib"]
         self.result = self.folder / "out" / (f"lib{self.name}.a" if is_static else self.name if is_last else "rlib")
         self.made = self.result if is_last else ROOM / f"{self.name}.rlib"
         self.is_built = not is_last and self.made.exists() and self.stamp.exists() and self.stamp.read_text() == self.sum()
@@ -71,11 +76,17 @@ class Crate:
             self.is_built, self.seconds = True, time.monotonic() - self.began
 
 
-def crates_of(program):
-    """A program and each crate that it stands on, the lowest first, in whatever order the list names them."""
+def seconds_in(table):
+    """How long each crate took, by a table; there may be none."""
+    lines = table.read_text().splitlines() if table.exists() else []
+    return {name: float(seconds) for name, seconds in map(str.split, lines)}
+
+
+def crates_of(*programs):
+    """Programs and each crate that they stand on, the lowest first, in whatever order the list names them."""
     lines = [line for line in Path("crates.txt").read_text().splitlines() if line and not line.startswith("#")]
     listed, crates = {line.split(":")[0].split()[0]: line for line in lines}, {}
-    known = dict(line.split() for table in TABLES if table.exists() for line in table.read_text().splitlines())
+    known = {name: seconds for table in TABLES for name, seconds in seconds_in(table).items()}
 
     def put_behind_those_below(name):
         below = [it for it in listed[name].split(":")[1].split() if it in listed]
@@ -83,9 +94,10 @@ def crates_of(program):
             if it not in crates:
                 put_behind_those_below(it)
         lowest_first = [crate for crate in crates.values() if crate.name in below]
-        crates[name] = Crate(listed[name], lowest_first, name == program, float(known.get(name, 30)))
+        crates[name] = Crate(listed[name], lowest_first, name in programs, known.get(name, 30.0))
 
-    put_behind_those_below(program)
+    for name in programs:
+        put_behind_those_below(name)
     return [*crates.values()]
 
 
@@ -99,6 +111,24 @@ def chains(crates, scale):
     return chain, total
 
 
+def minutes(chain, total):
+    """How long is left, by the chains and by all of it: as the longest chain takes, or as all takes side by side."""
+    return max(*chain.values(), total / LANES) / 60
+
+
+def counted(number, name):
+    return f"{number} {name}{'' if number == 1 else 's'}"
+
+
+def ahead(names, crates):
+    """What is to be proved and built for some programs, how long that takes, and by what that is known."""
+    left = [it for it in crates if not it.is_built]
+    here = seconds_in(TABLES[1])
+    source = "what they took here before" if all(it.name in here for it in left) else "the table .ci/seconds"
+    took = f"some {max(minutes(*chains(crates, 1)), 1):.0f} min on {counted(LANES, 'processor')}, by {source}"
+    return f"{', '.join(names)}: {counted(len(left), 'crate')} to prove and build first, which takes {took}"
+
+
 def build(program, crates):
     """Builds all, first the crate that the longest chain waits for; gives the one that couldn't be built, if there is one."""
     before, running = {it: it.seconds for it in crates}, {}
@@ -110,9 +140,8 @@ def build(program, crates):
             for crate in sorted(waits, key=chain.get, reverse=True)[: LANES - len(running)]:
                 crate.begins()
                 running[pool.submit(crate.build)] = crate
-            number, minutes = sum(it.is_built for it in crates), max(*chain.values(), total / LANES) / 60
-            names = ", ".join(it.name for it in running.values())
-            print(f"{program}: {number} of {len(crates)} built, {minutes:.0f} min to go; now {names}", file=sys.stderr, flush=True)
+            number, names = sum(it.is_built for it in crates), ", ".join(it.name for it in running.values())
+            told(f"{program}: {number} of {len(crates)} built, {minutes(chain, total):.0f} min to go; now {names}")
             for ended in wait(running, return_when=FIRST_COMPLETED).done:
                 crate = running.pop(ended)
                 printed, is_made = ended.result()
@@ -123,13 +152,19 @@ def build(program, crates):
     return None
 
 
+def told(line):
+    print(line, file=sys.stderr, flush=True)
+
+
 def main(program):
     ROOM.mkdir(parents=True, exist_ok=True)
     crates = crates_of(program)
+    told(ahead([program], crates))
+    told(f"{program}: {OTHER_WAY if crates[-1].is_static else OTHER_WAYS.format(program)}")
     try:
         failed = build(program, crates)
     except KeyboardInterrupt:
-        print(f"{program}: the build was stopped; the next call goes on there", file=sys.stderr)
+        told(f"{program}: the build was stopped; the next call goes on there")
         return 130
     finally:
         TABLES[1].write_text("".join(f"{it.name} {max(it.seconds, 1):.0f}\n" for it in crates))
@@ -138,4 +173,6 @@ def main(program):
 
 
 if __name__ == "__main__":
+    if sys.argv[1] == "--ahead":
+        sys.exit(told(ahead(sys.argv[2:], crates_of(*sys.argv[2:]))))
     sys.exit(main(sys.argv[1]))

@@ -1,9 +1,11 @@
 # What ./tlbridge, ./tlscore, interfaces/build and ./test know of a program, and of the static library zuldegei, by its name: where it
-# stands, and what it was built from. They read this file at the top of the repository.
+# stands, and what it was built from. They read this file at the top of the repository. A program NAME of which nothing is proved is
+# NAME.unproved to them, another file with another stamp, so that neither is ever taken for the other.
 
 # Prints where a program or the library stands.
 program_of() {
     case $1 in
+    *.unproved) printf 'out/%s' "$1" ;;
     zuldegei) printf 'crates/%s/out/lib%s.a' "$1" "$1" ;;
     *) printf 'crates/%s/out/%s' "$1" "$1" ;;
     esac

@@ -1,8 +1,11 @@
 """Runs a part of ./test, and notes what it took of a processor and of the clock in out/took, by its kind.
 
     python3 .ci/took.py KIND COMMAND..      runs the command and ends as it does; `proofs` is the kind of rt ci
+    python3 .ci/took.py --ahead             prints how long ./test will take, by .ci/took, where that is there
     python3 .ci/took.py --told              prints what all parts took together, by kind
     python3 .ci/took.py --keep              makes .ci/took and .ci/seconds from what a whole ./test anew noted
+
+How ./test is called stands at the head of out/took.
 
 Of `proofs` the proofs of tests and what rt ci tries of wrong bodies are told apart by looking at its processes, and out/seconds says
 for how long each crate was being proved, by which .ci/build.py tells how long a build will take. What isn't proved anew keeps its
@@ -11,6 +14,7 @@ number there.
 
 import argparse
 import os
+import re
 import resource
 import subprocess
 import sys
@@ -18,9 +22,11 @@ import time
 from pathlib import Path
 from typing import Dict, Iterator, List, NamedTuple, Optional, Tuple
 
-TOOK, SECONDS, EVERY = Path("out/took"), Path("out/seconds"), 2.0
-# How ./test begins TOOK where it takes nothing that was kept.
-ANEW = "# ./test anew"
+TOOK, KEPT, SECONDS, EVERY = Path("out/took"), Path(".ci/took"), Path("out/seconds"), 2.0
+# How ./test begins TOOK where it takes nothing that was kept, and where it tries the programs alone.
+ANEW, PROGRAMS = "# ./test anew", "# ./test program"
+# What KEPT says of the machine on which it was made, and how many processors that had where it says nothing.
+MACHINE, PROCESSORS = re.compile(r"(?m)^# on (\d+) processors?$"), 4
 TICK = os.sysconf("SC_CLK_TCK")
 KINDS = ("proofs", "tests", "wrong bodies", "programs")
 # How the folders are named in which rt ci checks copies of a crate: each with a wrong body, and the one that these begin with.
@@ -93,7 +99,7 @@ def run(kind: str, command: List[str]) -> int:
     watch, began = Watch(), time.monotonic()
     TOOK.parent.mkdir(exist_ok=True)
     TOOK.touch()
-    print(f"== {' '.join(Path(it).name for it in command[:2])}, after {sums(TOOK)[1]:.0f} minutes", flush=True)
+    print(f"== {' '.join(Path(it).name for it in command[:2])}, after {sums(TOOK)[1]:.0f}{of_whole()} minutes", flush=True)
     with subprocess.Popen(command) as ran:
         last = began
         while kind == "proofs" and ran.poll() is None:
@@ -121,9 +127,41 @@ def sums(file: Path) -> Tuple[Dict[str, float], float]:
 
 
 def told(file: Path = TOOK) -> str:
-    minutes, clock = sums(file)
+    minutes, taken = sums(file)
     kinds = ", ".join(f"{kind} {it:.0f}" for kind, it in minutes.items() if it >= 0.5)
-    return f"{sum(minutes.values()):.0f} processor minutes, {clock:.0f} of the clock: {kinds}"
+    return f"{sum(minutes.values()):.0f} processor minutes, {taken:.0f} of the clock: {kinds}"
+
+
+def clock(processors: int) -> float:
+    """How many minutes a whole test takes on so many processors, by KEPT. What ran alone there takes as long here, the rest is shared."""
+    kinds, taken = sums(KEPT)
+    whole, machine = sum(kinds.values()), MACHINE.search(KEPT.read_text())
+    there = int(machine[1]) if machine else PROCESSORS
+    alone = max((there * taken - whole) / (there - 1), 0) if there > 1 else 0
+    return alone + (whole - alone) / processors
+
+
+def called() -> str:
+    """How ./test was called."""
+    return TOOK.read_text().partition("\n")[0].strip() if TOOK.exists() else ""
+
+
+def of_whole() -> str:
+    """How long the whole of it takes, where that is known: who doesn't prove anew has most of it kept, unless it is the first time."""
+    if not KEPT.exists() or called() == PROGRAMS:
+        return ""
+    return f" of {'' if called() == ANEW else 'at most '}some {clock(os.cpu_count() or 1):.0f}"
+
+
+def ahead() -> Optional[str]:
+    """How long ./test will take, where KEPT is there."""
+    if not KEPT.exists():
+        return None
+    kinds, here = sums(KEPT)[0], os.cpu_count() or 1
+    if called() == PROGRAMS:
+        return f"./test program takes some {kinds['programs']:.0f} minutes"
+    whole = f"some {clock(here):.0f} minutes on {here} processor{'s' if here > 1 else ''} ({sum(kinds.values()):.0f} processor minutes)"
+    return f"./test anew takes {whole}" if called() == ANEW else f"./test takes {whole} where nothing was proved yet, and else less"
 
 
 def keep() -> int:
@@ -135,14 +173,16 @@ def keep() -> int:
         print(f"no whole ./test anew was noted here: {', '.join(lacking) or 'it took what was kept'}", file=sys.stderr)
         return 1
     Path(".ci/seconds").write_text("".join(f"{it} {known[it]}\n" for it in sorted(names)))
-    minutes, clock = sums(TOOK)
-    Path(".ci/took").write_text("".join(f"{60 * it:.0f} {60 * clock if kind == 'proofs' else 0:.0f} {kind}\n" for kind, it in minutes.items()))
+    minutes, taken = sums(TOOK)
+    rows = (f"{60 * it:.0f} {60 * taken if kind == 'proofs' else 0:.0f} {kind}\n" for kind, it in minutes.items())
+    KEPT.write_text("".join([f"# on {os.cpu_count() or 1} processors\n", *rows]))
     print(told())
     return 0
 
 
 def main() -> int:
     words = argparse.ArgumentParser(description=__doc__, formatter_class=argparse.RawDescriptionHelpFormatter)
+    words.add_argument("--ahead", action="store_true")
     words.add_argument("--told", action="store_true")
     words.add_argument("--keep", action="store_true")
     words.add_argument("kind", nargs="?", choices=KINDS)
@@ -150,8 +190,8 @@ def main() -> int:
     given = words.parse_args()
     if given.keep:
         return keep()
-    if given.told:
-        print(told())
+    if given.ahead or given.told:
+        print(told() if given.told else ahead() or "how long it takes isn't known: .ci/took isn't there")
         return 0
     return run(given.kind, given.command)
 

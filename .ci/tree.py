@@ -30,6 +30,7 @@ COPIED = (
     ("include", "interfaces/systemc", "zuldegei_systemc.h"),
     ("share/zuldegei/systemverilog", "interfaces/systemverilog", "*"),
     ("share/zuldegei/python/zuldegei", "python/zuldegei", "*"),
+    ("share/zuldegei/python", "python", "pyproject.toml wheel_of_package.py"),
     (PAGES, ".", "README.md VERSION"),
     (f"{PAGES}/docs", "docs", "*.md *.png"),
     (f"{PAGES}/python", "python", "README.md"),
@@ -39,6 +40,7 @@ COPIED = (
 # What a file says of the repository, and what it says where it is installed.
 CHANGED = {
     "python/zuldegei/scoreboard.py": ('parents[2] / "out/libzuldegei.so"', 'parents[4] / "lib/libzuldegei.so"'),
+    "python/wheel_of_package.py": ('parent / "out/libzuldegei.so"', 'parents[2] / "lib/libzuldegei.so"'),
     "examples/testbench/client.py": ('parents[2] / "python"', 'parents[4] / "zuldegei/python"'),
 }
 # The scripts of the commands in Python. The package isn't on Python's own path, which is another for each version.
@@ -72,7 +74,7 @@ toolchain: {toolchain}
 proved: {proved}
 for: Linux on x86-64, glibc 2.{glibc} or later
 """
-BY_TOOLCHAIN = "each function of the crates of tlbridge, tlscore and the library, by this toolchain (README.md says what of each)"
+BY_TOOLCHAIN = "each function of the crates of tlbridge, tlscore and the library, by this toolchain (docs/GUARANTEES.md says what of each)"
 NOT_TOLD = "not told, since the programs and libraries were given as they stood in a folder"
 
 
@@ -89,8 +91,18 @@ def asked(*words: str) -> str:
     return ran.stdout if ran.returncode == 0 else cannot(f"{' '.join(words)} ended with status {ran.returncode}")
 
 
+def tell_ahead() -> None:
+    """Says what isn't built yet, and how long it takes to build it."""
+    asks = ". ./.ci/stamp.sh; for it in tlbridge tlscore zuldegei; do is_built $it || echo $it; done"
+    unbuilt = asked("sh", "-c", asks).split()
+    if unbuilt:
+        subprocess.run([sys.executable, ".ci/build.py", "--ahead", *unbuilt], cwd=TOP, check=True)
+        print("then all is put together, in a minute; no wrong body is tried on the way", file=sys.stderr, flush=True)
+
+
 def build(room: Path) -> None:
     """Puts programs and libraries into a folder; what isn't built is built."""
+    tell_ahead()
     for program in ("tlbridge", "tlscore"):
         if subprocess.run([f"./{program}"], cwd=TOP, input=b"config 1 1 1 1 1 12 h\n", stdout=subprocess.DEVNULL).returncode:
             cannot(f"{program} wasn't built")

@@ -31,7 +31,8 @@ COMMANDS = {
 }
 STATUSES = (
     "0, nothing is wrong; 1, something that was judged is; 2, what was read can't be what it should; 3, a file or a program "
-    "can't be read, written or run; 6, a word isn't known. But for 0 and 1 one line on standard error says what is at fault."
+    "can't be read, written or run; 4, out of memory; 6, a word isn't known; 7, the command itself is at fault, and its line says what "
+    "to report; 130, interrupted. But for 0 and 1 one line on standard error says what is at fault."
 )
 PAGES = "The pages stand in share/doc/zuldegei below the prefix, with examples; docs/INSTALL.md there lists what is installed."
 # The characters that a formatter would print as others.

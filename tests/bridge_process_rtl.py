@@ -1,8 +1,10 @@
 """The free memory and the predictor of interfaces/systemverilog, over the testbench of examples/testbench/rtl under Verilator. In front of
 the memory the right bridges aren't blamed, by what each promises; and there are faults that are told in front of it, and hidden where it
 keeps all in order. The predictor finds nothing wrong of the right bridge, and a fault at the time at which tlscore finds the first wrong
-reply of the same run, where it also stops. Each call of the model by DPI-C gives what it should. The comparison of replies, which needs
-no library, takes an x as it should under Icarus. A simulator that isn't installed is named, and what needs it isn't tried.
+reply of the same run, where it also stops. A run in which it finds one, or in which it or the memory can't do its work, has a status
+other than 0, with Verilator's limit of errors and without. Each call of the model by DPI-C gives what it should. The comparison of
+replies, which needs no library, takes an x as it should under Icarus. A simulator that isn't installed is named, and what needs it isn't
+tried.
 
     python3 tests/bridge_process_rtl.py TLSCORE [--seeds N] [--library FOLDER] [--jobs N]
 """
@@ -19,7 +21,7 @@ from pathlib import Path
 from typing import Iterator, List, NamedTuple, Optional, Tuple
 
 from ends import told
-from in_process_rtl import SYSTEMVERILOG, TOP, UNOPTIMIZED, built, run
+from in_process_rtl import SYSTEMVERILOG, TOP, UNOPTIMIZED, Simulated, built, failed_wrong, run, started
 
 MEMORY, PREDICTOR = SYSTEMVERILOG / "zuldegei_axi_memory.sv", SYSTEMVERILOG / "zuldegei_predictor.sv"
 PACKAGE, BIND = SYSTEMVERILOG / "zuldegei_pkg.sv", SYSTEMVERILOG / "example_predictor_bind.sv"
@@ -80,19 +82,44 @@ def simulated(bench: Path, seed: int, *more: str) -> Tuple[int, str, str]:
     return ran.returncode, ran.stdout, f"{seen.read_text()}= end\n"
 
 
-def predicted_wrong(bench: Bench, program: Path, seed: int, text: str, judged: str) -> Optional[str]:
+def predicted_wrong(program: Path, seed: int, status: int, text: str, judged: str) -> Optional[str]:
     """How the predictor doesn't tell what tlscore tells of replies in order of acceptance, and stop there."""
     ended, times = ENDED.search(text), [int(time) for time, _ in TOLD.findall(text)]
     first = REPLY.search(judged)
+    how = f"the run failed: {len(times)} wrong" if times else "the run is right"
+    why = failed_wrong(Simulated(status, text, ""), int(bool(times)), how, "predictor")
+    if why:
+        return why
     if not ended or int(ended[1]) < 100 or int(ended[2]) != len(times):
         return f"it ends with {text[-200:]!r}"
     if not first:
         return f"it tells {TOLD.findall(text)[:1]}" if times else None
     if not times or times[0] != int(first[1]):
         return f"it tells {TOLD.findall(text)[:1]} first, where tlscore has {first[0]!r}"
-    status, text, _ = simulated(program, seed, "+zuldegei_stop=1", "+verilator+error+limit+2")
-    stopped = [int(time) for time, _ in TOLD.findall(text)]
-    return None if status and stopped == [times[0], times[0]] else f"it stops with status {status} at {stopped}"
+    for limit in ("+verilator+error+limit+2", MANY):
+        status, text, _ = simulated(program, seed, "+zuldegei_stop=1", limit)
+        stopped = [int(time) for time, _ in TOLD.findall(text)]
+        if not status or stopped != [times[0], times[0]]:
+            return f"by {limit} it stops with status {status} at {stopped}"
+    return failed_wrong(Simulated(status, text, ""), 1, "the run failed: 1 wrong", "predictor")
+
+
+def words_tried(program: Path) -> Iterator[Case]:
+    """Words of the run by which the predictor, or the memory, can't do its work; each with Verilator's limit of errors, and without."""
+    setup, folder = f"+zuldegei_setup={run.HERE / 'setup.lines'}", program.parent
+    (folder / "unknown.lines").write_text("config 2 4 16 2 16 12 hh\nprofile tilelink\nregions\n")
+    for words, why in (
+        (["+zuldegei_setup=unknown.lines"], "no model: script fault: line 2, word 1 (-1001)"),
+        (["+zuldegei_setup=nofile"], "nofile can't be read"),
+        ([], "there is no set-up, neither by +zuldegei_setup=FILE nor by SETUP"),
+        ([setup, "+zuldegei_stop=x"], "+zuldegei_stop=x has no number of up to nine digits"),
+        ([setup, "+zuldegei_seed=x"], "+zuldegei_seed=x has no number of up to 18 digits"),
+        ([setup, "+zuldegei_seed"], "+zuldegei_seed= has no number of up to 18 digits"),
+    ):
+        for limit in ([MANY], []):
+            ran = started(program, *limit, *words)
+            is_told = f"zuldegei: the run failed: {why}\n" in ran.text and (ran.status == 1 if limit else ran.status != 0)
+            yield f"with {words} and {limit}", None if is_told else f"status {ran.status}: {ran.text[-300:]!r}"
 
 
 def tried(bench: Bench, program: Path, given: argparse.Namespace) -> Iterator[Case]:
@@ -106,7 +133,7 @@ def tried(bench: Bench, program: Path, given: argparse.Namespace) -> Iterator[Ca
             judged = run.judged(given.score, asked.setup, lines)
             wrong[asked.profile] += "= wrong" in judged
             if bench.predicts and asked.profile == "bridge":
-                yield f"{bench.name}, seed {seed}, predicted", predicted_wrong(bench, program, seed, text, judged)
+                yield f"{bench.name}, seed {seed}, predicted", predicted_wrong(program, seed, status, text, judged)
     for profile, count in wrong.items():
         if bench.bug in HIDDEN:
             print(f"{bench.name}, by profile {profile}: {count} of {given.seeds} runs are wrong", flush=True)
@@ -147,7 +174,8 @@ def in_verilator(given: argparse.Namespace) -> Iterator[Case]:
     with tempfile.TemporaryDirectory() as room, ThreadPoolExecutor(given.jobs) as pool:
         folder, library = Path(room), Path(given.library or TOP / "out").resolve()
         yield from calls(library, folder)
-        programs = pool.map(lambda it: made(it, library, folder), BENCHES)
+        programs = [*pool.map(lambda it: made(it, library, folder), BENCHES)]
+        yield from words_tried(programs[0])
         for found in pool.map(lambda it: [*tried(*it, given)], zip(BENCHES, programs)):
             yield from found
 

@@ -78,9 +78,12 @@ static payload data_of(words *in) {
     return data;
 }
 
+/* Whether the AXI4 port has 32 bits, as the set-up says. */
+static bool is_narrow;
+
 /* How many bytes of a payload are handed over: as few as the call takes. */
 static size_t given(const payload *data, bool may_be_none) { return data->length || !may_be_none ? 8 : 0; }
-static size_t half(const payload *data, uint64_t lanes) { return data->length > 4 || lanes >> 4 ? 8 : 4; }
+static size_t half(const payload *data, uint64_t lanes) { return !is_narrow || data->length > 4 || lanes >> 4 ? 8 : 4; }
 
 static unsigned response(words *in) {
     static const char *const names[] = {"OKAY", "EXOKAY", "SLVERR", "DECERR"};
@@ -268,8 +271,10 @@ int main(int count, char **given_words) {
     int status;
     words in;
     read_lines();
-    for (; at < line_count && (split(&in, lines[at]), is_setup(&in)); at++)
+    for (; at < line_count && (split(&in, lines[at]), is_setup(&in)); at++) {
+        is_narrow = is_narrow || (is(&in, 0, "config") && in.count > 8 && strtoul(in.at[8], NULL, 10) == 4);
         used += (size_t)snprintf(setup + used, sizeof setup - used, "%s\n", lines[at]);
+    }
     tlscore *board = tlscore_new(setup, &status, text, sizeof text);
     if (!board) return fprintf(stderr, "%s\n", text), ends_with(status == TLSCORE_MEMORY ? 4 : 2);
     for (; at < line_count; at++) {

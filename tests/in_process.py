@@ -4,8 +4,9 @@ Each observation that is kept is told as tlscore tells it, by lines and by numbe
 the stored runs of examples/testbench/rtl, and each trace of tests/rows behind its set-up. So are beats by lot, by both profiles. Wrong
 calls get their errors and change nothing. Each malloc and realloc that is refused in turn gives that error and nothing else, and the
 beat is taken when it is handed over again. Under valgrind and AddressSanitizer nothing is lost, no access is bad, and no thread steps on
-another. The header and the example of interfaces/c are C and C++. The class of python/zuldegei/scoreboard.py does what it says. The
-library is built first, where it isn't there as its sources are; what isn't installed is named.
+another. A process that is told to fail doesn't end with 0. The header and the example of interfaces/c are C and C++. The class of
+python/zuldegei/scoreboard.py does what it says. The library is built first, where it isn't there as its sources are; what isn't installed
+is named.
 
     python3 tests/in_process.py TLSCORE [BEATS] [--seed WORD] [--library FOLDER]
 """
@@ -145,6 +146,14 @@ def watched_rows(folder, library):
         yield f"{name}, under AddressSanitizer", started([program, "numbers"], given).wrong(*wanted)
 
 
+def ends(folder, library):
+    """How a process ends that was told to fail, by main's own status; and one that wasn't."""
+    program = compiled("ends", TOP / "tests/in_process_ends.c", folder=folder, library=library)
+    for calls, status, due in ((0, 0, 0), (0, 3, 3), (1, 0, 1), (1000, 0, 1), (1, 3, 3), (2, 134, 134)):
+        ended = started([program, str(calls), str(status)], b"")
+        yield f"{calls} calls to fail and a status of {status}", ended.wrong(due, b"last\nfirst\n", b"")
+
+
 def example(folder, library):
     """The header, the calls and the example, as C and as C++, over both libraries."""
     wanted = b"40 ns: 207, = wrong 12 reply 7 PAYLOAD expected D 1 1 0 3 7 0 1122334455667788 0 at 40\n"
@@ -206,6 +215,7 @@ def cases(asked):
         program = compiled("in_process", TOP / "tests/in_process.c", folder=folder, library=library)
         yield from shown(library)
         yield from example(folder, library)
+        yield from ends(folder, library)
         yield from wrong_calls(folder, library)
         yield from watched_rows(folder, library)
         yield from told_alike(program, tlscore)

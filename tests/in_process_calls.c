@@ -166,6 +166,7 @@ static void axi_ranges(tlscore *board) {
     REFUSED(tlscore_ar(board, 0, 0x10008, 0, 3, 256), TLSCORE_RANGE);
     REFUSED(tlscore_w(board, DATA, 8, 0, 0x100, true), TLSCORE_RANGE);
     REFUSED(tlscore_w(board, DATA, 8, 0x100, 0, true), TLSCORE_RANGE);
+    REFUSED(tlscore_w(board, DATA, 4, 0, 0xf, true), TLSCORE_RANGE); /* the port has 64 bits */
     REFUSED(tlscore_w(board, DATA, 4, 0, 0x10, true), TLSCORE_RANGE);
     REFUSED(tlscore_w(board, DATA, 4, 0x10, 0, true), TLSCORE_RANGE);
     REFUSED(tlscore_w(board, DATA, 0, 0, 0, true), TLSCORE_RANGE);
@@ -176,6 +177,7 @@ static void axi_ranges(tlscore *board) {
     REFUSED(tlscore_r(board, 0, DATA, 8, 0, 4, true), TLSCORE_RANGE);
     REFUSED(tlscore_r(board, 0, DATA, 0, 0, 0, true), TLSCORE_RANGE);
     REFUSED(tlscore_r(board, 0, DATA, 8, 0x100, 0, true), TLSCORE_RANGE);
+    REFUSED(tlscore_r(board, 0, DATA, 4, 0, 0, true), TLSCORE_RANGE);
     REFUSED(tlscore_r(board, 0, DATA, 4, 0x10, 0, true), TLSCORE_RANGE);
 }
 
@@ -217,13 +219,30 @@ static void found(tlscore *board) {
     same("acknowledged", tlscore_d(board, 0, 0, 0, 3, 5, false, NULL, 0, 0, false), TLSCORE_OK);
     same("wrong", tlscore_d(board, 1, 1, 0, 3, 7, false, OTHER, 8, 0, false), TLSCORE_REPLY + 7);
     tells("wrong", tlscore_text, board, "= wrong 12 reply 7 PAYLOAD expected D 1 1 0 3 7 0 1122334455667788 0 at 40\n");
-    same("half a bus", tlscore_w(board, DATA, 4, 0, 0xf, true), TLSCORE_AXI + 6);
+    same("write data alone", tlscore_w(board, DATA, 8, 0, 0xf, true), TLSCORE_AXI + 6);
     same("no client", tlscore_unknown(board, TLSCORE_D, 2), TLSCORE_NO_CLIENT), same("x", tlscore_unknown(board, TLSCORE_R, 0), TLSCORE_AXI + 13);
     same("counts", tlscore_judged(board, &n, &m), 0), same("judged", (int64_t)n, 11), same("wrong beats", (int64_t)m, 6);
     same("counts", tlscore_compared(board, &n, &m), 0), same("compared", (int64_t)n, 8), same("of", (int64_t)m, 8);
     same("put", tlscore_a(board, 0, 0, 0, 3, 5, 8, 0xff, OTHER, 8, 0, false), TLSCORE_OK);
     same("end", tlscore_end(board), TLSCORE_REPLY + 9), same("behind", tlscore_end(board), TLSCORE_WORD - 1);
     tells("end", tlscore_text, board, "= wrong 17 reply 9 UNANSWERED client 0 source 5 at 40\n= wrong 17 axi 14 UNANSWERED write 0 at 40\n");
+}
+
+/* An AXI4 port of 32 bits, by set-ups that say so otherwise, and of 64: whether it takes four bytes of write data without an address. */
+static void widths(void) {
+    static const struct {
+        const char *setup;
+        int wanted;
+    } given[] = {{"config 2 4 16 2 16 12 hh 4", TLSCORE_AXI + 6}, {"# wide\r\n\n  #\n  config 2 4  16 2 16 12 hh  004  \r\n", TLSCORE_AXI + 6},
+                 {"config 2 4 16 2 16 12 hh", TLSCORE_RANGE}, {"config 2 4 16 2 16 12 hh 8\n# 4\n", TLSCORE_RANGE},
+                 {"config 2 4 16 2 16 12 hh \n# 4 4 4 4 4 4 4 4 4\npage 10 4 good\n", TLSCORE_RANGE}};
+    for (size_t k = 0; k < sizeof given / sizeof *given; k++) {
+        tlscore *board = tlscore_new(given[k].setup, NULL, NULL, 0);
+        same(given[k].setup, tlscore_w(board, DATA, 4, 0, 0xf, true), given[k].wanted);
+        same(given[k].setup, tlscore_r(board, 0, DATA, 4, 0, 0, true), given[k].wanted == TLSCORE_RANGE ? TLSCORE_RANGE : TLSCORE_AXI + 10);
+        same(given[k].setup, tlscore_w(board, DATA, 8, 0, 0xf, true), TLSCORE_AXI + 6);
+        tlscore_free(board);
+    }
 }
 
 /* Beats of a board of its own, in a thread of its own: how many of them are wrong. */
@@ -251,7 +270,7 @@ static void threads(void) {
 int main(void) {
     tlscore *board = tlscore_new(SETUP, NULL, NULL, 0), *other = tlscore_new(SETUP, NULL, NULL, 0);
     if (!board || !other) return puts("no board"), 1;
-    says("version", tlscore_version(), ZULDEGEI_VERSION), setups();
+    says("version", tlscore_version(), ZULDEGEI_VERSION), setups(), widths();
     same("filled", tlscore_fill(other, 0x10008, OTHER, 8), 0), same("no page", tlscore_fill(other, 0, DATA, 8), TLSCORE_WORD - 2);
     same("put", tlscore_a(board, 0, 0, 0, 3, 5, 8, 0xff, DATA, 8, 0, false), 0);
     same("sent", tlscore_aw(board, 0, 0x10008, 0, 3, 1), 0);

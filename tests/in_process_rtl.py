@@ -1,8 +1,10 @@
 """The scoreboard in the simulator's own process, over the testbench of examples/testbench/rtl under Verilator: the bridge with each of its
 faults stops in the clock of the first beat that tlscore finds wrong of the lines of the same run, by both profiles, or at the run's end
-where nothing but an answer is missing; what it tells is what tlscore tells, line by line; and the right bridge runs on to its end. What
-only an x shows is shown by whatever Verilator has in its place. Then the same under Icarus, which has no DPI: tlscore reads the lines
-from a named pipe while the simulation runs. A simulator that isn't installed is named.
+where nothing but an answer is missing; what it tells is what tlscore tells, line by line; and the right bridge runs on to its end. A run
+in which something is wrong, or that isn't judged, has a status other than 0 and says why it failed, with Verilator's limit of errors and
+without; a set-up of 200,000 lines is read in few seconds. What only an x shows is shown by whatever Verilator has in its place. Then the
+same under Icarus, which has no DPI: tlscore reads the lines from a named pipe while the simulation runs. A simulator that isn't installed
+is named.
 
     python3 tests/in_process_rtl.py TLSCORE [--seeds N] [--library FOLDER] [--only BUG]
 """
@@ -11,9 +13,11 @@ import argparse
 import os
 import re
 import shutil
+import signal
 import subprocess
 import sys
 import tempfile
+import time
 from concurrent.futures import ThreadPoolExecutor
 from pathlib import Path
 from typing import Iterator, NamedTuple, Optional, Tuple
@@ -28,7 +32,10 @@ SYSTEMVERILOG = TOP / "interfaces/systemverilog"
 MODULES = [SYSTEMVERILOG / "zuldegei_pkg.sv", SYSTEMVERILOG / "zuldegei_monitor.sv", SYSTEMVERILOG / "example_bind.sv"]
 UNOPTIMIZED = ["OPT_FAST=-O0", "OPT_GLOBAL=-O0"]
 TOLD = re.compile(r"(?m)(= (?:wrong|judged) .*)$")
-TIMED = re.compile(r"(?m)^\[(\d+)\] %Error: .*zuldegei: (= wrong .*|1 wrong)$")
+TIMED = re.compile(r"(?m)^\[(\d+)\] %Error: .*zuldegei: (= wrong .*|the run failed: \d+ wrong)$")
+NO_LIMIT = "+verilator+error+limit+1000000"  # each $error and $fatal goes on, as far as Verilator is asked
+ABORTED = -signal.SIGABRT  # as which Verilator ends a run, and a shell says 134
+LINES, SECONDS = 200_000, 10  # of a long set-up; in how many it is read on a busy machine, by a testbench that isn't optimized
 PIPED = (run.RIGHT, "REPLY_TWICE", "UNKNOWN_READ")
 Case = Tuple[str, Optional[str]]
 
@@ -63,9 +70,15 @@ def built(words: list, folder: Path, bug: str) -> None:
 
 def simulated(bench: Path, seed: int, setup: Path, *more: str) -> Simulated:
     seen = bench.parent / f"seen-{setup.stem}-{seed}-{len(more)}.lines"
-    words = [bench, f"+seed={seed}", f"+observed={seen}", f"+zuldegei_setup={setup}", "+zuldegei_end", *more]
-    ran = subprocess.run(words, cwd=bench.parent, stdout=subprocess.PIPE, stderr=subprocess.STDOUT, text=True, timeout=300, check=False)
-    return Simulated(ran.returncode, ran.stdout, seen.read_text(errors="replace"))
+    ran = started(bench, f"+seed={seed}", f"+observed={seen}", f"+zuldegei_setup={setup}", "+zuldegei_end", *more)
+    return ran._replace(lines=seen.read_text(errors="replace"))
+
+
+def started(bench: Path, *words: str) -> Simulated:
+    """A run by its words, of whose lines nobody asks."""
+    pipe = subprocess.PIPE
+    ran = subprocess.run([bench, *words], cwd=bench.parent, stdout=pipe, stderr=subprocess.STDOUT, text=True, timeout=300, check=False)
+    return Simulated(ran.returncode, ran.stdout, "")
 
 
 def whole_wrong(ran: Simulated, judged: str) -> Optional[str]:
@@ -75,7 +88,15 @@ def whole_wrong(ran: Simulated, judged: str) -> Optional[str]:
         return next((f"it told {it!r}, not {its!r}" for it, its in zip(got, due) if it != its), f"it told {len(got)} of {len(due)} lines")
     if "Verilog $finish" not in ran.text:
         return f"it didn't run to its end: {ran.text[-200:]!r}"
-    return None if len(due) > 1 or ran.status == 0 else f"nothing is wrong, and its status is {ran.status}"
+    wrong = int(due[-1].split()[4])
+    how = f"the run failed: {wrong} wrong" if wrong else "the run is right"
+    return failed_wrong(ran, int(wrong > 0), how)
+
+
+def failed_wrong(ran: Simulated, status: int, how: str, module: str = "scoreboard") -> Optional[str]:
+    """How a run doesn't end with this status, and with a last line that says how it ended."""
+    last = ran.text.splitlines()[-1]
+    return None if (ran.status, last) == (status, f"zuldegei: {how} (TOP.testbench.{module})") else f"status {ran.status}, {last!r}"
 
 
 def stopped_wrong(ran: Simulated, first: run.Wrong, ends_it: bool) -> Optional[str]:
@@ -88,6 +109,62 @@ def stopped_wrong(ran: Simulated, first: run.Wrong, ends_it: bool) -> Optional[s
     return f"told at {times[0]}, and wrong at {first.time}" if times[0] != first.time or "Verilog $finish" in ran.text else None
 
 
+def aborted_wrong(ran: Simulated, judged: str) -> Optional[str]:
+    """How a run that Verilator ends at the first $error isn't ended so."""
+    is_told = TOLD.findall(ran.text)[:1] == TOLD.findall(judged)[:1]
+    return None if is_told and (ran.status, ran.text[-12:]) == (ABORTED, "Aborting...\n") else f"status {ran.status}: {ran.text[-200:]!r}"
+
+
+def stopped_below_limit(ran: Simulated, judged: str, count: int) -> Optional[str]:
+    """How a run that is to stop with a wrong beat of this number, where Verilator goes on behind $fatal, doesn't: it tells what is wrong up
+    to there, and ends itself."""
+    due = [it for it in TOLD.findall(judged) if it.startswith("= wrong")]
+    got = [it for it in TOLD.findall(ran.text) if it.startswith("= wrong")]
+    if got[:count] != due[:count] or ran.text.count("Verilog $finish") != 1:
+        return f"it told {got}, not {due[:count]}: {ran.text[-200:]!r}"
+    is_given_up = f"zuldegei: the run failed: {len(got)} wrong\n" in ran.text
+    return failed_wrong(ran, 1, f"the run failed: {len(got)} wrong") if is_given_up else f"it isn't stopped: {ran.text[-200:]!r}"
+
+
+def words_tried(bench: Path) -> Iterator[Case]:
+    """Words of the run by which nothing can be judged, and how that is said; each with Verilator's limit of errors, and without."""
+    folder, setup = bench.parent, f"+zuldegei_setup={run.HERE / 'setup.lines'}"
+    (folder / "empty.lines").touch()
+    (folder / "refused.lines").write_text("config 2 4 999 2 16 12 hh\n")
+    no_number = "has no number of up to nine digits"
+    for words, why in (
+        (["+zuldegei_setup=nofile"], "nofile can't be read"),
+        (["+zuldegei_setup=nofile", "+zuldegei_stop=2"], "nofile can't be read"),
+        (["+zuldegei_setup=empty.lines"], "empty.lines has no set-up"),
+        (["+zuldegei_setup=refused.lines"], "no scoreboard: set-up fault: BadConfig 0 (-4)"),
+        (["+zuldegei_setup"], "the file of +zuldegei_setup= can't be read"),
+        ([], "there is no set-up, neither by +zuldegei_setup=FILE nor by SETUP"),
+        ([setup, "+zuldegei_stop=x"], f"+zuldegei_stop=x {no_number}"),
+        ([setup, "+zuldegei_stop=-1"], f"+zuldegei_stop=-1 {no_number}"),
+        ([setup, "+zuldegei_stop=1x"], f"+zuldegei_stop=1x {no_number}"),
+        ([setup, "+zuldegei_stop="], f"+zuldegei_stop= {no_number}"),
+        ([setup, "+zuldegei_stop"], f"+zuldegei_stop= {no_number}"),
+        ([setup, "+zuldegei_stop=1234567890"], f"+zuldegei_stop=1234567890 {no_number}"),
+    ):
+        ran = started(bench, NO_LIMIT, *words)
+        yield f"with {words}", failed_wrong(ran, 1, f"the run failed: {why}")
+        ran = started(bench, *words)
+        is_told = f"zuldegei: the run failed: {why}\n" in ran.text and ran.status == ABORTED
+        yield f"with {words}, and no limit of errors", None if is_told else f"status {ran.status}: {ran.text[-300:]!r}"
+
+
+def long_setup(bench: Path) -> Iterator[Case]:
+    """A set-up of very many lines, whose last ones say what the memory began with: the bench finds zeros there."""
+    setup = bench.parent / "long.lines"
+    lines = (run.HERE / "setup.lines").read_text()
+    setup.write_text(lines + "# a line of a set-up\n" * (LINES - len(lines.splitlines())))
+    began = time.monotonic()
+    ran = started(bench, f"+zuldegei_setup={setup}", "+seed=1", "+zuldegei_end")
+    took = time.monotonic() - began
+    yield f"a set-up of {LINES} lines", failed_wrong(ran, 0, "the run is right")
+    yield f"the time of a set-up of {LINES} lines", None if took < SECONDS else f"{took:.1f} s"
+
+
 def tried(bug: str, bench: Path, given: argparse.Namespace) -> Iterator[Case]:
     """The runs of a testbench."""
     found = 0
@@ -97,7 +174,7 @@ def tried(bug: str, bench: Path, given: argparse.Namespace) -> Iterator[Case]:
         for seed in range(1, given.seeds + 1):
             name = f"{bug}, seed {seed}, by profile {profile}"
             x = [f"+verilator+seed+{seed}", "+verilator+rand+reset+2"] if bug in run.SHOWN_BY_X else []
-            whole = simulated(bench, seed, setup, "+verilator+error+limit+1000000", *x)
+            whole = simulated(bench, seed, setup, NO_LIMIT, *x)
             judged = run.judged(given.score, asked.setup, f"{whole.lines}= end\n")
             yield f"{name}, whole", whole_wrong(whole, judged)
             first = run.first_wrong(asked.setup, whole.lines, judged)
@@ -105,6 +182,10 @@ def tried(bug: str, bench: Path, given: argparse.Namespace) -> Iterator[Case]:
                 found += 1
                 stops = simulated(bench, seed, setup, "+zuldegei_stop=1", "+verilator+error+limit+2", *x)
                 yield f"{name}, stopped", stopped_wrong(stops, first, "UNANSWERED" in first.name)
+                yield f"{name}, without words", aborted_wrong(simulated(bench, seed, setup, *x), judged)
+                for count in {1, judged.count("= wrong")}:
+                    stops = simulated(bench, seed, setup, f"+zuldegei_stop={count}", NO_LIMIT, *x)
+                    yield f"{name}, stopped by {count} below the limit of errors", stopped_below_limit(stops, judged, count)
     yield f"{bug} is found", None if bool(found) == (bug != run.RIGHT) else f"{found} runs are wrong"
 
 
@@ -121,6 +202,8 @@ def in_process(given: argparse.Namespace) -> Iterator[Case]:
         benches = [first, *pool.map(lambda bug: made(bug, library, folder, first.parent), bugs[1:])]
         for found in pool.map(lambda it: [*tried(*it, given)], zip(bugs, benches)):
             yield from found
+        yield from words_tried(first)
+        yield from long_setup(first) if bugs[0] == run.RIGHT else ()
 
 
 def piped(words: list, asked: run.Asked, score: Path, folder: Path) -> Tuple[str, str]:

@@ -1,7 +1,8 @@
 """What ./install and ./release give. Each name that is installed is on docs/INSTALL.md, and the other way round; modes, links and
 manual pages are as Debian asks; nothing names the folder of the build; the C example is compiled by pkg-config's words;
 --uninstall leaves nothing. Archives of two copies of the repository are the same bytes; unpacked in an empty folder, with nothing
-of the toolchain on PATH, the commands of the page print what it shows. In the copies a stand-in for rt builds what isn't built.
+of the toolchain on PATH, the commands of the page print what it shows, and pip installs its package without a network. In the
+copies a stand-in for rt builds what isn't built.
 
     python3 tests/installed.py TLSCORE TLBRIDGE LIBRARY
 """
@@ -47,6 +48,9 @@ WRONG_WORDS = (
     (("release", "--unknown"), 6, "usage: ./release"),
     (("release", "one", "two"), 6, "usage: ./release"),
 )
+# What is said in Python of an answer that no write asked for.
+SETUP = "config 1 4 16 2 16 12 h\npage 10 4 good\n"
+SCOREBOARD = f"from zuldegei.scoreboard import Scoreboard; print(Scoreboard({SETUP!r}).b(id=0).text)"
 Case = Tuple[str, Optional[str]]
 
 
@@ -182,9 +186,7 @@ def commands(root: Path, home: Path) -> Iterator[Case]:
     bench = str(root / "share/doc/zuldegei/examples/testbench/random_bench.py")
     done = ran(["python3", "-B", bench, "--program", str(root / "bin/tlbridge"), "--steps", "200", "7"], home, BARE)
     yield "the example in Python", why(done)
-    setup = "config 1 4 16 2 16 12 h\npage 10 4 good\n"
-    call = f"from zuldegei.scoreboard import Scoreboard; print(Scoreboard({setup!r}).b(id=0).text)"
-    done = ran(["python3", "-c", call], home, {**BARE, "PYTHONPATH": str(root / "share/zuldegei/python")})
+    done = ran(["python3", "-c", SCOREBOARD], home, {**BARE, "PYTHONPATH": str(root / "share/zuldegei/python")})
     yield "the scoreboard in Python", why(done) or (None if done.stdout.startswith("= wrong 3 axi 9 ") else done.stdout)
 
 
@@ -250,7 +252,8 @@ def archives(room: Path, given: Path) -> Iterator[Case]:
             yield "a release of files that differ from the commit", why(ran(["./release"], copy, env), 3)
         done = ran(["./release", "--changed"], copy, env, umask=0o027 if made else 0o022)
         made[name] = copy / f"out/zuldegei-{VERSION}.tar.gz"
-        progress = ("tlbridge: built in", "tlscore: 0 of 1 built", "zuldegei: 0 of 1 built")
+        progress = ("tlbridge, tlscore, zuldegei: 3 crates to prove and build first, which takes some ", "no wrong body is tried")
+        progress += ("tlbridge: built in", "tlscore: 0 of 1 built", "zuldegei: an archive has the library", "zuldegei: 0 of 1 built")
         lacking = [it for it in progress if it not in done.stderr]
         yield f"a release of copy {name}", why(done) or (f"on standard error is no {lacking}" if lacking else None)
     if not all(it.exists() for it in made.values()):
@@ -285,6 +288,15 @@ def packed(archive: Path) -> Iterator[Case]:
     yield "the checksums in PROVED", f"{wrong}" if wrong or len(sums) != 4 else None
 
 
+def as_readme(unpacked: Path) -> Iterator[Case]:
+    """The commands of README.md in the folder of the archive, whose own copy of it is read."""
+    blocks = BLOCK.findall((unpacked / "share/doc/zuldegei/README.md").read_text())
+    yield "the commands of README.md", None if len(blocks) == 1 else f"it has {len(blocks)}"
+    for block, status, due in blocks:
+        done = ran(["sh", "-c", block], unpacked, BARE)
+        yield "README.md in the archive", why(done, int(status)) or (None if done.stdout == due else f"it prints {done.stdout!r}")
+
+
 def as_the_page(room: Path, archive: Path) -> Iterator[Case]:
     """The commands of the page in an empty folder, in turn, as a new user calls them; what one exports the others have."""
     shutil.copy(archive, room)
@@ -303,11 +315,39 @@ def as_the_page(room: Path, archive: Path) -> Iterator[Case]:
         exported += "".join(f"{line}\n" for line in block.splitlines() if line.startswith("export "))
 
 
+def by_pip(room: Path) -> Iterator[Case]:
+    """The package of the unpacked archive by pip, as the page says, without a network: its commands, and the scoreboard over the library
+    that was packed with it."""
+    if ran(["python3", "-m", "pip", "--version"], room, BARE).returncode:
+        print("skipped: the package by pip, as python3-pip isn't installed")
+        return
+    command = re.search(r"(?m)^ +(python3 -m pip install .*)$", PAGE)
+    place = room / "by pip"
+    env = {**BARE, "HOME": str(room), "PIP_NO_INDEX": "1", "PIP_CONFIG_FILE": os.devnull, "PIP_TARGET": str(place), "PYTHONPATH": str(place)}
+    before = files_below(room)
+    done = ran(["sh", "-c", command[1] if command else "false"], room, env)
+    yield "the package by pip", why(done)
+    if done.returncode:
+        return
+    odd = sorted(it for it in files_below(room) ^ before if not it.startswith(("by pip/", ".cache/")) and "__pycache__" not in it)
+    yield "pip leaves the archive as it is", f"apart are {odd[:5]}" if odd else None
+    for module in MODULES:
+        done = ran([str(place / f"bin/zuldegei-{module}"), "--version"], room, env)
+        yield f"zuldegei-{module} by pip", why(done) or (None if done.stdout == f"zuldegei-{module} {VERSION}\n" else done.stdout)
+    done = ran(["python3", "-c", SCOREBOARD], room, env)
+    yield "the scoreboard by pip", why(done) or (None if done.stdout.startswith("= wrong 3 axi 9 ") else done.stdout)
+    package = {it.name: it for it in (place / "zuldegei").iterdir() if it.is_file()}
+    due = {it.name for it in (TOP / "python/zuldegei").iterdir() if it.is_file()} | {"libzuldegei.so"}
+    odd = sorted(due ^ {*package})
+    yield "the files of the package by pip", f"apart are {odd[:5]}" if odd else None
+
+
 def moved(room: Path, given: Path) -> Iterator[Case]:
     """The unpacked archive under another name, and what its own ./install gives beside what the repository's does."""
     place = room / "moved here"
     shutil.move(room / f"zuldegei-{VERSION}", place)
     yield from commands(place, room)
+    yield from as_readme(place)
     examples = TOP / "examples"
     tried = (("tlscore", "scoreboard/right.in", "scoreboard/right.out"), ("tlbridge", "first.script", "first.trace"))
     for program, source, due in tried:
@@ -359,7 +399,7 @@ def cases(score: Path, bridge: Path, library: Path) -> Iterator[Case]:
         archive = room / f"a/out/zuldegei-{VERSION}.tar.gz"
         if archive.exists():
             (room / "new").mkdir()
-            for tried in (packed(archive), as_the_page(room / "new", archive), moved(room / "new", given)):
+            for tried in (packed(archive), as_the_page(room / "new", archive), by_pip(room / "new"), moved(room / "new", given)):
                 yield from tried
 
 

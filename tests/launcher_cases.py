@@ -17,6 +17,18 @@ CANNOT = 70
 RT = """#!/bin/sh
 echo "$1 ${PWD##*/}" >>"$NOTED"
 echo 'a line of the prover'
+if [ "$1" = try ]; then
+    room=$TMPDIR/rt-try/native text=$(cat src/main.rt)
+    case $DOES in
+    fails) exit 2 ;;
+    edits) echo edited >"$TREE/crates/tlbridge/src/main.rt" ;;
+    esac
+    mkdir -p "$room" && printf '%s\\n' '#!/bin/sh' "echo unproved from $text: \\$0 \\$*" cat 'exit 3' >"$room/new"
+    chmod +x "$room/new" && mv "$room/new" "$room/program" && "$room/program"
+    sleep 0.5
+    rm -rf "$TMPDIR/rt-try"
+    exit 3
+fi
 [ "$1" = run ] || { mkdir -p out/rlib && echo made >"out/rlib/${PWD##*/}.rlib"; exit; }
 text=$(cat src/main.rt) && [ -r ../low/out/rlib/low.rlib ] || exit 1
 case $DOES in
@@ -54,7 +66,7 @@ class Copy:
         self.path = os.path.join(self.room, b"bin")
         os.makedirs(self.path, exist_ok=True)
         self.write(os.path.join(self.path, b"rt"), RT, mode=0o755)
-        for file in ("tlbridge", ".ci/stamp.sh", ".ci/build.py"):
+        for file in ("tlbridge", "tlscore", ".ci/stamp.sh", ".ci/build.py", ".ci/unproved.py"):
             to = os.path.join(self.root, file.encode())
             os.makedirs(os.path.dirname(to), exist_ok=True)
             shutil.copy(TOP / file, to)
@@ -92,8 +104,8 @@ def made(text="main 1", words="run"):
     return f"made from {text}: ./crates/tlbridge/out/tlbridge {words}\ninput\n".encode()
 
 
-# What is built: the library and the program, the program alone, or nothing.
-ALL, PROGRAM, NOTHING = ["lib low", "run tlbridge"], ["run tlbridge"], []
+# What is built: the library and the program, the program alone, nothing, or the program of which nothing is proved.
+ALL, PROGRAM, NOTHING, UNPROVED = ["lib low", "run tlbridge"], ["run tlbridge"], [], ["try tlbridge"]
 
 
 def runs(answer, text=None, builds=None, status=3):
@@ -118,7 +130,13 @@ def cannot(answer, words):
 
 def first_use(copy):
     status, output, errors, noted = copy.call()
-    wanted = ["tlbridge: 0 of 2 built, 1 min to go; now low", "tlbridge: 1 of 2 built, 0 min to go; now tlbridge"]
+    lanes = f"{os.cpu_count()} processor{'s' if os.cpu_count() > 1 else ''}"
+    wanted = [
+        f"tlbridge: 2 crates to prove and build first, which takes some 1 min on {lanes}, by the table .ci/seconds",
+        "tlbridge: an archive needs no proof (docs/INSTALL.md); ./tlbridge --unproved .. answers in a minute or two, and proves nothing",
+        "tlbridge: 0 of 2 built, 1 min to go; now low",
+        "tlbridge: 1 of 2 built, 0 min to go; now tlbridge",
+    ]
     if errors[1:-1] != wanted or "out/tlbridge.log" not in errors[0] or not errors[-1].startswith("tlbridge: built in 0 min"):
         return f"{errors!r} on standard error"
     if b"a line of the prover" not in Path(os.fsdecode(copy.file("out/tlbridge.log"))).read_bytes():
@@ -152,11 +170,16 @@ def interrupted(copy):
 
 
 def time_to_go(copy):
-    """Of a chain all of it, by what each took before."""
+    """Of a chain all of it, by what each took before; by what it took here, where each was built here."""
     copy.source(".ci/seconds", "low 600\ntlbridge 9\n")
+    copy.source("out/seconds", "low 1200\nother 30\ntlbridge 1200\n")
+    ahead = [sys.executable, ".ci/build.py", "--ahead", "tlbridge", "other"]
+    line = subprocess.run(ahead, cwd=copy.root, stderr=subprocess.PIPE, text=True, timeout=60).stderr
+    if not line.startswith("tlbridge, other: 3 crates to prove and build first, which takes some 40 min on ") or "before" not in line:
+        return f"ahead it says {line!r}"
     copy.source("out/seconds", "tlbridge 1200\n")
     _, _, errors, _ = copy.call()
-    if "tlbridge: 0 of 2 built, 30 min to go; now low" not in errors:
+    if "tlbridge: 0 of 2 built, 30 min to go; now low" not in errors or " some 30 min on " not in errors[1]:
         return f"{errors!r} on standard error"
     table = Path(os.fsdecode(copy.file("out/seconds"))).read_text()
     return None if table == "low 1\ntlbridge 1\n" else f"it noted {table!r}"
@@ -205,9 +228,88 @@ def times_kept(copy):
     copy.source("out/took", f"# ./test anew\n{noted}")
     ran = subprocess.run(keep, cwd=copy.root, stdout=subprocess.PIPE, text=True, timeout=60)
     seconds, took = (Path(os.fsdecode(copy.file(it))).read_text() for it in (".ci/seconds", ".ci/took"))
-    is_right = refused == 1 and (seconds, took) == ("low 600\nother 5\ntlbridge 9\n", "300 180 proofs\n60 0 tests\n120 0 wrong bodies\n120 0 programs\n")
+    rows = f"# on {os.cpu_count()} processors\n300 180 proofs\n60 0 tests\n120 0 wrong bodies\n120 0 programs\n"
+    is_right = refused == 1 and (seconds, took) == ("low 600\nother 5\ntlbridge 9\n", rows)
     is_right = is_right and ran.stdout == "10 processor minutes, 3 of the clock: proofs 5, tests 1, wrong bodies 2, programs 2\n"
     return None if is_right else f"status {refused}, then {ran.stdout!r}, {seconds!r}, {took!r}"
+
+
+def time_of_a_test(copy):
+    """What ran alone on two processors, 20 minutes of 60, runs alone here; the other 80 minutes of a processor are shared."""
+    ahead, lanes = [sys.executable, TOP / ".ci/took.py", "--ahead"], os.cpu_count()
+    printed = lambda words: subprocess.run(words, cwd=copy.root, stdout=subprocess.PIPE, text=True, timeout=60).stdout
+    copy.source("out/took", "# ./test anew\n")
+    unknown = printed(ahead)
+    copy.source(".ci/took", "# on 2 processors\n3000 3600 proofs\n600 0 tests\n1200 0 wrong bodies\n1200 0 programs\n")
+    took = f"some {20 + 80 / lanes:.0f} minutes"
+    wanted = {
+        "# ./test anew\n": (f"./test anew takes {took} on {lanes} processor", f"of {took.rpartition(' ')[0]} minutes"),
+        "# ./test \n": (f"./test takes {took} on {lanes} processor", f"of at most {took.rpartition(' ')[0]} minutes"),
+        "# ./test program\n": ("./test program takes some 20 minutes", "after 0 minutes"),
+    }
+    for called, (first, far) in wanted.items():
+        copy.source("out/took", called)
+        said, part = printed(ahead), printed([sys.executable, TOP / ".ci/took.py", "programs", "true"])
+        if not said.startswith(first) or far not in part:
+            return f"{called!r}: {said!r}, then {part!r}"
+    return None if "isn't known" in unknown else repr(unknown)
+
+
+def unproved(answer, text="main 1", builds=None, tool="tlbridge"):
+    """Tells how an answer isn't that of a program of which nothing is proved, which is said each time."""
+    got, output, errors, noted = answer
+    if (got, output) != (3, f"unproved from {text}: ./out/{tool}.unproved run\ninput\n".encode()):
+        return f"status {got}, {output!r}, {errors[-1:]!r}"
+    if not errors[0].startswith(f"{tool}: nothing of this program is proved"):
+        return f"{errors!r} on standard error"
+    if builds is not None and noted != builds:
+        return f"it was built by {noted!r}"
+    return None if noted or len(errors) == 1 else f"{errors!r} on standard error"
+
+
+TRIED = dict(words=(b"--unproved", b"run"))
+
+
+def unproved_use(copy):
+    """It is built once, and again where a source has changed."""
+    why = unproved(copy.call(**TRIED), builds=UNPROVED) or unproved(copy.call(**TRIED), builds=NOTHING)
+    copy.source("crates/low/src/lib.rt", "lib 2")
+    copy.source("crates/tlbridge/src/main.rt", "main 2")
+    return why or unproved(copy.call(**TRIED), "main 2", UNPROVED) or unproved(copy.call(**TRIED), "main 2", NOTHING)
+
+
+def unproved_apart(copy):
+    """Neither is taken for the other, not even with its stamp."""
+    why = unproved(copy.call(**TRIED)) or runs(copy.call(), builds=ALL)
+    why = why or unproved(copy.call(**TRIED), builds=NOTHING) or runs(copy.call(), builds=NOTHING)
+    for kind in ("", ".stamp"):
+        place = f"out/tlbridge{kind}" if kind else "crates/tlbridge/out/tlbridge"
+        shutil.copy(copy.file(f"out/tlbridge.unproved{kind}"), copy.file(place))
+    return why or runs(copy.call(), builds=PROGRAM) or runs(copy.call(), builds=NOTHING)
+
+
+def unproved_fails(copy):
+    """An older one stands there, and isn't run; nor is one whose sources changed during the build."""
+    copy.call(**TRIED)
+    copy.source("crates/tlbridge/src/main.rt", "main 2")
+    why = cannot(copy.call(**TRIED, does="fails"), "tlbridge wasn't built")
+    why = why or cannot(copy.call(**TRIED, does="edits"), "changed during the build")
+    return why or unproved(copy.call(**TRIED), "edited", UNPROVED)
+
+
+def unproved_as_a_word(copy):
+    """Behind the first word it is one of the program's."""
+    status, output, _, noted = copy.call(words=(b"run", b"--unproved"))
+    return None if (status, output, noted) == (3, made(words="run --unproved"), ALL) else f"{status}, {output!r}, {noted}"
+
+
+def unproved_scoreboard(copy):
+    """By the name of tlscore its own program."""
+    copy.source("crates.txt", "low:\ntlbridge: low\ntlscore: low\n")
+    copy.source("crates/tlscore/src/main.rt", "score 1")
+    called = dict(called=copy.file("tlscore"), **TRIED)
+    why = unproved(copy.call(**called), "score 1", ["try tlscore"], "tlscore")
+    return why or unproved(copy.call(**called), "score 1", NOTHING, "tlscore") or unproved(copy.call(**TRIED), builds=UNPROVED)
 
 
 def words_pass(copy):
@@ -423,6 +525,12 @@ def cases(program):
         "this repository's own list": built_in_order,
         "how long each crate took": times_noted,
         "how long a whole test took": times_kept,
+        "how long a whole test will take": time_of_a_test,
+        "a program that isn't proved": unproved_use,
+        "a program that isn't proved, and one that is": unproved_apart,
+        "a program that isn't proved, and can't be built": unproved_fails,
+        "the word for it behind another": unproved_as_a_word,
+        "a scoreboard that isn't proved": unproved_scoreboard,
         "the words": words_pass,
         "an edited source": edited,
         "an edited source of a library": edited_below,

@@ -1,5 +1,6 @@
-"""Tries the pages, but for the commands that they show (page_commands.py): each guarantee of README names a call and a clause that
-the source has, each page that it names is there, each crate has a page, and in ARCHITECTURE a row with its files of definitions,
+"""Tries the pages, but for the commands that they show (page_commands.py): README is short, each guarantee of docs/GUARANTEES.md names a
+call and a clause that the source has, each file that a page names is there, and each of its headings, each crate has a page, and in
+ARCHITECTURE a level, the crates on which it stands and a row with its files of definitions, tests/README.md has each entry of tests/ once,
 each example of the library stands in a test as it stands on its page, the table of statements in docs/WORDS.md is up to date,
 docs/definitions.py prints the definitions that it is asked for and lists each that a clause of a statement names, each place that
 docs/ROWS.md and docs/WRONG_BODIES.md name is there, docs/RULES.md has each rule, with its definition, a test and a wrong body, no
@@ -22,8 +23,16 @@ import body_edits  # noqa: E402
 import definitions  # noqa: E402
 from ends import told  # noqa: E402
 
-NAMED = re.compile(r"`(\w+)::(\w+)`,\s+`(\w+)`")
-PAGE = re.compile(r"`((?:docs|examples|crates|interfaces|python)/[\w./-]+)`")
+NAMED = re.compile(r"`(\w+)(?:::[A-Z]\w*)?::(\w+)`,\s+`(\w+)`")
+# A file that a page names, from the top, and one of its headings where that is named too; and what heads a part of a page.
+LINK = re.compile(r'`((?:docs|examples|crates|interfaces|python|tests|\.ci)/[\w./-]+|README\.md)`(?:,\s+"([^"]+)")?')
+HEADING = re.compile(r"(?m)^#+ (.*)$|^(?:- )?\*\*(.+?)\.?\*\*")
+# A row of ARCHITECTURE's levels: the level, the crate, and those on which it stands; the levels, of which the first two stand on
+# nothing else, and the last two carry none of those before them.
+ON_LEVEL = re.compile(r"(?m)^\| (\w+) \| `(\w+)` \| .* \| ([\w, ]*) \|$")
+LEVELS = ("words", "rules", "meaning", "machine", "scoreboard", "text", "outside")
+# An entry of tests/ in the list of them.
+TRIED = re.compile(r"(?m)^\| `([\w.]+)` \| \S.* \|$")
 # A row of a table of crates: the crate, and its files of definitions.
 ROW = re.compile(r"(?m)^\| (\w+) \| ((?:\w+, )*\w+) \| ")
 # An example of the library, and the tests that have each as it stands.
@@ -131,6 +140,66 @@ def printed():
     status, text = asked()
     missing = [it.name for it in definitions.STATEMENTS if not re.search(rf"(?m)^{it.name} +\d+ +\d+  ", text)]
     yield "the statements that are listed", f"status {status}, without {', '.join(missing)}" if status or missing else None
+
+
+def headings(path):
+    """What heads the parts of a page: its headings, and what begins a paragraph in bold."""
+    return [(head or bold).replace("`", "") for head, bold in HEADING.findall(path.read_text())]
+
+
+def broken(page):
+    """Each file that a page names and that isn't there, and each heading that isn't in it."""
+    for name, heading in LINK.findall(page.read_text()):
+        named, path = " ".join(heading.replace("`", "").split()), TOP / name
+        if "NAME" in name or "/out/" in name:
+            continue  # any crate's, or what is built
+        if not path.exists():
+            yield f"{name} isn't there"
+        elif named and path.suffix == ".md" and not any(it.startswith(named) for it in headings(path)):
+            yield f"{name} has no {named!r}"
+
+
+def links():
+    """Each page, where all that it names is there."""
+    for page in sorted(TOP / it for it in listed_by_git("*.md")):
+        yield f"what {page.relative_to(TOP)} names", ", ".join(broken(page)) or None
+
+
+def below():
+    """Each crate of crates.txt, with all crates of this repository on which it stands."""
+    lines = [line.split(":") for line in (TOP / "crates.txt").read_text().splitlines() if line and not line.startswith("#")]
+    names = {name.split()[0]: rest.split() for name, rest in lines}
+    return {name: {it for it in rest if it in names} for name, rest in names.items()}
+
+
+def misplaced(level, levels, under):
+    """How a crate of a level stands on one on which none of that level may stand."""
+    ranks = {LEVELS.index(levels[it]) for it in under if it in levels}
+    rank = LEVELS.index(level)
+    is_wrong = any(it > rank for it in ranks) if rank < 2 else any(it > max(rank, 4) for it in ranks)
+    return f"it is on the level {level}, and stands on {sorted(LEVELS[it] for it in ranks)}" if is_wrong else None
+
+
+def levels():
+    """Each crate, where ARCHITECTURE has it once, on a level, and names those on which it stands and no others stand for it."""
+    crates = below()
+    rows = ON_LEVEL.findall((TOP / "docs/ARCHITECTURE.md").read_text())
+    counts, by_name = Counter(name for _, name, _ in rows), {name: level for level, name, _ in rows if level in LEVELS}
+    odd = sorted(name for name in {*crates, *counts} if counts[name] != 1 or name not in crates or name not in by_name)
+    yield "the levels of the crates", f"not once, or on no level: {', '.join(odd)}" if odd or not rows else None
+    for level, name, stands in (it for it in rows if it[0] in LEVELS):
+        under, all_under = {*stands.replace(",", " ").split()}, crates.get(name, set())
+        direct = {it for it in all_under if not any(it in crates[other] for other in all_under)}
+        apart = sorted(under ^ direct)
+        yield f"what {name} stands on", f"apart are {', '.join(apart)}" if apart else misplaced(level, by_name, all_under)
+
+
+def tests_listed():
+    """The entries of tests/, each of which its page has once."""
+    listed = Counter(TRIED.findall((TOP / "tests/README.md").read_text()))
+    there = {Path(it).parts[1] for it in listed_by_git("tests")}
+    odd = sorted(it for it in {*listed, *there} if listed[it] != 1 or it not in there)
+    yield "the list of tests/README.md", f"not once, or not there: {', '.join(odd)}" if odd or not there else None
 
 
 def tables():
@@ -278,32 +347,69 @@ def contracts():
     yield "what callers have to meet", None if asked == clauses else f"{clauses - asked} of {clauses} clauses weren't read"
 
 
+def listed_by_git(*patterns):
+    """The files that are kept, or will be; those of some patterns where any are given."""
+    words = ["git", "ls-files", "-z", "--cached", "--others", "--exclude-standard", "--", *patterns]
+    listed = subprocess.run(words, cwd=TOP, capture_output=True)
+    return sorted(it for it in {*listed.stdout.decode().split("\0")} if it and (TOP / it).exists())
+
+
 def kept():
     """Each file that is kept, but where it is neither a log nor names a folder of one machine: then all of them as one case."""
-    listed = subprocess.run(["git", "ls-files", "-z"], cwd=TOP, capture_output=True)
-    names = sorted(it.decode() for it in listed.stdout.split(b"\0") if it)
+    names = listed_by_git()
     faults = [(name, "it is a log") for name in names if name.endswith(".log")]
     for name in names:
         found = MACHINE.search((TOP / name).read_bytes()) if (TOP / name).is_file() else None
         if found:
             faults.append((name, f"it names a folder of one machine, {found[0].decode()!r} .."))
     yield from faults
-    yield "the files that are kept", None if names else listed.stderr.decode() or "git lists none"
+    yield "the files that are kept", None if names else "git lists none"
 
 
-def cases():
-    page = (TOP / "README.md").read_text()
-    lines = len(page.splitlines())
-    yield "README is short", None if lines <= 120 else f"it has {lines} lines"
+# The minutes that a first build, and a whole test, takes on four processors, by the tables in .ci; without .ci/took the second is 0.
+TAKEN = """import build, took
+build.TABLES = build.TABLES[:1]
+chain, total = build.chains(build.crates_of("tlbridge"), 1)
+print(max(*chain.values(), total / 4) / 60, took.clock(4) if took.KEPT.exists() else 0)"""
+
+
+def times():
+    """What README says of times, which by the tables may be up to half as much again, or two thirds of it."""
+    ran = subprocess.run([sys.executable, "-B", "-c", TAKEN], cwd=TOP, env={"PYTHONPATH": ".ci"}, capture_output=True, text=True)
+    page, taken = (TOP / "README.md").read_text(), [float(it) for it in ran.stdout.split()]
+    said = re.search(r"some (\d+) minutes on four processors", page), re.search(r"about (an hour) the first time", page)
+    for name, found, minutes in zip(("a first build", "a whole test"), said, taken or [0, 0]):
+        named = 60 if found and found[1] == "an hour" else int(found[1]) if found else 0
+        is_right = named / 1.5 <= minutes <= named * 1.5 or name == "a whole test" and not minutes and named
+        yield f"the time of {name}", None if is_right else f"README has {named} minutes, and the tables {minutes:.0f} {ran.stderr[-200:]}"
+
+
+def is_short(page, most):
+    lines = len((TOP / page).read_text().splitlines())
+    yield f"{page} is short", None if lines <= most else f"it has {lines} lines"
+
+
+def guarantees():
+    """Each guarantee, where it names a call and a clause that the source has."""
+    page = (TOP / "docs/GUARANTEES.md").read_text()
     guaranteed = page[page.index("## What is guaranteed") :].partition("\n## ")[0]
-    for sentence in GUARANTEE.findall(guaranteed):
+    sentences = GUARANTEE.findall(guaranteed)
+    yield "the guarantees", None if len(sentences) >= 11 else f"there are {len(sentences)}"
+    for sentence in sentences:
         names = NAMED.findall(sentence)
         yield sentence[2:60], None if names else "it names no call and clause"
         for crate, call, clause in names:
             yield f"{crate}::{call}, {clause}", None if has_clause(crate, call, clause) else "the source has no such clause"
-    for name in PAGE.findall(page):
-        if "NAME" not in name:
-            yield name, None if (TOP / name).exists() else "README names it, and it isn't there"
+
+
+def cases():
+    yield from is_short("README.md", 80)
+    yield from is_short("docs/WORDS.md", 100)
+    yield from times()
+    yield from guarantees()
+    yield from links()
+    yield from levels()
+    yield from tests_listed()
     for crate in sorted(it.parent for it in TOP.glob("crates/*/src")):
         own = crate / "README.md"
         lines = len(own.read_text().splitlines()) if own.exists() else 0
@@ -317,8 +423,6 @@ def cases():
     yield from rules()
     yield from contracts()
     yield from kept()
-    lines = len((TOP / "docs/WORDS.md").read_text().splitlines())
-    yield "the page of words is short", None if lines <= 100 else f"it has {lines} lines"
     status, text = asked("--check")
     yield "the table of statements in docs/WORDS.md", None if status == 0 else text[-200:]
 

@@ -1,6 +1,7 @@
 """Runs the commands that README.md, docs/TESTBENCH.md, python/README.md and interfaces/README.md show, each block of `shell` in turn at
-the top of the repository, and compares what they print, and the last status, with the block of `printed` behind it. A block that needs
-a program which isn't installed, or the library where it isn't built, is left out, and named.
+the top of the repository, those of README.md in a folder that is laid out as an unpacked archive, and compares what they print, and the
+last status, with the block of `printed` behind it. A block that needs a program which isn't installed, or the library where it isn't
+built, is left out, and named. (Those of docs/INSTALL.md are tried by installed.py, in an archive, as are those of README.md once more.)
 
     python3 tests/page_commands.py TLSCORE
 """
@@ -23,7 +24,7 @@ BLOCK = re.compile(r"(?ms)^```shell\n(.*?)^```\n\n```printed (\d+)\n(.*?)^```$")
 SHOWN = re.compile(r"(?m)^```shell$")
 TOOLS = ("waves", "fill", "explain", "wave-of", "regress")
 NEEDED = ("iverilog", "verilator", "fst2vcd", "vcd2fst", "cc", "chromium")  # of Debian, where a block names one
-NEEDS_LIBRARY = re.compile(r"libzuldegei|import .*(?:Scoreboard|Bridge)")
+NEEDS_LIBRARY = re.compile(r"libzuldegei|inside/bench|import .*(?:Scoreboard|Bridge)")
 Case = Tuple[str, Optional[str]]
 
 
@@ -38,6 +39,14 @@ def installed(folder: Path, score: str) -> dict:
     return {**os.environ, "PATH": path, "PYTHONPATH": str(TOP / "python"), "PYTHONDONTWRITEBYTECODE": "1", "COLUMNS": "100"}
 
 
+def unpacked(folder: Path, tools: Path) -> Path:
+    """A folder in which programs and pages stand as they do in an archive."""
+    (folder / "share/doc").mkdir(parents=True)
+    (folder / "bin").symlink_to(tools)
+    (folder / "share/doc/zuldegei").symlink_to(TOP)
+    return folder
+
+
 def absent(commands: str) -> Optional[str]:
     """What commands need that isn't there."""
     lacking = [it for it in NEEDED if re.search(rf"\b{it}\b", commands) and not shutil.which(it)]
@@ -47,10 +56,10 @@ def absent(commands: str) -> Optional[str]:
     return None if is_built or not NEEDS_LIBRARY.search(commands) else "the library isn't built"
 
 
-def differs(commands: str, status: int, printed: str, environment: dict) -> Optional[str]:
+def differs(commands: str, status: int, printed: str, environment: dict, folder: Path = TOP) -> Optional[str]:
     """How commands don't print what their page shows."""
     ran = subprocess.run(
-        ["sh", "-c", commands], cwd=TOP, env=environment, stdout=subprocess.PIPE, stderr=subprocess.STDOUT, text=True, timeout=300
+        ["sh", "-c", commands], cwd=folder, env=environment, stdout=subprocess.PIPE, stderr=subprocess.STDOUT, text=True, timeout=300
     )  # fmt: skip
     if ran.stdout != printed:
         both = zip_longest(ran.stdout.splitlines(), printed.splitlines(), fillvalue="(nothing)")
@@ -60,8 +69,8 @@ def differs(commands: str, status: int, printed: str, environment: dict) -> Opti
 
 def cases(score: str) -> Iterator[Case]:
     (TOP / "out").mkdir(exist_ok=True)
-    with tempfile.TemporaryDirectory() as folder:
-        environment = installed(Path(folder), score)
+    with tempfile.TemporaryDirectory() as folder, tempfile.TemporaryDirectory() as room:
+        environment, archive = installed(Path(folder), score), unpacked(Path(room), Path(folder))
         for page in PAGES:
             text = (TOP / page).read_text()
             blocks = BLOCK.findall(text)
@@ -74,7 +83,8 @@ def cases(score: str) -> Iterator[Case]:
                     if NEEDS_LIBRARY.search(commands):
                         continue  # nothing rests on it
                     break
-                yield f"block {number} of {page}", differs(commands, int(status), printed, environment)
+                place = archive if page == "README.md" else TOP
+                yield f"block {number} of {page}", differs(commands, int(status), printed, environment, place)
 
 
 if __name__ == "__main__":

@@ -84,7 +84,8 @@ void tlscore_free(tlscore *board);
    RESP is 0 OKAY, 1 EXOKAY, 2 SLVERR or 3 DECERR. An ADDRESS is below 2^32, each other number below 256; else TLSCORE_RANGE. A client
    that the set-up hasn't is no error, but found wrong.
 
-   DATA are the LENGTH bytes of a payload, lane 0 first. There are 8; on an AXI4 port of 32 bits there may be 4; and where a message
+   DATA are the LENGTH bytes of a payload, lane 0 first. There are 8; on an AXI4 port of 32 bits (WIDTH 4 of `config`) there may be 4, on
+   one of 64 bits 4 are TLSCORE_RANGE; and where a message
    carries no data (opcodes 4 and above on channel A, all but 1 on channel D) there may be 0, and DATA may be null. MASK, STROBES and
    UNKNOWN have a bit for each lane, of UNKNOWN where a digit of it is x or z; UNKNOWN and STROBES have none for lanes that aren't given. */
 
@@ -135,6 +136,11 @@ int tlscore_compared(tlscore *board, uint64_t *compared, uint64_t *told);
 
 /* The byte at an address, as the requests that were judged leave it, or TLSCORE_NO_BYTE. */
 int tlscore_byte(tlscore *board, uint64_t address);
+
+/* ---- The process. From this call on it ends with status 1 where exit or main's return would have it end with 0, so that a simulator
+   which takes no status from its models ends with one that says that something was wrong. It changes nothing else, may be called
+   again, and by any thread. The modules of interfaces/systemverilog call it. */
+void tlscore_fail(void);
 
 /* ==== The model: a bridge and the memory behind it, one step at a time, as `tlbridge run` carries out a script (docs/SCRIPT.md,
    "Commands of run"). The caller plays the clients, and says when the bridge sends a burst and when and in which order the memory

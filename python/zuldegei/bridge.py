@@ -7,7 +7,8 @@ at a time (docs/SCRIPT.md, "Commands of run").
         reply = bridge.take(0)
 
 Its calls are those of client.py, which talks to the program, and give the same, so that a testbench runs over either. A call that can't
-be carried out raises a BridgeError, and changes nothing. There may be any number of bridges, and there is no limit of steps.
+be carried out raises a BridgeError, and changes nothing; a field of a wrong type or out of its range is named there, with what was given.
+There may be any number of bridges, and there is no limit of steps.
 """
 
 import ctypes
@@ -16,7 +17,7 @@ from typing import Dict, List, Optional, Sequence, Tuple, Union
 
 from . import scoreboard
 from .client import ABeat, BBeat, Burst, DBeat, Offered, RBeat, Reply, WBeat
-from .scoreboard import LANES, Error, ScoreboardError, Text, bytes_of
+from .scoreboard import BYTE, LANES, LONG, WORD, Error, ScoreboardError, Text, bytes_of, flag, number
 
 # What a step gave, as zuldegei.h has it, by the words of docs/SCRIPT.md.
 ANSWERS = ("more", "accepted", "notready", "exhausted", "refused", "noclient", "sent", "idle", "done", "nosuch", "already", "b", "r",
@@ -25,6 +26,8 @@ RESPONSES = ("OKAY", "EXOKAY", "SLVERR", "DECERR")
 RULES = ("", "OPCODE", "LEVEL", "SIZE", "ATOMIC_SIZE", "ALIGN", "PARAM", "MASK", "CORRUPT", "SOURCE_BUSY", "BURST_CONTROL")
 # The kinds of steps that bridge and memory make, by the words of a script.
 KINDS = ("", "pump", "do", "b", "r")
+# The lines of a scoreboard's set-up that a model doesn't know, by their first words: they are left out.
+SCOREBOARDS = (b"profile", b"axi", b"errors", b"x", b"fill", b"time", b"=")
 
 
 class BridgeError(ScoreboardError):
@@ -79,18 +82,21 @@ def _declared(library: ctypes.PyDLL) -> ctypes.PyDLL:
 
 class Bridge:
     """A bridge and a memory of zeros: of the lines of a script that stand ahead of the first command, or, where none are given, of what
-    `setup` says. Where it keeps them, `script` has the lines by which the program does the same."""
+    `setup` says. A scoreboard's set-up may be given too, of which the lines that the scoreboard alone knows are left out. Where it keeps
+    them, `script` has the lines by which the program does the same."""
 
     def __init__(self, setup: Optional[Text] = None, library: Optional[ctypes.PyDLL] = None, keeps: bool = False):
         self._bridge: Optional[int] = None
+        self._why_none = "there is no set-up: give one to Bridge, or call setup"
         self._library = _declared(library or scoreboard.load())
         self.script: Optional[List[str]] = [] if keeps else None
         self._number, self._beats, self._resp, self._last = c_uint64(), c_uint(), c_uint(), c_bool()
         self._data, self._burst, self._w, self._d, self._step = (c_uint8 * 8)(), _Burst(), _WBeat(), _DBeat(), _Step()
         if setup is not None:
-            self._open(bytes_of(setup))
+            self._open(bytes_of("setup", setup, BridgeError))
 
-    def _open(self, setup: bytes) -> None:
+    def _open(self, given: bytes) -> None:
+        setup = b"".join(line for line in given.splitlines(keepends=True) if not line.split()[:1] or line.split()[0] not in SCOREBOARDS)
         status, fault = c_int(), ctypes.create_string_buffer(256)
         self._bridge = self._library.tlbridge_new(setup, byref(status), fault, len(fault))
         if not self._bridge:
@@ -103,13 +109,16 @@ class Bridge:
         if self._bridge:
             raise BridgeError(Error.SETUP, "there is a set-up already")
         items = (("config", [config]), ("region", regions), ("page", pages), ("bad", bad))
-        self._open(bytes_of("".join(f"{keyword} {it}\n" for keyword, its in items for it in its)))
+        other = next(((keyword, its) for keyword, its in items if not isinstance(its, (list, tuple))), None)
+        if other:
+            raise BridgeError(Error.RANGE, f"the items of {other[0]} are {other[1]!r}, and not a list of texts")
+        self._open(bytes_of("setup", "".join(f"{keyword} {it}\n" for keyword, its in items for it in its), BridgeError))
 
     def close(self) -> None:
         """Gives it back; no other call may follow."""
         if self._bridge:
             self._library.tlbridge_free(self._bridge)
-        self._bridge = None
+        self._bridge, self._why_none = None, "the bridge was closed"
 
     def __enter__(self) -> "Bridge":
         return self
@@ -121,9 +130,9 @@ class Bridge:
         self.close()
 
     def _made(self, name: str, *given: object) -> int:
-        """Makes a call, and gives its answer. C takes no more of a number than it has room for, so that is looked at by who calls."""
+        """Makes a call, whose numbers fit, and gives its answer."""
         if not self._bridge:
-            raise BridgeError(Error.NULL)
+            raise BridgeError(Error.NULL, self._why_none)
         answer = getattr(self._library, f"tlbridge_{name}")(self._bridge, *given)
         if answer < 0 and answer != Error.NO_BYTE:
             raise BridgeError(answer)
@@ -135,19 +144,16 @@ class Bridge:
 
     def offer(self, client: int, beat: ABeat) -> Offered:
         """A client offers a beat."""
-        it, number = beat, self._number
-        _fit(2**32, client, it.opcode, it.param, it.size, it.source, it.address)
-        _fit(2**8, it.mask)
-        _fit(2, it.corrupt)
-        _fit(2**64, it.payload)
-        fields = client, it.opcode, it.param, it.size, it.source
-        data = it.payload.to_bytes(LANES, "little")
-        answer = ANSWERS[self._made("offer", *fields, it.address, it.mask, data, LANES, bool(it.corrupt), number)]
+        fields, it = (_number("client", client, BYTE), *_head(beat)), beat
+        address, mask = _number("address", it.address, WORD), _number("mask", it.mask, BYTE)
+        payload, corrupt = _number("payload", it.payload, LONG), flag("corrupt", it.corrupt, BridgeError)
+        data = payload.to_bytes(LANES, "little")
+        answer = ANSWERS[self._made("offer", *fields, address, mask, data, LANES, corrupt, self._number)]
         if self.script is not None:
-            self._note("a", *fields, f"{it.address:x} {it.mask:x} {it.payload:x} {int(it.corrupt)}")
+            self._note("a", *fields, f"{address:x} {mask:x} {payload:x} {int(corrupt)}")
         if answer == "accepted":
-            return Offered(answer, number=number.value)
-        return Offered(answer, rule=RULES[number.value]) if answer == "refused" else Offered(answer)
+            return Offered(answer, number=self._number.value)
+        return Offered(answer, rule=RULES[self._number.value]) if answer == "refused" else Offered(answer)
 
     def pump(self) -> Optional[Burst]:
         """The burst that the bridge sends, or None."""
@@ -165,36 +171,35 @@ class Bridge:
 
     def perform(self, serial: int, beat: int) -> str:
         """done, nosuch or already."""
-        _fit(2**64, serial)
-        _fit(2**32, beat)
-        answer = self._made("perform", serial, beat)
-        self._note("do", serial, beat)
+        it = _number("serial", serial, LONG), _number("beat", beat, 2**16)
+        answer = self._made("perform", *it)
+        self._note("do", *it)
         return ANSWERS[answer]
 
     def answer_b(self, id: int) -> Optional[BBeat]:
         """The B beat, or None."""
-        _fit(2**32, id)
-        answer = self._made("answer_b", id, self._resp)
-        self._note("b", id)
-        return BBeat(id, RESPONSES[self._resp.value]) if ANSWERS[answer] == "b" else None
+        its = _number("id", id, BYTE)
+        answer = self._made("answer_b", its, self._resp)
+        self._note("b", its)
+        return BBeat(its, RESPONSES[self._resp.value]) if ANSWERS[answer] == "b" else None
 
     def answer_r(self, id: int) -> Optional[RBeat]:
         """The R beat, or None."""
-        _fit(2**32, id)
-        answer = self._made("answer_r", id, self._data, self._resp, self._last)
-        self._note("r", id)
+        its = _number("id", id, BYTE)
+        answer = self._made("answer_r", its, self._data, self._resp, self._last)
+        self._note("r", its)
         if ANSWERS[answer] != "r":
             return None
-        return RBeat(id, int.from_bytes(self._data, "little"), RESPONSES[self._resp.value], int(self._last.value))
+        return RBeat(its, int.from_bytes(self._data, "little"), RESPONSES[self._resp.value], int(self._last.value))
 
     def take(self, client: int) -> Optional[Reply]:
         """The reply that the client takes, or None."""
-        _fit(2**32, client)
-        answer = self._made("take", client, self._number, self._beats)
-        self._note("take", client)
+        its = _number("client", client, BYTE)
+        answer = self._made("take", its, self._number, self._beats)
+        self._note("take", its)
         if ANSWERS[answer] != "reply":
             return None
-        return Reply(self._number.value, tuple(self._beat(client, k) for k in range(self._beats.value)))
+        return Reply(self._number.value, tuple(self._beat(its, k) for k in range(self._beats.value)))
 
     def _beat(self, client: int, k: int) -> DBeat:
         it = self._d
@@ -203,9 +208,9 @@ class Bridge:
 
     def byte(self, address: int) -> Optional[int]:
         """The byte of the memory at an AXI address; None outside good pages."""
-        _fit(2**64, address)
-        byte = self._made("byte", address)
-        self._note("mem", f"{address:x}")
+        at = _number("address", address, WORD)
+        byte = self._made("byte", at)
+        self._note("mem", f"{at:x}")
         return None if byte < 0 else byte
 
     def drain(self) -> int:
@@ -232,19 +237,29 @@ class Bridge:
 
     def choose(self, k: int) -> Tuple[str, ...]:
         """Step k of these, from 0, as the words of its line: its keyword, and the numbers that belong to it."""
-        _fit(2**64, k)
-        self._made("choose", k, self._step)
+        its, many = _number("k", k, LONG), self.choices()
+        if its >= many:
+            raise BridgeError(Error.RANGE, f"k is {its}, and there are {many} steps to choose from")
+        self._made("choose", its, self._step)
         it = self._step
         words = {"do": (it.serial, it.place), "pump": ()}.get(KINDS[it.kind], (it.place,))
         return (KINDS[it.kind], *words)
 
     def make(self, step: Tuple[str, ...]) -> Union[Burst, BBeat, RBeat, str, None]:
         """Makes such a step, and gives what the call of its kind gives."""
-        kind, *numbers = step
-        return {"pump": self.pump, "do": self.perform, "b": self.answer_b, "r": self.answer_r}[kind](*numbers)
+        makes = {"pump": self.pump, "do": self.perform, "b": self.answer_b, "r": self.answer_r}
+        kind, *numbers = step if isinstance(step, (tuple, list)) and step and isinstance(step[0], str) else ("",)
+        if len(numbers) != {"pump": 0, "do": 2, "b": 1, "r": 1}.get(kind):
+            raise BridgeError(Error.RANGE, f"step is {step!r}, and not one that choose gives")
+        return makes[kind](*numbers)
 
 
-def _fit(most: int, *numbers: int) -> None:
-    """Numbers are below this, and not below 0; what more a field asks is said by the library."""
-    if min(numbers) < 0 or max(numbers) >= most:
-        raise BridgeError(Error.RANGE)
+def _number(name: str, value: object, bound: int) -> int:
+    return number(name, value, bound, BridgeError)
+
+
+def _head(beat: ABeat) -> Tuple[int, ...]:
+    """The fields of a beat that are bytes, in the order of a line."""
+    if not isinstance(beat, ABeat):
+        raise BridgeError(Error.RANGE, f"beat is {beat!r}, and not an ABeat")
+    return tuple(_number(name, getattr(beat, name), BYTE) for name in ("opcode", "param", "size", "source"))

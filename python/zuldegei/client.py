@@ -93,6 +93,10 @@ class Ended(Exception):
     """The program ended where an answer was awaited: its status and its line on standard error."""
 
 
+class OtherAnswer(Exception):
+    """The program answered something that `tlbridge run` doesn't."""
+
+
 def beats_of(size, has_data):
     return max(1, 2**size // 8) if has_data else 1
 
@@ -183,22 +187,36 @@ class Commands:
         self.script, self.trace = [], []
 
     def send(self, line):
-        """Sends a line of a script and returns its parsed answer; None for a line of the set-up."""
-        self.script.append(line)
-        self.write(line)
+        """Sends a line of a script, one alone, and returns its parsed answer; None for a line of the set-up."""
+        if not isinstance(line, str) or "\n" in line.removesuffix("\n"):
+            raise ValueError(f"{line!r} isn't one line of a script")
+        self.script.append(line.removesuffix("\n"))
+        self.write(self.script[-1])
         answer = ANSWERS.get((line.split() or [""])[0])
-        return answer(self.line) if answer else None
+        return self.understood(answer) if answer else None
+
+    def understood(self, answer):
+        """What the program answers, by the function that reads it."""
+        try:
+            return answer(self.line)
+        except (IndexError, ValueError, TypeError):
+            raise OtherAnswer(f"{self.script[-1]!r} was answered by {self.trace[-1]!r}") from None
 
     def line(self):
         self.trace.append(self.read())
         return self.trace[-1]
 
     def setup(self, config, regions=(), pages=(), bad=()):
-        """Sends the set-up; each item is the words of its line."""
+        """Sends the set-up; each item is the words of its line. A program that took it answers that nothing is to be done yet, which
+        neither the script nor the trace shows."""
         self.send(f"config {config}")
         for keyword, items in (("region", regions), ("page", pages), ("bad", bad)):
             for item in items:
                 self.send(f"{keyword} {item}")
+        self.write("work")
+        answer = self.read()
+        if answer != "= work 0":
+            raise OtherAnswer(f"a set-up and `work` were answered by {answer!r}, as no `tlbridge run` does")
 
     def offer(self, client, beat):
         words = (client, beat.opcode, beat.param, beat.size, beat.source)

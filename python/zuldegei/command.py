@@ -6,7 +6,10 @@ import errno
 import io
 import os
 import sys
-from typing import IO, Callable, NoReturn, Optional
+import traceback
+from contextlib import contextmanager
+from pathlib import Path
+from typing import IO, Callable, Iterator, NoReturn, Optional, Union
 
 from . import __version__
 
@@ -20,6 +23,7 @@ class Status(enum.IntEnum):
     CANNOT = 3  # a file can't be read or written, or a program can't be run
     MEMORY = 4
     USAGE = 6
+    UNEXPECTED = 7  # a fault of the command itself
     INTERRUPTED = 130
 
 
@@ -57,9 +61,32 @@ def words_of(name: str, description: str, more: str = "") -> Words:
     return words
 
 
-def one_line(text: object) -> str:
-    """A text in one line that a terminal shows as it is."""
-    return "".join(it if it.isprintable() else "?" for it in " ".join(str(text).split()))[:400]
+def one_line(text: object, most: int = 400) -> str:
+    """A text in one line that a terminal shows as it is, of so many characters at most."""
+    return "".join(it if it.isprintable() else "?" for it in " ".join(str(text).split()))[:most]
+
+
+def reason(why: OSError) -> str:
+    """What couldn't be done with which file."""
+    return f"{why.filename or 'a file'}: {why.strerror or why}"
+
+
+@contextmanager
+def naming(file: Union[str, Path]) -> Iterator[None]:
+    """Where what is read or written within fails without a name, as on a full disc, it gets this one."""
+    try:
+        yield
+    except OSError as why:
+        why.filename = str(file) if why.filename is None else why.filename
+        raise
+
+
+def unexpected(why: Exception) -> str:
+    """What is to be reported of a fault of the command itself: its kind, its text, where it came up, and the version."""
+    places = traceback.extract_tb(why.__traceback__)
+    place = f" at {Path(places[-1].filename).name} line {places[-1].lineno}" if places else ""
+    asked = "please report this line, with the files that were read"
+    return f"unexpected {type(why).__name__}{place} of version {__version__}, {asked}: {why}"
 
 
 def tell(line: str) -> None:
@@ -77,7 +104,8 @@ def finished(work: Callable[[], int]) -> int:
         status = work()
     except SystemExit as ends:
         status = int(ends.code or Status.DONE)
-    sys.stdout.flush()
+    with naming("standard output"):
+        sys.stdout.flush()
     return status
 
 
@@ -93,6 +121,8 @@ def ended(name: str, work: Callable[[], int]) -> int:
     """Does the work of a command; gives its status, and where it can't go on its one line on standard error."""
     if sys.stdout is None:
         sys.stdout = Closed()
+    if isinstance(sys.stdout, io.TextIOWrapper):
+        sys.stdout.reconfigure(errors="backslashreplace")  # a name that the terminal's encoding hasn't is shown too
     try:
         return finished(work)
     except Fault as why:
@@ -100,11 +130,13 @@ def ended(name: str, work: Callable[[], int]) -> int:
     except BrokenPipeError:
         said, status = "nobody reads what it writes", Status.CANNOT
     except OSError as why:
-        said, status = f"{why.filename or 'a file'}: {why.strerror or why}", Status.CANNOT
+        said, status = reason(why), Status.CANNOT
     except MemoryError:
         said, status = "out of memory", Status.MEMORY
     except KeyboardInterrupt:
         said, status = "interrupted", Status.INTERRUPTED
+    except Exception as why:
+        said, status = unexpected(why), Status.UNEXPECTED
     let_go()
     tell(f"{name}: {one_line(said)}")
     return status

@@ -9,7 +9,7 @@ from .command import Fault, Status, ended, words_of
 from .images import ELF_MAGIC, Stretch, of_binary, of_elf, of_readmemh
 
 NAME = "zuldegei-fill"
-MOST, TOP = 32, 1 << 32  # bytes of a line, and addresses
+MOST, TOP, WIDEST = 32, 1 << 32, 4096  # bytes of a line, addresses, and bytes of a word
 MORE = """
 The addresses of `fill` lines are those of the AXI4 port, so --at says where the image's first byte stands there; of an ELF it is added to
 the addresses of its segments. The format is told by the file: an ELF by its first bytes, else a text that $readmemh reads by its digits.
@@ -71,8 +71,8 @@ def work(arguments: Sequence[str]) -> int:
     words.add_argument("--virtual", action="store_true", help="an ELF's virtual addresses, and not its physical ones")
     words.add_argument("--zeros", action="store_true", help="also the zeros behind an ELF's segments (bss)")
     given = words.parse_args(arguments)
-    if given.width < 1:
-        words.error("a word has a byte at the least")
+    if not 1 <= given.width <= WIDEST:
+        words.error(f"a word has 1 to {WIDEST:,} bytes")
     for line in lines(stretches_of(Path(given.image).read_bytes(), given), given.at):
         sys.stdout.write(line)
     return Status.DONE

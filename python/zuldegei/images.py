@@ -6,8 +6,9 @@ from typing import Iterator, List, NamedTuple, Optional, Tuple
 
 from .command import Fault
 
-TOKEN = re.compile(r"//[^\n]*|/\*.*?\*/|@[0-9a-fA-F_]+|[0-9a-fA-FxXzZ_?]+|\S", re.DOTALL)
+TOKEN = re.compile(r"//[^\n]*|/\*.*?(?:\*/|\Z)|@[0-9a-fA-F_]+|[0-9a-fA-FxXzZ_?]+|\S", re.DOTALL)
 ELF_MAGIC, LOADED = b"\x7fELF", 1
+MOST_ZEROS = 1 << 24  # that are given behind a segment's bytes
 # Of an ELF's head, by whether it is of 64 bits: the format behind its first 16 bytes, and that of a program header.
 HEADS = {1: "HHIIIIIHHH", 2: "HHIQQQIHHH"}
 PROGRAMS = {1: "IIIIIIII", 2: "IIQQQQQQ"}
@@ -28,6 +29,8 @@ def of_readmemh(text: str, width: int, is_big_endian: bool) -> Iterator[Stretch]
     """Words of `width` bytes, which `@` places by their number; a digit that isn't known leaves its byte unknown."""
     begun, values = 0, []
     for token in TOKEN.findall(text):
+        if token.startswith("/*") and not (token.endswith("*/") and len(token) > 3):
+            raise Fault(f"a comment has no end: {token[:40]!r}")
         if token.startswith(("//", "/*")):
             continue
         if token.startswith("@"):
@@ -55,10 +58,17 @@ def of_elf(data: bytes, is_virtual: bool, has_zeros: bool) -> Iterator[Stretch]:
         kind, order = data[4], {1: "<", 2: ">"}[data[5]]
         head = struct.unpack_from(order + HEADS[kind], data, 16)
         start, size, count = head[4], head[8], head[9]
+        check_table(data, start, size, count, struct.calcsize(order + PROGRAMS[kind]))
         for at in range(count):
             yield from of_segment(data, kind, struct.unpack_from(order + PROGRAMS[kind], data, start + at * size), is_virtual, has_zeros)
     except (IndexError, KeyError, struct.error) as why:
         raise Fault(f"this is no whole ELF: {why}") from why
+
+
+def check_table(data: bytes, start: int, size: int, count: int, least: int) -> None:
+    """Refuses an ELF whose program headers don't lie in it, or are too small to be such."""
+    if count and (size < least or start + count * size > len(data)):
+        raise Fault(f"this is no whole ELF: {count} program headers of {size} bytes at {start:x}, in {len(data)} bytes")
 
 
 def of_segment(data: bytes, kind: int, fields: Tuple[int, ...], is_virtual: bool, has_zeros: bool) -> Iterator[Stretch]:
@@ -73,5 +83,8 @@ def of_segment(data: bytes, kind: int, fields: Tuple[int, ...], is_virtual: bool
         raise Fault("this ELF is cut: a segment lies behind its end")
     address = virtual if is_virtual else physical
     yield Stretch(address, list(data[offset : offset + in_file]))
+    if has_zeros and in_memory - in_file > MOST_ZEROS:
+        zeros = f"{in_memory - in_file} zeros behind the segment at {address:x}"
+        raise Fault(f"{zeros} are too many for `fill` lines: without --zeros pages of the kind `good` begin with them")
     if has_zeros and in_memory > in_file:
         yield Stretch(address + in_file, [0] * (in_memory - in_file))

@@ -4,6 +4,7 @@ import re
 from typing import Dict, Iterator, List, NamedTuple, Optional, Sequence, Tuple
 
 from .command import Fault
+from .forms import check_words, may_be_told
 
 A, D, AW, AR, W, B, R = BEATS = ("A", "D", "AW", "AR", "W", "B", "R")
 FIELDS = {A: 9, D: 8, AW: 5, AR: 5, W: 3, B: 2, R: 4}
@@ -13,12 +14,15 @@ OPERATIONS = ("PutFull", "PutPartial", "Arithmetic", "Logical", "Get", "Intent")
 BUS, PAGE, WORD = 8, 4096, 8  # bytes
 AT_END = ("UNANSWERED", "UNFINISHED")  # what is told of the end of an observation, and of no beat
 WRONG = re.compile(
-    r"= wrong (?P<line>\d+) (?P<kind>client|request|axi|reply) (?P<number>\d+) (?P<name>\w+)(?: expected (?P<due>D .*?))?"
-    r"(?: client (?P<client>\d+) source (?P<source>\d+))?(?: (?P<side>write|read|data)(?: (?P<id>\d+))?)?(?: at (?P<time>\d+))?"
+    r"= wrong (?P<line>\d{1,20}) (?P<kind>client|request|axi|reply) (?P<number>\d{1,20}) (?P<name>\w+)"
+    r"(?: expected (?P<due>D(?: \d{1,3}){5} [01] [0-9a-f]{16} [01]))?(?: client (?P<client>\d{1,3}) source (?P<source>\d{1,3}))?"
+    r"(?: (?P<side>write|read|data)(?: (?P<id>\d{1,3}))?)?(?: at (?P<time>\d{1,20}))?",
+    re.ASCII,
 )
 JUDGED = re.compile(
-    r"= judged (?P<beats>\d+) wrong (?P<wrong>\d+) outstanding (?P<outstanding>\d+) open (?P<open>\d+) "
-    r"compared (?P<compared>\d+) of (?P<told>\d+)"
+    r"= judged (?P<beats>\d{1,20}) wrong (?P<wrong>\d{1,20}) outstanding (?P<outstanding>\d{1,20}) open (?P<open>\d{1,20}) "
+    r"compared (?P<compared>\d{1,20}) of (?P<told>\d{1,20})",
+    re.ASCII,
 )
 
 
@@ -109,6 +113,7 @@ class Observation:
                 self.entries.append(waiting)
             waiting = None
             try:
+                check_words(words)
                 now = int(words[1]) if words[0] == "time" else now
                 self.times[number] = now
                 if words[0] == A:
@@ -184,10 +189,11 @@ def verdict_of(text: str) -> Verdict:
 
 def check_same(observation: Observation, verdict: Verdict) -> None:
     """Refuses a verdict that can't be of this observation: each wrong line is a beat, or the end."""
-    beats = {it.line for it in observation.beats()}
+    beats = {it.line: it.kind for it in observation.beats()}
     ends = {it.line for it in observation.entries if isinstance(it, Event) and it.name == "end"}
     for wrong in verdict.wrong:
-        if wrong.line not in (ends if wrong.name in AT_END else beats):
+        is_at_end = wrong.name in AT_END and wrong.line in ends
+        if not is_at_end and not may_be_told(wrong.kind, wrong.name, beats.get(wrong.line, "")):
             raise Fault(f"the verdict isn't of this observation: {wrong.text[:80]!r}, and line {wrong.line} isn't what it tells of")
 
 

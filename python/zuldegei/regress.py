@@ -1,24 +1,34 @@
 """zuldegei-regress: many observations, or commands that print them, judged side by side: a table, JUnit XML and JSON."""
 
-import enum
-import json
+import argparse
+import contextlib
+import hashlib
+import itertools
 import os
+import re
 import shlex
 import shutil
 import signal
 import subprocess
 import sys
 import tempfile
+import threading
 import time
-from concurrent.futures import FIRST_COMPLETED, ThreadPoolExecutor, wait
+from collections import Counter
+from concurrent.futures import FIRST_COMPLETED, Future, ThreadPoolExecutor, wait
 from pathlib import Path
-from typing import BinaryIO, Dict, Iterator, List, NamedTuple, Optional, Sequence, Set, TextIO, Tuple
-from xml.etree import ElementTree
+from typing import BinaryIO, Callable, Dict, Iterator, List, Optional, Sequence, Set, TextIO, Tuple
+from urllib.parse import quote_plus
 
-from .command import Fault, Status, ended, words_of
-from .observation import verdict_of
+from .command import Fault, Status, Words, ended, naming, one_line, reason, tell, unexpected, words_of
+from .observation import Verdict, plural, verdict_of
+from .reports import Asked, Job, Outcome, Report, State
 
 NAME = "zuldegei-regress"
+MOST_SEEDS, MOST_AT_ONCE, MOST_SECONDS = 1_000_000, 1024, 10**9
+MOST_OF_A_LINE, CHUNK = 128, 1 << 20  # bytes
+LONGEST_NAME, KEPT_OF_A_NAME = 100, 60  # characters of a file's name
+SEEDS = re.compile(r"([0-9]{1,20})(?:-([0-9]{1,20}))?")
 MORE = """
 Each RUN is a file that tlscore reads, or, by --command, a command for a shell that prints one; {seed} in it is each seed of --seeds in
 turn. The set-up of --setup is put ahead of each. A run is
@@ -26,101 +36,130 @@ turn. The set-up of --setup is put ahead of each. A run is
   right      nothing is wrong
   wrong      tlscore found a wrong beat, which the table and both files name with its time
   nothing    it has no beat, so that nothing was judged
-  failed     its command failed, or its observation is at fault
+  failed     its command failed, or its observation is at fault, or its verdict: one without its last line, with another count of wrong
+             lines than that line says, or with another status than its lines have
   late       it took longer than --timeout
+  unjudged   the call was interrupted, or couldn't go on, before this run was judged
 
-Status 0: all are right; 1: one is wrong; 2: none is wrong, and one is nothing, failed or late; 3: no run could be made, as where tlscore
-isn't there; 6: a word that it doesn't know. With --keep FOLDER the observation and the verdict of each run that isn't right are kept
-there, for zuldegei-explain.
+Status 0: all are right; 1: one is wrong; 2: none is wrong, and one isn't right; 3: no run could be made, as where tlscore isn't there,
+or a file that was asked for couldn't be written; 6: a word that it doesn't know; 130: interrupted, by SIGINT or SIGTERM. Table, JUnit
+and JSON tell all that was judged, however the call ends, and name the rest. JUnit, JSON and the folder of --keep are opened ahead of
+the first run.
+
+With --keep FOLDER the observation and the verdict of each run that isn't right are kept there, for zuldegei-explain, as NAME.lines and
+NAME.told: NAME is the run's, with + for a space and %2F for /, and so for other characters; of a name of more than 100 characters it
+is a sum and the last 60; and behind the second run of one name stands =2.
 """
 
 
-class State(enum.Enum):
-    """How a run ended."""
+class Keeper:
+    """Keeps files of runs in a folder, under names that no two runs share."""
 
-    RIGHT = "right"
-    WRONG = "wrong"
-    NOTHING = "nothing"
-    FAILED = "failed"
-    LATE = "late"
+    def __init__(self, folder: Path):
+        self.folder, self.lock = folder, threading.Lock()
+        self.names: "Counter[str]" = Counter()
+        folder.mkdir(parents=True, exist_ok=True)
+        with naming(folder), tempfile.TemporaryFile(dir=folder):
+            pass  # a file can be made there
+
+    def name(self, run: str) -> str:
+        """What the files of a run are called."""
+        name = quote_plus(run.encode(errors="surrogateescape"))
+        if len(name) > LONGEST_NAME:
+            name = f"{hashlib.sha256(name.encode()).hexdigest()[:32]}={name[-KEPT_OF_A_NAME:]}"
+        with self.lock:
+            self.names[name] += 1
+            return name if self.names[name] == 1 else f"{name}={self.names[name]}"
+
+    def keep(self, run: str, joined: Path, verdict: str) -> str:
+        """Keeps an observation and its verdict; why it can't, if it can't, and then it leaves neither."""
+        name = self.name(run)
+        lines, told = (self.folder / f"{name}{end}" for end in (".lines", ".told"))
+        try:
+            with naming(lines), lines.open("wb") as file:
+                copied(joined, file, lines)
+            with naming(told):
+                told.write_text(verdict, encoding="utf-8")
+        except OSError as why:
+            for file in (lines, told):
+                with contextlib.suppress(OSError):
+                    file.unlink()
+            return reason(why)
+        return ""
 
 
-class Job(NamedTuple):
-    """A run that is asked for: a file, or a command with its seed."""
-
-    name: str
-    file: Optional[str] = None
-    command: Optional[str] = None
-    seed: Optional[int] = None
-
-
-class Outcome(NamedTuple):
-    """What came of a run."""
-
-    job: Job
-    state: State
-    seconds: float
-    beats: int = 0
-    wrong: int = 0
-    compared: int = 0
-    told: int = 0
-    first: str = ""  # the first wrong line
-    line: Optional[int] = None
-    time: Optional[int] = None
-    why: str = ""  # of a run that failed
-
-    def entry(self) -> Dict[str, object]:
-        """What the JSON has of it."""
-        kept = {name: getattr(self, name) for name in ("beats", "wrong", "compared", "told", "first", "line", "time", "why")}
-        return {"run": self.job.name, "seed": self.job.seed, "status": self.state.value, "seconds": round(self.seconds, 3), **kept}
+def copied(source: Path, target: BinaryIO, its_name: Path, until: float = float("inf")) -> None:
+    """Copies a file behind what another has; what can't be read or written is told by its own name."""
+    with naming(source), source.open("rb") as file:
+        while True:
+            chunk = file.read(CHUNK)
+            if not chunk:
+                return
+            if time.monotonic() > until:
+                raise subprocess.TimeoutExpired(str(source), until)
+            with naming(its_name):
+                target.write(chunk)
 
 
 class Runner:
     """Makes runs and has them judged."""
 
-    def __init__(self, score: str, setup: str, timeout: float, keep: Optional[Path]):
-        self.score, self.setup, self.timeout, self.keep = score, setup, timeout, keep
+    def __init__(self, score: str, setup: bytes, timeout: float, keeper: Optional[Keeper]):
+        self.score, self.setup, self.timeout, self.keeper = score, setup, timeout, keeper
         self.running: Set[int] = set()  # the commands that go on, each with all that it began
+        self.is_stopped = False
 
     def outcome(self, job: Job) -> Outcome:
-        """Makes a run, and says what came of it."""
+        """Makes a run, and says what came of it, whatever goes wrong with it."""
         began = time.monotonic()
-        with tempfile.TemporaryDirectory() as folder:
-            joined = Path(folder, "joined.lines")
-            try:
-                why = self.observed(job, joined)
-                state, verdict, why = (State.FAILED, "", why) if why else self.judged(joined, began)
-            except subprocess.TimeoutExpired:
-                state, verdict, why = State.LATE, "", f"it took longer than {self.timeout:g} s"
-            made = self.told(job, state, verdict, why, time.monotonic() - began)
-            if self.keep and made.state is not State.RIGHT:
-                self.kept(job, joined, verdict)
+        try:
+            with tempfile.TemporaryDirectory() as folder:
+                return self.made(job, Path(folder, "joined.lines"), began)
+        except OSError as why:
+            said = reason(why)
+        except MemoryError:
+            said = "out of memory"
+        except Exception as why:
+            said = unexpected(why)
+        return Outcome(job, State.FAILED, time.monotonic() - began, why=said)
+
+    def made(self, job: Job, joined: Path, began: float) -> Outcome:
+        """Makes a run, whose observation goes into a file, has it judged, and keeps it where it isn't right."""
+        try:
+            why = self.observed(job, joined, began + self.timeout)
+            state, verdict, why = (State.FAILED, "", why) if why else self.judged(joined, began)
+        except subprocess.TimeoutExpired:
+            state, verdict, why = State.LATE, "", f"it took longer than {self.timeout:g} s"
+        made = told(job, state, verdict, why, time.monotonic() - began)
+        if self.keeper and made.state is not State.RIGHT:
+            return made._replace(unkept=self.keeper.keep(job.name, joined, verdict))
         return made
 
-    def observed(self, job: Job, joined: Path) -> str:
+    def observed(self, job: Job, joined: Path, until: float) -> str:
         """Puts an observation behind its set-up; why it can't, if it can't."""
-        with joined.open("wb") as file:
-            file.write(self.setup.encode())
+        with naming(joined), joined.open("wb") as file:
+            file.write(self.setup)
             file.flush()
             if job.file is not None:
                 try:
-                    with open(job.file, "rb") as source:
-                        shutil.copyfileobj(source, file)
+                    copied(Path(job.file), file, joined, until)
                 except OSError as why:
-                    return f"{job.file}: {why.strerror}"
+                    return reason(why)
                 return ""
             with tempfile.TemporaryFile() as errors:
-                ran = self.finished(["sh", "-c", job.command], file, errors)
-                errors.seek(0)
-                said = errors.read().decode(errors="replace").strip().splitlines()
+                ran = self.finished(["sh", "-c", job.command], None, file, errors, self.timeout)
+                said = text_of(errors).strip().splitlines()
         return f"the command ended with status {ran}: {' '.join(said[-1:])[:200]}" if ran else ""
 
-    def finished(self, words: List[str], output: BinaryIO, errors: BinaryIO) -> int:
+    def finished(self, words: List[str], given: Optional[BinaryIO], output: BinaryIO, errors: BinaryIO, seconds: float) -> int:
         """The status of a command; where it takes too long it is ended, with all that it began."""
-        with subprocess.Popen(words, stdout=output, stderr=errors, stdin=subprocess.DEVNULL, start_new_session=True) as program:
+        given = subprocess.DEVNULL if given is None else given
+        with subprocess.Popen(words, stdin=given, stdout=output, stderr=errors, start_new_session=True) as program:
             self.running.add(program.pid)
             try:
-                return program.wait(self.timeout)
+                if self.is_stopped:
+                    os.killpg(program.pid, signal.SIGKILL)
+                return program.wait(seconds)
             except BaseException:
                 os.killpg(program.pid, signal.SIGKILL)
                 raise
@@ -128,65 +167,79 @@ class Runner:
                 self.running.discard(program.pid)
 
     def stop(self) -> None:
-        """Ends all commands that go on."""
+        """Ends all commands that go on, and those that begin from here on."""
+        self.is_stopped = True
         for group in list(self.running):
-            try:
+            with contextlib.suppress(ProcessLookupError):  # it has ended by itself
                 os.killpg(group, signal.SIGKILL)
-            except ProcessLookupError:
-                pass  # it has ended by itself
 
     def judged(self, joined: Path, began: float) -> Tuple[State, str, str]:
         """How tlscore ended on an observation."""
         left = max(0.1, self.timeout - (time.monotonic() - began))
-        with joined.open("rb") as file:
-            ran = subprocess.run([self.score], stdin=file, capture_output=True, timeout=left)
-        verdict = ran.stdout.decode(errors="replace")
-        if ran.returncode not in (Status.DONE, Status.WRONG):
-            said = ran.stderr.decode(errors="replace").strip()[-200:]
-            return State.FAILED, verdict, f"tlscore ended with status {ran.returncode}: {said}"
-        return State.WRONG if ran.returncode else State.RIGHT, verdict, ""
-
-    def told(self, job: Job, state: State, verdict: str, why: str, seconds: float) -> Outcome:
-        """The counts of a verdict."""
-        if not verdict.strip():
-            return Outcome(job, state, seconds, why=why)
-        try:
-            found = verdict_of(verdict)
-        except Fault as fault:
-            return Outcome(job, State.FAILED, seconds, why=why or str(fault))
-        first, last = (found.wrong or [None])[0], found.judged
-        counts = (last.beats, last.wrong, last.compared, last.told) if last else (0, len(found.wrong), 0, 0)
-        state = State.NOTHING if state is State.RIGHT and last and not last.beats else state
-        why = why or ("no beat was observed" if state is State.NOTHING else "")
-        return Outcome(job, state, seconds, *counts, *((first.text[2:], first.line, first.time) if first else ("", None, None)), why)
-
-    def kept(self, job: Job, joined: Path, verdict: str) -> None:
-        """Keeps a run for who wants to explain it."""
-        name = "".join(it if it.isalnum() or it in "-_." else "_" for it in job.name)[-100:]
-        shutil.copyfile(joined, self.keep / f"{name}.lines")
-        (self.keep / f"{name}.told").write_text(verdict)
+        with joined.open("rb") as file, tempfile.TemporaryFile() as output, tempfile.TemporaryFile() as errors:
+            ran = self.finished([self.score], file, output, errors, left)
+            verdict, said = text_of(output), text_of(errors).strip()[-200:]
+        if ran not in (Status.DONE, Status.WRONG):
+            return State.FAILED, verdict, f"tlscore ended with status {ran}: {said}"
+        return State.WRONG if ran else State.RIGHT, verdict, ""
 
 
-def outcomes(jobs: Sequence[Job], runner: Runner, at_once: int) -> Iterator[Outcome]:
-    """What comes of each run, as they end; so many are made at once."""
-    waiting, running = iter(jobs), {}  # of futures
+def text_of(file: BinaryIO) -> str:
+    """All that was written into a file."""
+    file.seek(0)
+    return file.read().decode(errors="replace")
+
+
+def told(job: Job, state: State, verdict: str, why: str, seconds: float) -> Outcome:
+    """What a verdict says of a run; one that isn't whole says nothing."""
+    if why and not verdict.strip():
+        return Outcome(job, state, seconds, why=why)
+    try:
+        found = verdict_of(verdict)
+    except Fault as fault:
+        return Outcome(job, State.FAILED, seconds, why=why or str(fault))
+    why = why or not_whole(found, state is State.WRONG)
+    state = State.FAILED if why else state
+    first, last = (found.wrong or [None])[0], found.judged
+    counts = (last.beats, last.wrong, last.compared, last.told) if last else (0, len(found.wrong), 0, 0)
+    if state is State.RIGHT and not last.beats:
+        state, why = State.NOTHING, "no beat was observed"
+    return Outcome(job, state, seconds, *counts, *((first.text[2:], first.line, first.time) if first else ("", None, None)), why)
+
+
+def not_whole(found: Verdict, is_wrong: bool) -> str:
+    """Why this can't be all that tlscore printed of an observation that it ended with; nothing where it can."""
+    lines = plural(len(found.wrong), "wrong line")
+    if found.judged is None:
+        return f"the verdict has no last line, `= judged ..`: {lines}"
+    if found.judged.wrong != len(found.wrong):
+        return f"the verdict has {lines}, and its last line says {found.judged.wrong}"
+    if is_wrong != bool(found.wrong):
+        return f"the verdict has {lines}, and tlscore ended with status {int(is_wrong)}"
+    return ""
+
+
+def make(asked: Asked, runner: Runner, at_once: int, take: Callable[[Outcome], None]) -> None:
+    """Makes the runs, so many at once, and gives what comes of each as they end. Where it is interrupted it ends them."""
+    waiting, running = iter(asked), set()
     with ThreadPoolExecutor(at_once) as pool:
         try:
             while True:
-                for job in waiting:
-                    running[pool.submit(runner.outcome, job)] = job
-                    if len(running) >= at_once:
-                        break
+                running |= {pool.submit(runner.outcome, job) for job in itertools.islice(waiting, at_once - len(running))}
                 if not running:
                     return
-                for future in wait(running, return_when=FIRST_COMPLETED).done:
-                    running.pop(future)
-                    yield future.result()
+                take_ended(wait(running, return_when=FIRST_COMPLETED).done, running, take)
         except BaseException:
-            for future in running:
-                future.cancel()
+            take_ended({it for it in running if it.done()}, running, take)
             runner.stop()
             raise
+
+
+def take_ended(ended_now: Set[Future], running: Set[Future], take: Callable[[Outcome], None]) -> None:
+    """Gives what came of runs that have ended."""
+    for future in ended_now:
+        take(future.result())
+        running.discard(future)
 
 
 class Progress:
@@ -194,71 +247,103 @@ class Progress:
 
     def __init__(self, count: int, stream: TextIO):
         self.count, self.stream, self.is_shown = count, stream, stream.isatty()
+        self.made = self.bad = 0
 
-    def show(self, made: Sequence[Outcome]) -> None:
+    def show(self, outcome: Outcome) -> None:
+        self.made, self.bad = self.made + 1, self.bad + (outcome.state is not State.RIGHT)
         if self.is_shown:
-            bad = sum(it.state is not State.RIGHT for it in made)
-            print(f"\r{NAME}: {len(made)} of {self.count}, {bad} not right ", end="", file=self.stream, flush=True)
+            print(f"\r{NAME}: {self.made} of {self.count}, {self.bad} not right ", end="", file=self.stream, flush=True)
 
     def close(self) -> None:
         if self.is_shown:
             print("\r\x1b[K", end="", file=self.stream, flush=True)
 
 
-def table(made: Sequence[Outcome]) -> str:
-    """A line for each run that isn't right, and the counts of all."""
-    wide = max([len(it.job.name) for it in made] + [3])
-    lines = [f"{'run':{wide}}  status   beats  compared  first wrong line"]
-    for it in made:
-        if it.state is not State.RIGHT:
-            compared = f"{it.compared}/{it.told}"
-            lines.append(f"{it.job.name:{wide}}  {it.state.value:7}{it.beats:7}  {compared:>8}  {it.first or it.why}")
-    counts = ", ".join(f"{sum(it.state is state for it in made)} {state.value}" for state in State)
-    beats, compared, told = (sum(getattr(it, name) for it in made) for name in ("beats", "compared", "told"))
-    lines = lines if len(lines) > 1 else []
-    return "\n".join([*lines, f"{len(made)} runs: {counts}; {beats} beats, {compared} of {told} bytes compared"])
+def all_made(asked: Asked, runner: Runner, at_once: int) -> Tuple[Report, Optional[BaseException]]:
+    """What came of all runs, and what ended them ahead of their end, if anything did."""
+    began, progress, stopped = time.monotonic(), Progress(len(asked), sys.stderr), None
+    made: Dict[int, Outcome] = {}
+
+    def take(outcome: Outcome) -> None:
+        made[outcome.job.place] = outcome
+        progress.show(outcome)
+
+    try:
+        make(asked, runner, at_once, take)
+    except BaseException as why:
+        stopped = why
+    progress.close()
+    name = "" if stopped is None else "interrupted" if isinstance(stopped, KeyboardInterrupt) else type(stopped).__name__
+    return Report(asked, made, time.monotonic() - began, f"regress ended before it was judged: {name}"), stopped
 
 
-def junit(made: Sequence[Outcome], seconds: float) -> ElementTree.ElementTree:
-    """JUnit XML: a wrong run is a failure, one that couldn't be judged an error."""
-    wrong, right = sum(it.state is State.WRONG for it in made), sum(it.state is State.RIGHT for it in made)
-    counts = {"tests": str(len(made)), "failures": str(wrong), "errors": str(len(made) - wrong - right), "time": f"{seconds:.3f}"}
-    suites = ElementTree.Element("testsuites", counts)
-    suite = ElementTree.SubElement(suites, "testsuite", {"name": "tlscore", **counts, "skipped": "0"})
-    for it in made:
-        case = ElementTree.SubElement(suite, "testcase", {"classname": "tlscore", "name": it.job.name, "time": f"{it.seconds:.3f}"})
-        if it.state is not State.RIGHT:
-            kind = "failure" if it.state is State.WRONG else "error"
-            ElementTree.SubElement(case, kind, {"type": it.state.value, "message": it.first or it.why}).text = it.first or it.why
-        out = f"beats {it.beats}, wrong {it.wrong}, compared {it.compared} of {it.told} bytes"
-        ElementTree.SubElement(case, "system-out").text = out + (f", seed {it.job.seed}" if it.job.seed is not None else "")
-    return ElementTree.ElementTree(suites)
+class Output:
+    """A file that is asked for, or none; it is opened ahead of the first run, so that one that can't be written is told at once."""
+
+    def __init__(self, path: Optional[str]):
+        self.path, self.file = path, open(path, "w", encoding="utf-8") if path else None
+
+    def write(self, pieces: Iterator[str]) -> str:
+        """Writes it as a whole; why it can't, if it can't."""
+        try:
+            if self.file is not None:
+                with naming(self.path), self.file:
+                    self.file.writelines(pieces)
+        except OSError as why:
+            return reason(why)
+        return ""
 
 
-def status_of(made: Sequence[Outcome]) -> Status:
-    """The status of all runs together."""
-    if any(it.state is State.WRONG for it in made):
-        return Status.WRONG
-    return Status.DONE if made and all(it.state is State.RIGHT for it in made) else Status.FAULT
+def printed(pieces: Iterator[str]) -> str:
+    """Prints a text; why it can't, if it can't."""
+    try:
+        with naming("standard output"):
+            sys.stdout.writelines(pieces)
+            sys.stdout.flush()
+    except OSError as why:
+        return reason(why)
+    return ""
 
 
-def seeds_of(text: str) -> List[int]:
+def unkept(report: Report) -> str:
+    """Why a run couldn't be kept, and how many others weren't."""
+    found = [it.unkept for it in report.made.values() if it.unkept]
+    return (found[0] + (f", and {len(found) - 1} more runs weren't kept" if found[1:] else "")) if found else ""
+
+
+def seeds_of(text: str) -> List[range]:
     """The seeds of a list as 1-20,33."""
-    found: List[int] = []
+    ranges, count = [], 0
     for part in text.split(","):
-        first, _, last = part.partition("-")
-        found += range(int(first), int(last or first) + 1)
-    return found
+        found = SEEDS.fullmatch(part.strip())
+        if not found:
+            raise argparse.ArgumentTypeError(f"{part[:40]!r} is no seed and no range of seeds, as 33 and 1-20 are")
+        first, last = int(found[1]), int(found[2] or found[1])
+        if last < first:
+            raise argparse.ArgumentTypeError(f"the range {part[:50]!r} ends before it begins")
+        count += last + 1 - first
+        if count > MOST_SEEDS:
+            raise argparse.ArgumentTypeError(f"{text[:50]!r} has more than {MOST_SEEDS:,} seeds")
+        ranges.append(range(first, last + 1))
+    return ranges
 
 
-def jobs_of(runs: Sequence[str], command: Optional[str], seeds: Sequence[int]) -> List[Job]:
-    """The runs that are asked for; of a command one for each seed."""
-    jobs = [Job(it, file=it) for it in runs]
-    if command is None:
-        return jobs
-    if not seeds:
-        return [*jobs, Job(command, command=command)]
-    return [*jobs, *(Job(f"seed {it}", command=command.replace("{seed}", str(it)), seed=it) for it in seeds)]
+def setup_of(path: str) -> bytes:
+    """The set-up lines of a file, the last of which ends with a line feed too; none of them may be one that tlscore can't read."""
+    lines = Path(path).read_bytes().split(b"\n")
+    lines = lines if lines[-1] else lines[:-1]
+    for number, line in enumerate(lines, 1):
+        check_line(f"{path}, line {number}", line[:-1] if line.endswith(b"\r") else line)
+    return b"".join(line + b"\n" for line in lines)
+
+
+def check_line(place: str, line: bytes) -> None:
+    """Refuses a line that is too long, or has a byte that no line of tlscore may have, be it in a comment."""
+    odd = next((it for it in line if not 0x20 <= it <= 0x7E), None)
+    if odd is not None:
+        raise Fault(f"{place}: the byte {odd:02x} may not stand in a line for tlscore, comments too: each is ASCII, from 20 to 7e")
+    if len(line) > MOST_OF_A_LINE:
+        raise Fault(f"{place}: it has {len(line)} bytes, and a line for tlscore {MOST_OF_A_LINE} at most")
 
 
 def score_of(given: Optional[str]) -> str:
@@ -270,12 +355,11 @@ def score_of(given: Optional[str]) -> str:
     return found
 
 
-def work(arguments: Sequence[str]) -> int:
-    """Does what the words ask for."""
+def all_words() -> Words:
     words = words_of(NAME, __doc__, MORE)
     words.add_argument("runs", nargs="*", metavar="RUN", help="a file that tlscore reads")
     words.add_argument("--command", help="a command that prints an observation")
-    words.add_argument("--seeds", type=seeds_of, default=[], metavar="LIST", help="as 1-20,33")
+    words.add_argument("--seeds", type=seeds_of, default=[], metavar="LIST", help="as 1-20,33: 1,000,000 at the most")
     words.add_argument("-j", "--jobs", type=int, default=os.cpu_count() or 1, help="how many runs at once (one a processor)")
     words.add_argument("--score", help="the scoreboard (what TLSCORE names, else tlscore)")
     words.add_argument("--setup", metavar="FILE", help="set-up lines that are put ahead of each run")
@@ -283,37 +367,40 @@ def work(arguments: Sequence[str]) -> int:
     words.add_argument("--junit", metavar="FILE", help="where JUnit XML goes")
     words.add_argument("--json", metavar="FILE", help="where JSON goes")
     words.add_argument("--keep", metavar="FOLDER", help="where runs that aren't right are kept")
+    return words
+
+
+def given_of(arguments: Sequence[str]) -> argparse.Namespace:
+    """The words, where they ask for a run."""
+    words = all_words()
     given = words.parse_args(arguments)
-    jobs = jobs_of(given.runs, given.command, given.seeds)
-    if not jobs or given.jobs < 1 or given.timeout <= 0 or given.seeds and "{seed}" not in (given.command or ""):
-        words.error("it takes a RUN or a --command, with {seed} where there are --seeds, one run at once and some time at the least")
-    keep = Path(given.keep) if given.keep else None
-    if keep:
-        keep.mkdir(parents=True, exist_ok=True)
-    runner = Runner(score_of(given.score), Path(given.setup).read_text() if given.setup else "", given.timeout, keep)
-    made, seconds = all_made(jobs, runner, given.jobs)
-    print(table(made))
-    if given.junit:
-        junit(made, seconds).write(given.junit, encoding="utf-8", xml_declaration=True)
-    if given.json:
-        Path(given.json).write_text(json.dumps({"seconds": round(seconds, 3), "runs": [it.entry() for it in made]}, indent=1) + "\n")
-    return status_of(made)
+    if not given.runs and given.command is None or given.seeds and "{seed}" not in (given.command or ""):
+        words.error("it takes a RUN or a --command, with {seed} where there are --seeds")
+    if not 1 <= given.jobs <= MOST_AT_ONCE or not 0 < given.timeout <= MOST_SECONDS:
+        words.error(f"it makes 1 to {MOST_AT_ONCE:,} runs at once, and a run takes some time, of {MOST_SECONDS:,} seconds at the most")
+    return given
 
 
-def all_made(jobs: Sequence[Job], runner: Runner, at_once: int) -> Tuple[List[Outcome], float]:
-    """What came of all runs, in the order in which they were asked for, and how long that took."""
-    began, progress, made = time.monotonic(), Progress(len(jobs), sys.stderr), []
-    try:
-        for outcome in outcomes(jobs, runner, at_once):
-            made.append(outcome)
-            progress.show(made)
-    finally:
-        progress.close()
-    places = {job: at for at, job in enumerate(jobs)}
-    return sorted(made, key=lambda it: places[it.job]), time.monotonic() - began
+def work(arguments: Sequence[str]) -> int:
+    """Does what the words ask for. What was judged is told, however it ends."""
+    given = given_of(arguments)
+    score, setup = score_of(given.score), setup_of(given.setup) if given.setup else b""
+    junit, json, keeper = Output(given.junit), Output(given.json), Keeper(Path(given.keep)) if given.keep else None
+    runner = Runner(score, setup, given.timeout, keeper)
+    report, stopped = all_made(Asked(given.runs, given.command, given.seeds), runner, given.jobs)
+    failures = [junit.write(report.junit()), json.write(report.json()), printed(report.table()), unkept(report)]
+    said = "; ".join(filter(None, failures))
+    if stopped is not None:
+        if said:
+            tell(f"{NAME}: {one_line(said)}")
+        raise stopped
+    if said:
+        raise Fault(said, Status.CANNOT)
+    return report.status()
 
 
 def main() -> int:
+    signal.signal(signal.SIGTERM, signal.default_int_handler)
     return ended(NAME, lambda: work(sys.argv[1:]))
 
 

@@ -6,20 +6,25 @@
             print(found.text)
 
 Each call that judges gives a Found, which is true where something is wrong. A call that can't be carried out raises a ScoreboardError,
-and changes nothing (zuldegei.h has the one exception). There may be any number of boards.
+and changes nothing (zuldegei.h has the one exception, and `fill` another, where memory is refused). A field of a wrong type or out of its
+range is named there, with what was given. There may be any number of boards.
 """
 
 import ctypes
 import os
 from ctypes import POINTER, byref, c_bool, c_char_p, c_int, c_int64, c_size_t, c_uint, c_uint64, c_void_p, create_string_buffer
 from enum import IntEnum
+from operator import index
 from pathlib import Path
-from typing import Dict, List, NamedTuple, Optional, Sequence, Tuple, Union
+from typing import Dict, Iterable, List, NamedTuple, Optional, Sequence, Set, Tuple, Type, Union
 
 from .observation import WRONG, Judged, Wrong, wrong_of
 
 LANES = 8  # of a payload
 FILLING = 32  # bytes of a fill
+BYTE, WORD, LONG = 2**8, 2**32, 2**64  # what numbers are below
+PAGE = 4096  # bytes of a page
+FILLED = ("good", "any")  # the kinds of pages that may be filled
 Text = Union[str, bytes]
 
 
@@ -121,10 +126,10 @@ def _signatures() -> Dict[str, Tuple[object, Sequence[object]]]:
 
 
 def load(path: Union[str, Path, None] = None) -> ctypes.PyDLL:
-    """The shared library: at a path, at the one that ZULDEGEI_LIBRARY names, or as interfaces/build leaves it in this repository. Other
-    threads wait while a call of it runs."""
-    built = Path(__file__).resolve().parents[2] / "out/libzuldegei.so"
-    library = ctypes.PyDLL(str(path or os.environ.get("ZULDEGEI_LIBRARY") or built))
+    """The shared library: at a path, at the one that ZULDEGEI_LIBRARY names, beside this module, where pip puts it, or as interfaces/build
+    leaves it in this repository. Other threads wait while a call of it runs."""
+    built, packed = Path(__file__).resolve().parents[2] / "out/libzuldegei.so", Path(__file__).resolve().with_name("libzuldegei.so")
+    library = ctypes.PyDLL(str(path or os.environ.get("ZULDEGEI_LIBRARY") or (packed if packed.exists() else built)))
     library.tlscore_version.restype = c_char_p
     library.tlscore_new.restype = c_void_p
     library.tlscore_new.argtypes = [c_char_p, POINTER(c_int), c_char_p, c_size_t]
@@ -139,11 +144,13 @@ class Scoreboard:
 
     def __init__(self, setup: Text, library: Optional[ctypes.PyDLL] = None):
         self._board: Optional[int] = None
+        given = bytes_of("setup", setup)
         self._library = library or load()
         status, fault = c_int(), create_string_buffer(256)
-        self._board = self._library.tlscore_new(bytes_of(setup), byref(status), fault, len(fault))
+        self._board = self._library.tlscore_new(given, byref(status), fault, len(fault))
         if not self._board:
             raise ScoreboardError(status.value, fault.value.decode())
+        self._filled = _pages_filled(given)
 
     def close(self) -> None:
         """Gives it back; no other call may follow."""
@@ -161,14 +168,10 @@ class Scoreboard:
         self.close()
 
     def _status(self, name: str, *given: object) -> int:
-        """Makes a call. C takes no more of a number than it has room for, so it is looked at here."""
+        """Makes a call, whose numbers fit."""
         if not self._board:
             raise ScoreboardError(Error.NULL)
-        call = getattr(self._library, f"tlscore_{name}")
-        for number, kind in zip(given, call.argtypes[1:]):
-            if isinstance(number, int) and kind in (c_uint, c_uint64) and number >> 8 * ctypes.sizeof(kind):
-                raise ScoreboardError(Error.RANGE)
-        return call(self._board, *given)
+        return getattr(self._library, f"tlscore_{name}")(self._board, *given)
 
     def _text(self, name: str) -> str:
         """The text of what was found, or of a fault."""
@@ -188,46 +191,56 @@ class Scoreboard:
     def a(self, client: int, opcode: int, size: int, source: int, address: int, mask: int, data: int = 0, param: int = 0,
           corrupt: bool = False, unknown: int = 0) -> Found:  # fmt: skip
         """A beat on channel A; `unknown` has a bit for each lane of the payload that nobody knows."""
-        return self._judged("a", client, opcode, param, size, source, address, mask, _lanes(data), LANES, unknown, corrupt)
+        head = _bytes_of(client=client, opcode=opcode, param=param, size=size, source=source)
+        rest = number("address", address, WORD), number("mask", mask, BYTE), *_payload(data, unknown)
+        return self._judged("a", *head, *rest, flag("corrupt", corrupt))
 
     def d(self, client: int, opcode: int, size: int, source: int, data: int = 0, param: int = 0, denied: bool = False,
           corrupt: bool = False, unknown: int = 0) -> Found:  # fmt: skip
         """A beat on channel D."""
-        return self._judged("d", client, opcode, param, size, source, denied, _lanes(data), LANES, unknown, corrupt)
+        head = _bytes_of(client=client, opcode=opcode, param=param, size=size, source=source)
+        return self._judged("d", *head, flag("denied", denied), *_payload(data, unknown), flag("corrupt", corrupt))
 
     def aw(self, id: int, address: int, len: int, size: int, burst: int = 1) -> Found:
         """A write address."""
-        return self._judged("aw", id, address, len, size, burst)
+        return self._judged("aw", number("id", id, BYTE), number("address", address, WORD), *_bytes_of(len=len, size=size, burst=burst))
 
     def w(self, data: int, strobes: int, last: bool, unknown: int = 0) -> Found:
         """Write data."""
-        return self._judged("w", _lanes(data), LANES, unknown, strobes, last)
+        return self._judged("w", *_payload(data, unknown), number("strobes", strobes, BYTE), flag("last", last))
 
     def b(self, id: int, resp: int = Response.OKAY) -> Found:
         """A write response."""
-        return self._judged("b", id, resp)
+        return self._judged("b", number("id", id, BYTE), number("resp", resp, len(Response)))
 
     def ar(self, id: int, address: int, len: int, size: int, burst: int = 1) -> Found:
         """A read address."""
-        return self._judged("ar", id, address, len, size, burst)
+        return self._judged("ar", number("id", id, BYTE), number("address", address, WORD), *_bytes_of(len=len, size=size, burst=burst))
 
     def r(self, id: int, data: int, last: bool, resp: int = Response.OKAY, unknown: int = 0) -> Found:
         """Read data."""
-        return self._judged("r", id, _lanes(data), LANES, unknown, resp, last)
+        it = number("id", id, BYTE), *_payload(data, unknown), number("resp", resp, len(Response))
+        return self._judged("r", *it, flag("last", last))
 
     def unknown(self, channel: int, client: int = 0) -> Found:
-        """A beat of which a field other than the payload is x or z."""
-        return self._judged("unknown", channel, client)
+        """A beat of which a field other than the payload is x or z; on the AXI4 port the client is 0."""
+        number("channel", channel, len(Channel))
+        return self._judged("unknown", channel, number("client", client, BYTE if channel <= Channel.D else 1))
 
     def fill(self, address: int, data: bytes) -> None:
-        """The bytes with which the memory began, from an address on."""
-        for first in range(0, len(data), FILLING):
-            part = bytes(data[first : first + FILLING])
-            self._judged("fill", address + first, part, len(part))
+        """The bytes with which the memory began, from an address on: all of them, or, where it raises, none. Where memory is refused some
+        may be filled; then the same call may be made again."""
+        at, held = number("address", address, WORD), _filling(data)
+        if held and (at + len(held) > WORD or any(page not in self._filled for page in _pages(at, len(held)))):
+            raise ScoreboardError(Error.WORD - 2, f"address is {at:#x}, from where {len(held)} bytes don't lie on pages that can be filled")
+        for first in range(0, len(held), FILLING):
+            part = held[first : first + FILLING]
+            self._judged("fill", at + first, part, len(part))
 
-    def time(self, time: int) -> Found:
-        """The time of what comes. A beat that an earlier line holds is judged."""
-        return self._judged("time", time)
+    def time(self, time: float) -> Found:
+        """The time of what comes, a whole number. A beat that an earlier line holds is judged."""
+        whole = int(time) if isinstance(time, float) and time.is_integer() else time
+        return self._judged("time", number("time", whole, LONG))
 
     def drained(self) -> Found:
         """AXI4 beats went unseen until no burst was open."""
@@ -243,11 +256,11 @@ class Scoreboard:
 
     def line(self, line: Text) -> Found:
         """A line as tlscore reads it, without its line feed."""
-        return self._judged("line", bytes_of(line))
+        return self._judged("line", bytes_of("line", line))
 
     def byte(self, address: int) -> Optional[int]:
         """The byte at an address of a good page, as the requests that were judged leave it; None outside these pages."""
-        byte = self._status("byte", address)
+        byte = self._status("byte", number("address", address, WORD))
         if byte < 0 and byte != Error.NO_BYTE:
             raise ScoreboardError(byte)
         return None if byte < 0 else byte
@@ -261,13 +274,59 @@ class Scoreboard:
         return Judged(judged.value, wrong.value, *due, compared.value, told.value)
 
 
-def _lanes(data: int) -> bytes:
-    """A payload as bytes, the lowest lane first."""
-    if data >> 8 * LANES:
-        raise ScoreboardError(Error.RANGE)
-    return data.to_bytes(LANES, "little")
+def number(name: str, value: object, bound: int, kind: Type[ScoreboardError] = ScoreboardError) -> int:
+    """The number of a field, which is below a bound."""
+    try:
+        found = index(value)
+    except TypeError:
+        found = -1
+    if 0 <= found < bound:
+        return found
+    most = f"{bound - 1}" if bound <= BYTE else f"{bound - 1:#x}"
+    raise kind(Error.RANGE, f"{name} is {value!r}, and not a number from 0 to {most}")
 
 
-def bytes_of(text: Text) -> bytes:
+def flag(name: str, value: object, kind: Type[ScoreboardError] = ScoreboardError) -> bool:
+    """A field that is true or false, or a bit."""
+    try:
+        if value in (0, 1):
+            return bool(value)
+    except (TypeError, ValueError):
+        pass
+    raise kind(Error.RANGE, f"{name} is {value!r}, and neither True nor False")
+
+
+def _bytes_of(**fields: int) -> Iterable[int]:
+    """Fields that are bytes, in this order."""
+    return [number(name, value, BYTE) for name, value in fields.items()]
+
+
+def _payload(data: int, unknown: int) -> Tuple[bytes, int, int]:
+    """A payload as C takes it, the lowest lane first: its bytes, how many, and which of its lanes nobody knows."""
+    return number("data", data, LONG).to_bytes(LANES, "little"), LANES, number("unknown", unknown, BYTE)
+
+
+def _filling(data: object) -> bytes:
+    """What is to be filled."""
+    try:
+        return bytes(data) if not isinstance(data, (int, str)) else bytes(memoryview(data))
+    except (TypeError, ValueError):
+        raise ScoreboardError(Error.RANGE, f"data is {data!r}, and not bytes") from None
+
+
+def _pages(address: int, length: int) -> Iterable[int]:
+    """The pages that bytes lie on."""
+    return range(address // PAGE, (address + length - 1) // PAGE + 1)
+
+
+def _pages_filled(setup: bytes) -> Set[int]:
+    """The pages of a set-up that may be filled, by the lines of it that a library has taken."""
+    lines = [words for words in map(bytes.split, setup.split(b"\n")) if words[:1] == [b"page"]]
+    return {int(words[1], 16) + k for words in lines if words[3].decode() in FILLED for k in range(int(words[2]))}
+
+
+def bytes_of(name: str, text: Text, kind: Type[ScoreboardError] = ScoreboardError) -> bytes:
     """A text for C, where a zero byte would end it: one that no line may have stands for it."""
-    return (text if isinstance(text, bytes) else text.encode()).replace(b"\0", b"\1")
+    if not isinstance(text, (str, bytes)):
+        raise kind(Error.RANGE, f"{name} is {text!r}, and not a text")
+    return (text if isinstance(text, bytes) else text.encode(errors="surrogatepass")).replace(b"\0", b"\1")

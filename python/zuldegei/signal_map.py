@@ -200,7 +200,7 @@ class Reader:
     def bundle(self, key: Key, style: str, prefixes: List[str], part: int = 0, parts: int = 1) -> None:
         """All fields of a channel, by the names that a style makes of them."""
         its_style, sender, answerer = STYLES[style], prefixes[0], prefixes[-1]
-        if len(prefixes) > 2:
+        if len(prefixes) > 2 or any(it.startswith("=") for it in prefixes):
             raise ValueError(prefixes)
         for name in (*HANDSHAKE, *FIELDS[key.channel]):
             is_back = (name == "ready") != (key.channel in FROM_THE_OTHER_SIDE)

@@ -166,6 +166,8 @@ def wires(name: str, found: List[Selection], slots: Dict[bytes, int]) -> Wires:
     """What is read of the bits that were found."""
     pieces = []
     for signal, high, low in found:
+        if abs(signal.left - signal.right) + 1 != signal.width:
+            raise Fault(f"{name} is declared with {signal.width} bits, and in the places {signal.left} to {signal.right}")
         if signal.left >= signal.right:
             first, last = signal.left - high, signal.left - low + 1
         else:

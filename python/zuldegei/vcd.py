@@ -2,8 +2,11 @@
 that are wanted, one time after another."""
 
 import gzip
+import os
+import select
 import shutil
 import subprocess
+import zlib
 from contextlib import contextmanager
 from pathlib import Path
 from typing import BinaryIO, Dict, Iterator, List, NamedTuple, Optional, Tuple
@@ -11,6 +14,7 @@ from typing import BinaryIO, Dict, Iterator, List, NamedTuple, Optional, Tuple
 from .command import Fault, Status
 
 CHUNK, LONGEST = 1 << 20, 1 << 24  # bytes that are read at once, and of a line
+SILENT = 60  # seconds for which fst2vcd may give nothing
 CONTROLS = bytes({*range(32), 127} - set(b"\t\n\v\f\r"))
 FST_HEAD, GZIP_HEAD = b"\0", b"\x1f\x8b"
 # A value's digits as VCD writes them, also those of nine-valued VHDL, and what they are here: 0, 1, x or z.
@@ -68,7 +72,7 @@ class Lines:
         while True:
             try:
                 chunk = self.stream.read1(CHUNK)
-            except (EOFError, gzip.BadGzipFile) as why:
+            except (EOFError, gzip.BadGzipFile, zlib.error) as why:
                 raise Fault(f"the dump can't be unpacked: {why}") from why
             if not chunk:
                 self.is_cut = bool(rest.strip())
@@ -250,14 +254,27 @@ def opened(path: str) -> Iterator[BinaryIO]:
             yield file
 
 
+class Given:
+    """What a program gives, which doesn't keep silent for ever, as fst2vcd does on some files that are damaged."""
+
+    def __init__(self, program: subprocess.Popen, path: str):
+        self.place, self.path = program.stdout.fileno(), path
+
+    def read1(self, most: int) -> bytes:
+        """Bytes as soon as there are any; none at the end."""
+        if not select.select([self.place], [], [], SILENT)[0]:
+            raise Fault(f"fst2vcd gave nothing of {self.path} for {SILENT} s: the file may be damaged")
+        return os.read(self.place, most)
+
+
 @contextmanager
 def converted(path: str) -> Iterator[BinaryIO]:
     """The VCD that fst2vcd makes of an FST."""
     if not shutil.which("fst2vcd"):
         raise Fault(f"{path} is read by fst2vcd, which isn't installed: Debian has it in the package gtkwave", Status.CANNOT)
-    with subprocess.Popen(["fst2vcd", path], stdout=subprocess.PIPE, stderr=subprocess.DEVNULL) as program:
+    with subprocess.Popen(["fst2vcd", path], stdout=subprocess.PIPE, stderr=subprocess.DEVNULL, bufsize=0) as program:
         try:
-            yield program.stdout
+            yield Given(program, path)
             if program.wait():
                 raise Fault(f"fst2vcd ended with status {program.returncode} on {path}")
         finally:
