@@ -261,6 +261,12 @@ STATEMENTS = (
         "`bridge_calls::BridgeHandle::new`, clause `runs`.",
         (("bridge_calls", "HandleRuns", "OnlyRuns"),),
     ),
+    Statement(
+        "opening",
+        "What lies at the pointer that opening a handle hands out",
+        "`zuldegei::tlscore_open` and `zuldegei::tlbridge_open`.",
+        (("zuldegei", "Opened", "HandedOut"), ("score_calls", "HandleRuns", "IsNew"), ("bridge_calls", "HandleRuns", "IsNew")),
+    ),
 )
 
 BEGINS = re.compile(r"^(?:(?:abbrev|unfoldable|opaque) )?(?:pub )?(?:(record|data) )?([\w◌≡-]+)(?= )")

@@ -41,7 +41,7 @@ TESTED = TOP / "crates/layer_tests/src/tests/pages.rt"
 # A call that a statement is of, and a clause of a function's head.
 CALL = re.compile(r"`(\w+)::(?:(\w+)::)?(\w+)`")
 OWNER = re.compile(r"(?m)^impl(?:<.*?>)? (?:[\w:<>, ]+ for )?(\w+)")
-CLAUSE = re.compile(r"(?ms)^ *ensures (?:(\w+) )?{(.*?)}$")
+CLAUSE = re.compile(r"(?ms)^ *ensures\*? (?:(\w+) )?{(.*?)}$")
 # A clause that a caller has to meet, and what in one nobody can: no value is of an empty type, and nothing lies at null.
 ASKED = re.compile(r"(?ms)^ *requires\*? (?:\w+ )?{(.*?)}$")
 UNMET = re.compile(r"\bffalse\b|⊥|\bEmpty\b|\bFalse\b|(?<![\w)] )\b(?:false ≡ true|true ≡ false)\b|≡ *\(?null\b|\bnull(?:_mut)?\b *≡")
@@ -69,7 +69,7 @@ def heads(crate, call, owner=""):
     file."""
     for file in (TOP / "crates" / crate / "src").rglob("*.rt"):
         text = file.read_text()
-        for head in re.finditer(rf"(?ms)^ *pub(?:\(crate\))? fn {call}\b.*?^ *{{$", text):
+        for head in re.finditer(rf'(?ms)^ *pub(?:\(crate\))? (?:unsafe )?(?:extern "C" )?fn {call}\b.*?^ *{{$', text):
             if not owner or OWNER.findall(text[: head.start()])[-1:] == [owner]:
                 yield head[0], text
 
