@@ -230,12 +230,18 @@ STATEMENTS = (
     Statement(
         "score-text",
         "The text of the scoreboard",
-        "`score_script::score_text`.",
+        "`score_script::score_text_with`.",
         (
-            ("script_text", "Scripts", "EndsOrStops"),
+            ("script_text", "Stops", "EndsHolding"),
             ("score_script", "Scores", "score_reading"),
             ("score_script", "Scores", "opening_state"),
         ),
+    ),
+    Statement(
+        "score-fault",
+        "Why a fault of the scoreboard's text is one",
+        "`score_script::fault_reason`.",
+        (("score_script", "FaultReasons", "fault_reason"),),
     ),
     Statement(
         "score-handle",

@@ -2,6 +2,7 @@
 and `fill` lines, which say some. Lines and arrows are those of score_cases.py.
 """
 
+from score_faults import MISPLACED
 from script_cases import SETUP as LINES
 
 SETUP = LINES.rstrip()
@@ -46,10 +47,10 @@ HISTORIES = {
         for profile in ("bridge", "tilelink")
     },
     "a page of any that stands in another line": f"{CONFIG}\npage 10 2 any\npage 11 1 good\nmem 0 -> set-up fault: PageTwice 2",
-    "a page of any past the last number": f"{CONFIG}\npage ffffffff 2 any -> fault at word 1",
-    "a kind in capitals": f"{CONFIG}\npage 10 1 Any -> fault at word 4",
-    "a kind that isn't there": f"{CONFIG}\npage 10 1 some -> fault at word 4",
-    "a kind, and a word too many": f"{CONFIG}\npage 10 1 any good -> fault at word 5",
+    "a page of any past the last number": f"{CONFIG}\npage ffffffff 2 any -> {MISPLACED}",
+    "a kind in capitals": f"{CONFIG}\npage 10 1 Any -> fault at word 4: this word may not stand here",
+    "a kind that isn't there": f"{CONFIG}\npage 10 1 some -> fault at word 4: this word may not stand here",
+    "a kind, and a word too many": f"{CONFIG}\npage 10 1 any good -> fault at word 5: a word too many",
     # What a memory began with.
     **{
         f"bytes with which pages of both kinds began, by profile {profile}": f"""{MIXED}
@@ -85,28 +86,28 @@ HISTORIES = {
         -> outstanding 0 open 0
         """,
     **{
-        f"{name} with which a memory began": f"{MIXED}\n{line} -> fault at word {word}"
-        for name, line, word in (
-            ("no address", "fill", 2),
-            ("a byte at no address", "fill 100000000 0", 2),
-            ("no byte", "fill 10008", 3),
-            ("a byte of three digits", "fill 10008 0ff", 3),
-            ("a byte that is none", "fill 10008 0 x", 4),
-            ("33 bytes", f"fill 10008{' 0' * 33}", 35),
-            ("a byte of a slverr page", "fill 12000 0", 2),
-            ("a byte of no page", "fill 14000 0", 2),
-            ("two bytes, the second of a slverr page", "fill 11fff 0 0", 2),
-            ("a right byte, and one of no page", "fill 10000 0\nfill ffff 0", 2),
+        f"{name} with which a memory began": f"{MIXED}\n{line} -> fault at word {word}: {reason}"
+        for name, line, word, reason in (
+            ("no address", "fill", 2, "a word is missing"),
+            ("a byte at no address", "fill 100000000 0", 2, "a number out of range"),
+            ("no byte", "fill 10008", 3, "a word is missing"),
+            ("a byte of three digits", "fill 10008 0ff", 3, "a number out of range"),
+            ("a byte that is none", "fill 10008 0 x", 4, "this is no hexadecimal number"),
+            ("33 bytes", f"fill 10008{' 0' * 33}", 35, "a word too many"),
+            ("a byte of a slverr page", "fill 12000 0", 2, "not all bytes lie on good pages"),
+            ("a byte of no page", "fill 14000 0", 2, "not all bytes lie on good pages"),
+            ("two bytes, the second of a slverr page", "fill 11fff 0 0", 2, "not all bytes lie on good pages"),
+            ("a right byte, and one of no page", "fill 10000 0\nfill ffff 0", 2, "not all bytes lie on good pages"),
         )
     },
-    "bytes past the last address": f"{CONFIG}\npage fffff 1 good\nfill ffffffff 0\nfill ffffffff 0 0 -> fault at word 2",
-    "a byte with which a memory began, behind a beat": f"{SETUP}\n{PUT}\nfill 10000 0 -> fault at word 1",
-    "the same behind a question": f"{SETUP}\nmem 10000 -> = mem 00\nfill 10000 0 -> fault at word 1",
-    "the same behind a drain": f"{SETUP}\n= drained 1\nfill 10000 0 -> fault at word 1",
-    "the same of no page": f"{SETUP}\nmem 10000 -> = mem 00\nfill 0 0 -> fault at word 1",
-    "the same before the config line": f"fill 10000 0 -> fault at word 1\n{SETUP}",
-    "a page behind what a memory began with": f"{SETUP}\nfill 10000 0\npage 20 1 good -> fault at word 1",
-    "a profile behind it": f"{SETUP}\nfill 10000 0\nprofile tilelink -> fault at word 1",
+    "bytes past the last address": f"{CONFIG}\npage fffff 1 good\nfill ffffffff 0\nfill ffffffff 0 0 -> fault at word 2: not all bytes lie on good pages",
+    "a byte with which a memory began, behind a beat": f"{SETUP}\n{PUT}\nfill 10000 0 -> {MISPLACED}",
+    "the same behind a question": f"{SETUP}\nmem 10000 -> = mem 00\nfill 10000 0 -> {MISPLACED}",
+    "the same behind a drain": f"{SETUP}\n= drained 1\nfill 10000 0 -> {MISPLACED}",
+    "the same of no page": f"{SETUP}\nmem 10000 -> = mem 00\nfill 0 0 -> {MISPLACED}",
+    "the same before the config line": f"fill 10000 0 -> {MISPLACED}\n{SETUP}",
+    "a page behind what a memory began with": f"{SETUP}\nfill 10000 0\npage 20 1 good -> {MISPLACED}",
+    "a profile behind it": f"{SETUP}\nfill 10000 0\nprofile tilelink -> {MISPLACED}",
     "what a memory began with, behind a set-up that is refused": "config 1 1 1 1 3 12 h\nfill 0 0 -> set-up fault: BadConfig 0",
-    "the same with a byte that is none": "config 1 1 1 1 3 12 h\nfill 0 x -> fault at word 3",
+    "the same with a byte that is none": "config 1 1 1 1 3 12 h\nfill 0 x -> fault at word 3: this is no hexadecimal number",
 }

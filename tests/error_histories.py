@@ -7,6 +7,7 @@ where page 0 does, but for Gets alone, and page 5 nowhere. The word at 18 is bad
 """
 
 from response_histories import FAILED_BURSTS, HINT_NOT_DENIED, NOT_DENIED
+from score_faults import MISPLACED
 from script_cases import SETUP
 
 CONFIG = SETUP.partition("\n")[0]
@@ -685,21 +686,21 @@ LINES = {
         D 0 1 0 3 6 0 7 0
         -> outstanding 0 open 1
         """,
-    "errors in any way, where no profile is named": f"{SETUP}errors any -> fault at word 2",
-    "errors in any way, by the profile of this bridge": f"{SETUP}profile bridge\nerrors any -> fault at word 2",
-    "errors in any way, before the profile": f"{SETUP}errors any -> fault at word 2\nprofile tilelink",
-    "errors in any way without a profile, and a word too many": f"{SETUP}errors any any -> fault at word 2",
-    "errors in any way, and a word too many": f"{SETUP}profile tilelink\nerrors any any -> fault at word 3",
-    "errors in any way a second time": f"{ANY}\nerrors any -> fault at word 1",
-    "errors in any way, and as they are told here": f"{ANY}\nerrors strict -> fault at word 1",
-    "errors a second time, and in a way that isn't there": f"{SETUP}errors strict\nerrors each -> fault at word 1",
-    "errors a second time, and in any way": f"{SETUP}errors strict\nprofile tilelink\nerrors any -> fault at word 1",
-    "errors strict, and a word too many": f"{CONFIG}\nerrors strict any -> fault at word 3",
-    "errors without a word": f"{CONFIG}\nerrors -> fault at word 2",
-    "errors in a way that isn't there": f"{CONFIG}\nprofile tilelink\nerrors all -> fault at word 2",
-    "errors in capitals": f"{CONFIG}\nprofile tilelink\nerrors Any -> fault at word 2",
-    "errors before the config line": f"errors strict -> fault at word 1\n{CONFIG}",
-    "errors behind a beat": f"{SETUP}profile tilelink\n{PUT}\nerrors any -> fault at word 1",
+    "errors in any way, where no profile is named": f"{SETUP}errors any -> fault at word 2: this word may not stand here",
+    "errors in any way, by the profile of this bridge": f"{SETUP}profile bridge\nerrors any -> fault at word 2: this word may not stand here",
+    "errors in any way, before the profile": f"{SETUP}errors any -> fault at word 2: this word may not stand here\nprofile tilelink",
+    "errors in any way without a profile, and a word too many": f"{SETUP}errors any any -> fault at word 2: this word may not stand here",
+    "errors in any way, and a word too many": f"{SETUP}profile tilelink\nerrors any any -> fault at word 3: a word too many",
+    "errors in any way a second time": f"{ANY}\nerrors any -> {MISPLACED}",
+    "errors in any way, and as they are told here": f"{ANY}\nerrors strict -> {MISPLACED}",
+    "errors a second time, and in a way that isn't there": f"{SETUP}errors strict\nerrors each -> {MISPLACED}",
+    "errors a second time, and in any way": f"{SETUP}errors strict\nprofile tilelink\nerrors any -> {MISPLACED}",
+    "errors strict, and a word too many": f"{CONFIG}\nerrors strict any -> fault at word 3: a word too many",
+    "errors without a word": f"{CONFIG}\nerrors -> fault at word 2: a word is missing",
+    "errors in a way that isn't there": f"{CONFIG}\nprofile tilelink\nerrors all -> fault at word 2: this word may not stand here",
+    "errors in capitals": f"{CONFIG}\nprofile tilelink\nerrors Any -> fault at word 2: this word may not stand here",
+    "errors before the config line": f"errors strict -> {MISPLACED}\n{CONFIG}",
+    "errors behind a beat": f"{SETUP}profile tilelink\n{PUT}\nerrors any -> {MISPLACED}",
 }
 
 

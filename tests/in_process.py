@@ -85,11 +85,16 @@ def observations(tlscore):
         yield name, given, wanted
 
 
+def without_reason(status, text, line):
+    """The same end of a call of the library, which names the place of a fault alone."""
+    return status, text, re.sub(rb"^(script fault: line \d+, word \d+): .*", rb"\1", line)
+
+
 def told_alike(program, tlscore):
     """Each observation that is kept, by lines and by numbers."""
     for name, given, wanted in observations(tlscore):
         for way in WAYS:
-            yield f"{name}, by {way}", started([program, way], given).wrong(*REFUSED_FIRST.get(name, wanted))
+            yield f"{name}, by {way}", started([program, way], given).wrong(*without_reason(*REFUSED_FIRST.get(name, wanted)))
 
 
 def by_lot(program, tlscore, rng, beats):
@@ -143,7 +148,7 @@ def watched_rows(folder, library):
     yield silent("wrong calls under AddressSanitizer", calls)
     program = compiled("watched", TOP / "tests/in_process.c", *WATCHED, str(C / "zuldegei.c"), folder=folder, library=library)
     for name, given, wanted in stored_rows():
-        yield f"{name}, under AddressSanitizer", started([program, "numbers"], given).wrong(*wanted)
+        yield f"{name}, under AddressSanitizer", started([program, "numbers"], given).wrong(*without_reason(*wanted))
 
 
 def ends(folder, library):

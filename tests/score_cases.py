@@ -12,9 +12,11 @@ from pathlib import Path
 import beginnings
 import compared
 import error_histories
+import score_faults
 import script_cases
 import unknown_histories
 from ends import started, told
+from score_faults import MISPLACED
 
 TOP = Path(__file__).resolve().parent.parent
 BEATS = {"A", "D", "AW", "W", "B", "AR", "R"}
@@ -717,8 +719,8 @@ INPUTS = {
         f"{ids} IDs of depth {depth}": f"config 1 1 {ids} {depth} 16 12 h\nmem 0 -> set-up fault: BadConfig 0"
         for ids, depth in ((0, 1), (1, 0), (257, 1), (1, 257), (241, 17), (256, 256), (65535, 65535))
     },
-    "65,536 IDs": "config 1 1 65536 1 16 12 h -> fault at word 4",
-    "a depth of 65,536": "config 1 1 1 65536 16 12 h -> fault at word 5",
+    "65,536 IDs": "config 1 1 65536 1 16 12 h -> fault at word 4: a number out of range",
+    "a depth of 65,536": "config 1 1 1 65536 16 12 h -> fault at word 5: a number out of range",
     "bursts anywhere, where no line asks for their places": f"""{SETUP}
         AW 0 14000 0 3 1
         AR 3 fff8 0 3 1
@@ -764,7 +766,7 @@ INPUTS = {
     },
     "lines of pages, and one too many": f"""{CONFIG}
         {lines("page 10 1 good", 1024)}
-        page 10 1 good -> fault at word 1
+        page 10 1 good -> {MISPLACED}
         """,
     "pages of two kinds between each other": f"""{CONFIG}
         region 0 1024 1000 gpah
@@ -783,28 +785,28 @@ INPUTS = {
         mem 0 -> set-up fault: PageTwice 512
         """,
     "pages past the last": f"{CONFIG}\npage 10 300 good\npage ffffe 3 slverr\nmem 0 -> set-up fault: PageRange 302",
-    "pages past the last number": f"{CONFIG}\npage ffffffff 2 good -> fault at word 1",
-    "a line of no page": f"{CONFIG}\npage 10 0 good -> fault at word 3",
-    "a line of more pages than there are": f"{CONFIG}\npage 0 1048577 good -> fault at word 3",
-    "a reset behind the end": f"{SETUP}\n= end\n= reset -> fault at word 1",
-    "a reset behind the set-up, and a fill behind it": f"{SETUP}\n= reset\nfill 10000 0 -> fault at word 1",
-    "a reset among set-up lines is the first line behind them": f"{SETUP}\n= reset\nprofile bridge -> fault at word 1",
-    "places before the config line": f"axi strict -> fault at word 1\n{CONFIG}",
-    "places a second time": f"{SETUP}\naxi strict\naxi strict -> fault at word 1",
-    "places behind a beat": f"{SETUP}\n{PUT}\naxi strict -> fault at word 1",
-    "places without a word": f"{CONFIG}\naxi -> fault at word 2",
-    "places that aren't strict": f"{CONFIG}\naxi any -> fault at word 2",
-    "places, and a word too many": f"{CONFIG}\naxi strict tilelink -> fault at word 3",
-    "a profile before the config line": f"profile tilelink -> fault at word 1\n{CONFIG}",
-    "a profile that isn't there, before the config line": "profile axi -> fault at word 1",
-    "a second profile": f"{SETUP}\nprofile bridge\nprofile bridge -> fault at word 1",
-    "a second profile that isn't there": f"{CONFIG}\nprofile tilelink\nprofile axi -> fault at word 1",
-    "a profile behind a beat": f"{SETUP}\n{PUT}\nprofile tilelink -> fault at word 1",
-    "a profile behind a question": f"{SETUP}\nmem 10000 -> = mem 00\nprofile tilelink -> fault at word 1",
-    "a profile without a name": f"{CONFIG}\nprofile -> fault at word 2",
-    "a profile in capitals": f"{CONFIG}\nprofile TileLink -> fault at word 2",
-    "a profile that isn't there, and a word too many": f"{CONFIG}\nprofile axi bridge -> fault at word 2",
-    "a profile, and a word too many": f"{CONFIG}\nprofile tilelink bridge -> fault at word 3",
+    "pages past the last number": f"{CONFIG}\npage ffffffff 2 good -> {MISPLACED}",
+    "a line of no page": f"{CONFIG}\npage 10 0 good -> fault at word 3: a number out of range",
+    "a line of more pages than there are": f"{CONFIG}\npage 0 1048577 good -> fault at word 3: a number out of range",
+    "a reset behind the end": f"{SETUP}\n= end\n= reset -> {MISPLACED}",
+    "a reset behind the set-up, and a fill behind it": f"{SETUP}\n= reset\nfill 10000 0 -> {MISPLACED}",
+    "a reset among set-up lines is the first line behind them": f"{SETUP}\n= reset\nprofile bridge -> {MISPLACED}",
+    "places before the config line": f"axi strict -> {MISPLACED}\n{CONFIG}",
+    "places a second time": f"{SETUP}\naxi strict\naxi strict -> {MISPLACED}",
+    "places behind a beat": f"{SETUP}\n{PUT}\naxi strict -> {MISPLACED}",
+    "places without a word": f"{CONFIG}\naxi -> fault at word 2: a word is missing",
+    "places that aren't strict": f"{CONFIG}\naxi any -> fault at word 2: this word may not stand here",
+    "places, and a word too many": f"{CONFIG}\naxi strict tilelink -> fault at word 3: a word too many",
+    "a profile before the config line": f"profile tilelink -> {MISPLACED}\n{CONFIG}",
+    "a profile that isn't there, before the config line": f"profile axi -> {MISPLACED}",
+    "a second profile": f"{SETUP}\nprofile bridge\nprofile bridge -> {MISPLACED}",
+    "a second profile that isn't there": f"{CONFIG}\nprofile tilelink\nprofile axi -> {MISPLACED}",
+    "a profile behind a beat": f"{SETUP}\n{PUT}\nprofile tilelink -> {MISPLACED}",
+    "a profile behind a question": f"{SETUP}\nmem 10000 -> = mem 00\nprofile tilelink -> {MISPLACED}",
+    "a profile without a name": f"{CONFIG}\nprofile -> fault at word 2: a word is missing",
+    "a profile in capitals": f"{CONFIG}\nprofile TileLink -> fault at word 2: this word may not stand here",
+    "a profile that isn't there, and a word too many": f"{CONFIG}\nprofile axi bridge -> fault at word 2: this word may not stand here",
+    "a profile, and a word too many": f"{CONFIG}\nprofile tilelink bridge -> fault at word 3: a word too many",
 }
 
 
@@ -858,7 +860,7 @@ def all_cases():
 
 
 def cases(program: str):
-    for name, given, *wanted in all_cases():
+    for name, given, *wanted in (*all_cases(), *score_faults.cases()):
         yield f"tlscore: {name}", started([program], given).wrong(*wanted)
 
 

@@ -2,6 +2,7 @@
 score_cases.py.
 """
 
+from score_faults import MISPLACED
 from script_cases import SETUP as LINES
 
 SETUP = LINES.rstrip()
@@ -157,33 +158,33 @@ HISTORIES = {
         -> outstanding 0 open 1
         """,
     "x data straight behind the config line": f"{CONFIG}\nx data\nregion 0 4 10 gpah\n= end\n-> outstanding 0 open 0",
-    "x data before the config line": f"x data -> fault at word 1\n{CONFIG}",
-    "x data a second time": f"{SETUP}\nx data\nprofile bridge\nx data -> fault at word 1",
-    "x data behind a beat": f"{SETUP}\nA 0 4 0 3 5 8 ff 0 0\nx data -> fault at word 1",
-    "x data behind a fill": f"{SETUP}\nfill 10000 0\nx data -> fault at word 1",
-    "x without a word": f"{CONFIG}\nx -> fault at word 2",
-    "x of something else": f"{CONFIG}\nx fields -> fault at word 2",
-    "x data, and a word too many": f"{CONFIG}\nx data fields -> fault at word 3",
-    "X in a capital": f"{CONFIG}\nX data -> fault at word 1",
+    "x data before the config line": f"x data -> {MISPLACED}\n{CONFIG}",
+    "x data a second time": f"{SETUP}\nx data\nprofile bridge\nx data -> {MISPLACED}",
+    "x data behind a beat": f"{SETUP}\nA 0 4 0 3 5 8 ff 0 0\nx data -> {MISPLACED}",
+    "x data behind a fill": f"{SETUP}\nfill 10000 0\nx data -> {MISPLACED}",
+    "x without a word": f"{CONFIG}\nx -> fault at word 2: a word is missing",
+    "x of something else": f"{CONFIG}\nx fields -> fault at word 2: this word may not stand here",
+    "x data, and a word too many": f"{CONFIG}\nx data fields -> fault at word 3: a word too many",
+    "X in a capital": f"{CONFIG}\nX data -> fault at word 1: no line begins with this word",
     **{
-        f"{name} is at fault": f"{SETUP}\n{line} -> fault at word {word}"
-        for name, line, word in (
-            ("a client on channel A that nobody knows", "A x 4 0 3 5 8 ff 0 0", 2),
-            ("a client on channel D that nobody knows", "D Z 1 0 3 5 0 0 0", 2),
-            ("a client that nobody knows, with other fields", "A x x x x x x x x x", 2),
-            ("a field that nobody knows, and a client past the last", "A 256 x 0 3 5 8 ff 0 0", 2),
-            ("a field that nobody knows, and one that is none", "A 0 x 0 3 5 8 ff 0 2", 10),
-            ("a field that nobody knows, and a word too many", "A 0 x 0 3 5 8 ff 0 0 0", 11),
-            ("a field that nobody knows, and one that lacks", "D 0 x 0 3 5 0 0", 9),
-            ("a field of 21 digits that nobody knows", "B xxxxxxxxxxxxxxxxxxxxx OKAY", 2),
-            ("a response with a letter x", "B 0 OKAx", 3),
-            ("a letter beside an x", "AW 0 1x0g0 0 3 1", 3),
-            ("a payload with an x and a letter", "W xg ff 1", 2),
-            ("a minus before an x", "AR -x 0 0 3 1", 2),
-            ("a byte of a question that nobody knows", "mem 1000x", 2),
-            ("a time that nobody knows", "time x", 2),
-            ("a byte to fill that nobody knows", "fill 10000 xx", 3),
+        f"{name} is at fault": f"{SETUP}\n{line} -> fault at word {word}: {reason}"
+        for name, line, word, reason in (
+            ("a client on channel A that nobody knows", "A x 4 0 3 5 8 ff 0 0", 2, "this is no decimal number"),
+            ("a client on channel D that nobody knows", "D Z 1 0 3 5 0 0 0", 2, "this is no decimal number"),
+            ("a client that nobody knows, with other fields", "A x x x x x x x x x", 2, "this is no decimal number"),
+            ("a field that nobody knows, and a client past the last", "A 256 x 0 3 5 8 ff 0 0", 2, "a number out of range"),
+            ("a field that nobody knows, and one that is none", "A 0 x 0 3 5 8 ff 0 2", 10, "this is neither 0 nor 1"),
+            ("a field that nobody knows, and a word too many", "A 0 x 0 3 5 8 ff 0 0 0", 11, "a word too many"),
+            ("a field that nobody knows, and one that lacks", "D 0 x 0 3 5 0 0", 9, "a word is missing"),
+            ("a field of 21 digits that nobody knows", "B xxxxxxxxxxxxxxxxxxxxx OKAY", 2, "this is no decimal number"),
+            ("a response with a letter x", "B 0 OKAx", 3, "this word may not stand here"),
+            ("a letter beside an x", "AW 0 1x0g0 0 3 1", 3, "this is no hexadecimal number"),
+            ("a payload with an x and a letter", "W xg ff 1", 2, "this is no hexadecimal number"),
+            ("a minus before an x", "AR -x 0 0 3 1", 2, "this is no decimal number"),
+            ("a byte of a question that nobody knows", "mem 1000x", 2, "this is no hexadecimal number"),
+            ("a time that nobody knows", "time x", 2, "this is no decimal number"),
+            ("a byte to fill that nobody knows", "fill 10000 xx", 3, "this is no hexadecimal number"),
         )
     },
-    "a beat that nobody knows, behind the end": f"{SETUP}\n= end\nB x OKAY -> fault at word 1",
+    "a beat that nobody knows, behind the end": f"{SETUP}\n= end\nB x OKAY -> {MISPLACED}",
 }

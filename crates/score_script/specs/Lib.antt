@@ -1,4 +1,5 @@
 pub mod CommandTexts
+pub mod FaultReasons
 pub mod FillLines
 pub mod FindingTexts
 pub mod Observations

@@ -1,6 +1,7 @@
 //! An observation, as it is read.
 ghost use Rattle.std.specs.Prelude.{true};
 ghost use Rattle.script_text.specs.Scripts.{EndsOrStops};
+ghost use Rattle.script_text.specs.Stops.{EndsHolding};
 ghost use Rattle.score_script.specs.Scores.{opening_state, score_reading};
 
 use crate::lines::{command_of, known_beat, only_settles};
@@ -8,7 +9,9 @@ use crate::profiles::Asked;
 use crate::score::{Command, Score, wrong_at_first};
 use line_text::Words;
 use score_setup::{ScoreSetup, score_setup_fault};
-use script_text::{Form, Kind, ScriptFault, ScriptSetup, StagedScript, read_script};
+use script_text::{
+    Form, Kind, ScriptFault, ScriptSetup, StagedScript, StoppedLine, read_script, read_script_with,
+};
 use setups::SetupFault;
 use std::alloc::Global;
 use std::io::{Read, Write};
@@ -158,4 +161,17 @@ pub fn score_text<R: Read, W: Write>(
 {
     let script = StagedScript::new(ScoreScript);
     read_script(script, alloc, reader, writer)
+}
+
+/// The same. At a fault of the text it also holds the line at which it stopped, or none where the input's end has the fault.
+pub fn score_text_with<R: Read, W: Write>(
+    alloc: Global,
+    reader: &mut R,
+    writer: &mut W,
+    stopped: &mut StoppedLine,
+) -> Result<bool, ScriptFault>
+    ensures { EndsHolding true score_reading opening_state stopped.new (R.remaining reader.old) (R.remaining reader.new) (W.contents writer.old) (W.contents writer.new) result }
+{
+    let script = StagedScript::new(ScoreScript);
+    read_script_with(script, alloc, reader, writer, stopped)
 }

@@ -1,5 +1,5 @@
 -- How a call ends that reads a script.
-use Rattle.std.proofs.Common.{◌≡◌, ◌≢◌, ◌<◌, ◌≤◌, ◌⊎◌, inl, inr, ℕ, ◌+◌, ◌*◌, List, [], ◌∷◌, ◌++◌, length, length-append, Bool, true, false, ◌||◌, Option, None, Some, Result, Ok, Err, IsOk, refl, sym, ap, ◌∙◌, append_assoc, append-nil, arith}
+use Rattle.std.proofs.Common.{◌≡◌, ◌≢◌, ◌<◌, ◌≤◌, ◌⊎◌, inl, inr, ℕ, ◌+◌, ◌*◌, List, [], ◌∷◌, ◌++◌, length, length-append, Bool, true, false, ◌||◌, Option, None, Some, Result, Ok, Err, IsOk, refl, sym, ap, subst, ◌∙◌, append_assoc, append-nil, arith}
 use Rattle.std.proofs.KnownBytes.{Appends-nil, Appends-trans, Appends-kept, Consumes-trans, Keeps-trans}
 use Rattle.std.proofs.lemmas.Bool.{and_from, and_parts}
 use Rattle.std.specs.Prelude.{◌&&◌}
@@ -10,9 +10,11 @@ use Rattle.script_text.proofs.Progress.{LastText, Progress, failed_within, grown
 use Rattle.script_text.proofs.ScriptLines.{ended_lines_of-line, lines_of-line, lines_of-last, begins, begins-not_plain, lines_of-some}
 use Rattle.line_text.proofs.TraceTexts.{some_after, some_before}
 use Rattle.script_text.specs.Reads.{BlockState, IsSmall, Stops, Takes, TakesByte, left}
-use Rattle.script_text.specs.Scripts.{Reading, TextResult, asks_at_end, asks_last, end_wants, last_wants, line_wants, rest_wants, where_it_stands, AreCarriedOut, EndsAs, EndsOrStops, HasText, IsAllJudged, IsFront, IsSettled, LineStep, StopsForMemory, Tells, after_text, ended, line_step, lines_result, text_failing_from, text_from, text_of, text_before_failure}
+use Rattle.script_text.specs.Scripts.{Reading, TextResult, asks_at_end, asks_last, end_wants, last_wants, line_wants, rest_wants, where_it_stands, AreCarriedOut, EndsAs, HasText, IsAllJudged, IsFront, IsSettled, LineStep, StopsForMemory, Tells, after_text, ended, line_step, lines_result, text_failing_from, text_from, text_of, text_before_failure}
+use Rattle.script_text.specs.Stops.{EndsHolding, HoldsFaultLine, StopsAt, StopsWithin, held_of}
+use Rattle.script_text.proofs.Stopping.{StopsAt-behind, StopsAt-line, StopsWithin-end, long-held}
 use Rattle.script_text.specs.Steps.{GivesText, Goes, Speaks, Stands, TakesStep, TakesRest}
-use Rattle.line_text.specs.Words.{lines_of}
+use Rattle.line_text.specs.Words.{is_plain_line, lines_of}
 use Rattle.script_text.specs.declared.faults.ScriptFault.{ScriptFault}
 use Rattle.script_text.specs.declared.faults.ScriptFault.TheVariants.{Script, Setup, Read, Write, NoMemory}
 
@@ -157,12 +159,19 @@ or_true false b is = inr is
 
 -- ---- the whole call
 
-abbrev pub Ends : {S A : Type 0} → Reading S A → S → Option (List ℕ) → Option (List ℕ) → Option (List ℕ) → Option (List ℕ) → Result A ScriptFault → Type 0
-Ends reading start input rest old new result = EndsAs reading.most_lines (text_of reading start) (text_before_failure reading start) input rest old new result
+abbrev pub Ends : {S A : Type 0} → Reading S A → S → List ℕ → Option (List ℕ) → Option (List ℕ) → Option (List ℕ) → Option (List ℕ) → Result A ScriptFault → Type 0
+Ends reading start held input rest old new result =
+    (ends : EndsAs reading.most_lines (text_of reading start) (text_before_failure reading start) input rest old new result) × HoldsFaultLine reading start ends.judged held result
 
 -- or in mid-run, where the script grows
-abbrev pub EndsOr : {S A : Type 0} → Reading S A → Bool → S → Option (List ℕ) → Option (List ℕ) → Option (List ℕ) → Option (List ℕ) → Result A ScriptFault → Type 0
-EndsOr reading grows start input rest old new result = EndsOrStops grows reading start input rest old new result
+abbrev pub EndsOr : {S A : Type 0} → Reading S A → Bool → S → List ℕ → Option (List ℕ) → Option (List ℕ) → Option (List ℕ) → Option (List ℕ) → Result A ScriptFault → Type 0
+EndsOr reading grows start held input rest old new result = EndsHolding grows reading start held input rest old new result
+
+-- at which line a script stops, behind the lines so far
+stopped_behind : {S A : Type 0} (reading : Reading S A) (is_silent : S → Bool) (start state : S) (number : ℕ) (block : BlockState) (input rest old new : Option (List ℕ)) (more held : List ℕ) (fault : ScriptFault)
+    → (so_far : Progress reading is_silent start state number block input rest old new) → StopsAt reading state number (lines_of more) held fault → StopsAt reading start 1 (lines_of (so_far.read ++ more)) held fault
+stopped_behind reading is_silent start state number block input rest old new more held fault so_far stops =
+    StopsAt-behind reading start state number 1 so_far.before (lines_of more) (lines_of (so_far.read ++ more)) held fault so_far.went so_far.counted (so_far.lines more) stops
 
 -- which is nothing while the script is silent
 silent_within : {S A : Type 0} (reading : Reading S A) (is_silent : S → Bool) (start state : S) (number : ℕ) (block : BlockState) (input rest old new : Option (List ℕ)) (line : List ℕ)
@@ -191,10 +200,10 @@ written_till : {S A : Type 0} (reading : Reading S A) (is_silent : S → Bool) (
 written_till reading is_silent start state number block input rest old new flushed so_far kept = Appends-kept old new flushed so_far.text so_far.written kept
 
 -- to the input's end
-pub Ends-rest : {S A : Type 0} (reading : Reading S A) (grows : Bool) (is_silent : S → Bool) (start state : S) (number : ℕ) (block later : BlockState) (input rest after old new flushed newer : Option (List ℕ)) (line : List ℕ) (result : Result A ScriptFault)
+pub Ends-rest : {S A : Type 0} (reading : Reading S A) (grows : Bool) (is_silent : S → Bool) (start state : S) (number : ℕ) (block later : BlockState) (input rest after old new flushed newer : Option (List ℕ)) (line held : List ℕ) (result : Result A ScriptFault)
     → Progress reading is_silent start state number block input rest old new → 130 * number + length line ≤ 130 * reading.most_lines + 131 → Lacks 10 line → Takes block later rest after line → later.ahead ≡ [] → IsAtEnd after
-    → Keeps new flushed → LastRest reading grows is_silent state number line flushed newer result → EndsOr reading grows start input after old newer result
-Ends-rest {A = A} reading grows is_silent start state number block later input rest after old new flushed newer line result so_far within lacks taken none at_end flushes takes = by_result result takes
+    → Keeps new flushed → LastRest reading grows is_silent state number line flushed newer result → StopsWithin reading state number (lines_of line) held result → EndsOr reading grows start held input after old newer result
+Ends-rest {A = A} reading grows is_silent start state number block later input rest after old new flushed newer line held result so_far within lacks taken none at_end flushes takes held_at = by_result result takes held_at
   where
     read : List ℕ
     read = so_far.read ++ line
@@ -240,41 +249,45 @@ Ends-rest {A = A} reading grows is_silent start state number block later input r
           cause = cause wants;
         }
 
-    by_result : (r : Result A ScriptFault) → LastRest reading grows is_silent state number line flushed newer r → EndsOr reading grows start input after old newer r
-    by_result (Ok answer) told = inl (record { judged = read; ahead = []; consumed = all; bound = bound; block = omega arith; ends = (whole_input, tells (Ok answer) told) })
-    by_result (Err (Script l word)) told = inl (record { judged = read; ahead = []; consumed = all; bound = bound; block = omega arith; ends = (inl whole_input, tells (Err (Script l word)) told) })
-    by_result (Err (Setup fault)) told = inl (record { judged = read; ahead = []; consumed = all; bound = bound; block = omega arith; ends = (inl whole_input, tells (Err (Setup fault)) told) })
-    by_result (Err Read) told = absurd told
-    by_result (Err Write) (ok, some) =
-        inl
-        (record {
-          judged = read;
-          ahead = [];
-          consumed = all;
-          bound = bound;
-          block = omega arith;
-          ends = (
-            ok_after _ _ so_far.text (so_far.whole line) ok,
-            (read, inr (refl, whole_input), grown_after _ _ _ so_far.text Read (failed_within reading is_silent start state number block input rest old new line so_far lacks) (so_far.whole line) some),
-          );
-        })
-    by_result (Err NoMemory) (ok, inl (quiet, kept)) =
-        inl
-        (record {
-          judged = read;
-          ahead = [];
-          consumed = all;
-          bound = bound;
-          block = omega arith;
-          ends = (
-            Keeps-trans old flushed newer (Keeps-none old flushed (rw (so_far.silent quiet) at written)) kept,
-            inr (
+    by_result : (r : Result A ScriptFault) → LastRest reading grows is_silent state number line flushed newer r → StopsWithin reading state number (lines_of line) held r → EndsOr reading grows start held input after old newer r
+    by_result (Ok answer) told at = inl (record { judged = read; ahead = []; consumed = all; bound = bound; block = omega arith; ends = (whole_input, tells (Ok answer) told) }, tt)
+    by_result (Err (Script l word)) told at = inl (record { judged = read; ahead = []; consumed = all; bound = bound; block = omega arith; ends = (inl whole_input, tells (Err (Script l word)) told) }, λ few. stopped_behind reading is_silent start state number block input rest old new line held (Script l word) so_far at)
+    by_result (Err (Setup fault)) told at = inl (record { judged = read; ahead = []; consumed = all; bound = bound; block = omega arith; ends = (inl whole_input, tells (Err (Setup fault)) told) }, tt)
+    by_result (Err Read) told at = absurd told
+    by_result (Err Write) (ok, some) at =
+        inl (
+          record {
+            judged = read;
+            ahead = [];
+            consumed = all;
+            bound = bound;
+            block = omega arith;
+            ends = (
               ok_after _ _ so_far.text (so_far.whole line) ok,
-              (read, inr (refl, whole_input), silent_within reading is_silent start state number block input rest old new line so_far lacks quiet, inr whole_input),
-            ),
-          );
-        })
-    by_result (Err NoMemory) (ok, inr (may, inl kept)) =
+              (read, inr (refl, whole_input), grown_after _ _ _ so_far.text Read (failed_within reading is_silent start state number block input rest old new line so_far lacks) (so_far.whole line) some),
+            );
+          },
+          tt,
+        )
+    by_result (Err NoMemory) (ok, inl (quiet, kept)) at =
+        inl (
+          record {
+            judged = read;
+            ahead = [];
+            consumed = all;
+            bound = bound;
+            block = omega arith;
+            ends = (
+              Keeps-trans old flushed newer (Keeps-none old flushed (rw (so_far.silent quiet) at written)) kept,
+              inr (
+                ok_after _ _ so_far.text (so_far.whole line) ok,
+                (read, inr (refl, whole_input), silent_within reading is_silent start state number block input rest old new line so_far lacks quiet, inr whole_input),
+              ),
+            );
+          },
+          tt,
+        )
+    by_result (Err NoMemory) (ok, inr (may, inl kept)) at =
         inr (
           (and_parts grows (rest_wants reading state number line) may).0,
           refl,
@@ -282,7 +295,7 @@ Ends-rest {A = A} reading grows is_silent start state number block later input r
               (ap (λ (told : TextResult A). told.output) (failed_within reading is_silent start state number block input rest old new line so_far lacks))
               (Appends-none flushed newer kept),
         )
-    by_result (Err NoMemory) (ok, inr (may, inr appended)) =
+    by_result (Err NoMemory) (ok, inr (may, inr appended)) at =
         inr (
           (and_parts grows (rest_wants reading state number line) may).0,
           refl,
@@ -304,11 +317,11 @@ settled reading start state number ahead rest old new newer read text tail fault
     )
 
 -- at a fault of a line
-pub Ends-fault : {S A : Type 0} (reading : Reading S A) (grows : Bool) (is_silent : S → Bool) (start state next : S) (number : ℕ) (block later : BlockState) (input rest after old new flushed newer : Option (List ℕ)) (line : List ℕ) (fault : ScriptFault)
+pub Ends-fault : {S A : Type 0} (reading : Reading S A) (grows : Bool) (is_silent : S → Bool) (start state next : S) (number : ℕ) (block later : BlockState) (input rest after old new flushed newer : Option (List ℕ)) (line held : List ℕ) (fault : ScriptFault)
     → Progress reading is_silent start state number block input rest old new → number ≤ reading.most_lines → Lacks 10 line → length line ≤ 129 → Takes block later rest after (line ++ 10 ∷ []) → IsSmall later → Keeps new flushed
-    → TakesStep reading (grows && line_wants reading state (strip_carriage_return line)) (line_step reading state number (strip_carriage_return line)) is_silent state next flushed newer (Err fault)
-    → EndsOr reading grows start input after old newer (Err fault)
-Ends-fault {S} reading grows is_silent start state next number block later input rest after old new flushed newer line fault so_far within lacks short taken few flushes takes = by_fault fault takes
+    → TakesStep reading (grows && line_wants reading state (strip_carriage_return line)) (line_step reading state number (strip_carriage_return line)) is_silent state next flushed newer (Err fault) → held ≡ held_of (strip_carriage_return line)
+    → EndsOr reading grows start held input after old newer (Err fault)
+Ends-fault {S} reading grows is_silent start state next number block later input rest after old new flushed newer line held fault so_far within lacks short taken few flushes takes is_held = by_fault fault takes
   where
     tail : List ℕ
     tail = line ++ 10 ∷ []
@@ -341,44 +354,55 @@ Ends-fault {S} reading grows is_silent start state next number block later input
         so_far.asks tail ∙ ap (last_wants reading so_far.wanted state number) (lines_of-line line [] lacks)
         ∙ ap (where_it_stands (λ later_state. line_wants reading state (strip_carriage_return line))) went ∙ may
 
-    by_fault : (f : ScriptFault) → TakesStep reading (grows && line_wants reading state (strip_carriage_return line)) (line_step reading state number (strip_carriage_return line)) is_silent state next flushed newer (Err f) → EndsOr reading grows start input after old newer (Err f)
+    -- it is the only line behind those before it
+    at_line : (f : ScriptFault) → line_step reading state number (strip_carriage_return line) ≡ Err f → StopsAt reading state number (lines_of tail) held f
+    at_line f stops = subst (λ lines. StopsAt reading state number lines held f) (sym (lines_of-line line [] lacks)) (StopsAt-line reading state number (strip_carriage_return line) held f is_held stops)
+
+    by_fault : (f : ScriptFault) → TakesStep reading (grows && line_wants reading state (strip_carriage_return line)) (line_step reading state number (strip_carriage_return line)) is_silent state next flushed newer (Err f) → EndsOr reading grows start held input after old newer (Err f)
     by_fault (Script l word) (stops, kept) =
-        inl
-        (record {
-          judged = so_far.read ++ tail;
-          ahead = later.ahead;
-          consumed = all;
-          bound = bound;
-          block = small later few;
-          ends = settled reading start state number later.ahead after old flushed newer so_far.read so_far.text tail _ so_far.whole (told _ stops) written kept;
-        })
+        inl (
+          record {
+            judged = so_far.read ++ tail;
+            ahead = later.ahead;
+            consumed = all;
+            bound = bound;
+            block = small later few;
+            ends = settled reading start state number later.ahead after old flushed newer so_far.read so_far.text tail _ so_far.whole (told _ stops) written kept;
+          },
+          λ within_most. stopped_behind reading is_silent start state number block input rest old new tail held (Script l word) so_far (at_line (Script l word) stops),
+        )
     by_fault (Setup f) (stops, kept) =
-        inl
-        (record {
-          judged = so_far.read ++ tail;
-          ahead = later.ahead;
-          consumed = all;
-          bound = bound;
-          block = small later few;
-          ends = settled reading start state number later.ahead after old flushed newer so_far.read so_far.text tail _ so_far.whole (told _ stops) written kept;
-        })
+        inl (
+          record {
+            judged = so_far.read ++ tail;
+            ahead = later.ahead;
+            consumed = all;
+            bound = bound;
+            block = small later few;
+            ends = settled reading start state number later.ahead after old flushed newer so_far.read so_far.text tail _ so_far.whole (told _ stops) written kept;
+          },
+          tt,
+        )
     by_fault Read stops = absurd stops
     by_fault Write speaks =
-        let well = speaks_well reading _ speaks (number + 1) _ (after_line speaks.0.text speaks.0.next speaks.0.step_is) in inl (record {
-          judged = so_far.read ++ tail;
-          ahead = later.ahead;
-          consumed = all;
-          bound = bound;
-          block = small later few;
-          ends = (
-            ok_after _ _ so_far.text (so_far.whole tail) well.0,
-            (
-              so_far.read ++ line,
-              front,
-              grown_after _ _ _ so_far.text Read (failed_within reading is_silent start state number block input rest old new line so_far lacks) (so_far.whole tail) well.1,
-            ),
-          );
-        })
+        let well = speaks_well reading _ speaks (number + 1) _ (after_line speaks.0.text speaks.0.next speaks.0.step_is) in inl (
+          record {
+            judged = so_far.read ++ tail;
+            ahead = later.ahead;
+            consumed = all;
+            bound = bound;
+            block = small later few;
+            ends = (
+              ok_after _ _ so_far.text (so_far.whole tail) well.0,
+              (
+                so_far.read ++ line,
+                front,
+                grown_after _ _ _ so_far.text Read (failed_within reading is_silent start state number block input rest old new line so_far lacks) (so_far.whole tail) well.1,
+              ),
+            );
+          },
+          tt,
+        )
     by_fault NoMemory (inr (may, stands), kept) =
         let parts = and_parts grows (line_wants reading state (strip_carriage_return line)) may in inr (
           parts.0,
@@ -397,39 +421,44 @@ Ends-fault {S} reading grows is_silent start state next number block later input
           },
         )
     by_fault NoMemory (inl (quiet, gives), kept) =
-        let well = gives_well reading _ gives (number + 1) _ (after_line gives.0.text gives.0.next gives.0.step_is) in inl (record {
-          judged = so_far.read ++ tail;
-          ahead = later.ahead;
-          consumed = all;
-          bound = bound;
-          block = small later few;
-          ends = (
-            Keeps-trans old flushed newer (Keeps-none old flushed (rw (so_far.silent quiet) at written)) kept,
-            inr (
-              ok_after _ _ so_far.text (so_far.whole tail) well.0,
-              (
-                so_far.read ++ line,
-                front,
-                silent_within reading is_silent start state number block input rest old new line so_far lacks quiet,
-                inl (text_after _ _ so_far.text (so_far.whole tail) well.1),
+        let well = gives_well reading _ gives (number + 1) _ (after_line gives.0.text gives.0.next gives.0.step_is) in inl (
+          record {
+            judged = so_far.read ++ tail;
+            ahead = later.ahead;
+            consumed = all;
+            bound = bound;
+            block = small later few;
+            ends = (
+              Keeps-trans old flushed newer (Keeps-none old flushed (rw (so_far.silent quiet) at written)) kept,
+              inr (
+                ok_after _ _ so_far.text (so_far.whole tail) well.0,
+                (
+                  so_far.read ++ line,
+                  front,
+                  silent_within reading is_silent start state number block input rest old new line so_far lacks quiet,
+                  inl (text_after _ _ so_far.text (so_far.whole tail) well.1),
+                ),
               ),
-            ),
-          );
-        })
+            );
+          },
+          tt,
+        )
 
 -- at a line that is too long
-pub Ends-long : {S A : Type 0} (reading : Reading S A) (is_silent : S → Bool) (start state : S) (number : ℕ) (block later : BlockState) (input rest after old new flushed : Option (List ℕ)) (line : List ℕ) (byte : ℕ)
-    → Progress reading is_silent start state number block input rest old new → number ≤ reading.most_lines → Lacks 10 line → byte ≢ 10 → length line ≡ 129 → Takes block later rest after (line ++ byte ∷ []) → IsSmall later → Keeps new flushed
-    → Ends reading start input after old flushed (Err (Script number 0))
-Ends-long reading is_silent start state number block later input rest after old new flushed line byte so_far within lacks other full taken few flushes =
-    record {
-      judged = so_far.read ++ tail;
-      ahead = later.ahead;
-      consumed = took reading is_silent start state number block later input rest after old new tail so_far taken;
-      bound = omega (arith, length-append so_far.read tail, size, so_far.bound, within);
-      block = small later few;
-      ends = settled reading start state number later.ahead after old new flushed so_far.read so_far.text tail _ so_far.whole told so_far.written flushes;
-    }
+pub Ends-long : {S A : Type 0} (reading : Reading S A) (is_silent : S → Bool) (start state : S) (number : ℕ) (block later : BlockState) (input rest after old new flushed : Option (List ℕ)) (line held : List ℕ) (byte : ℕ)
+    → Progress reading is_silent start state number block input rest old new → number ≤ reading.most_lines → Lacks 10 line → byte ≢ 10 → length line ≡ 129 → Takes block later rest after (line ++ byte ∷ []) → IsSmall later → Keeps new flushed → held ≡ held_of line
+    → Ends reading start held input after old flushed (Err (Script number 0))
+Ends-long reading is_silent start state number block later input rest after old new flushed line held byte so_far within lacks other full taken few flushes is_held = (
+  record {
+    judged = so_far.read ++ tail;
+    ahead = later.ahead;
+    consumed = took reading is_silent start state number block later input rest after old new tail so_far taken;
+    bound = omega (arith, length-append so_far.read tail, size, so_far.bound, within);
+    block = small later few;
+    ends = settled reading start state number later.ahead after old new flushed so_far.read so_far.text tail _ so_far.whole told so_far.written flushes;
+  },
+  λ within_most. stopped_behind reading is_silent start state number block input rest old new tail held (Script number 0) so_far at_line,
+)
   where
     tail : List ℕ
     tail = line ++ byte ∷ []
@@ -444,19 +473,28 @@ Ends-long reading is_silent start state number block later input rest after old 
         ∙ lines_result-fault reading reading.ending state number (strip_carriage_return (tail ++ first.more)) first.lines _
         (line_step-not_plain reading state number (strip_carriage_return (tail ++ first.more)) (begins-not_plain tail first.more (omega (arith, size))))
 
+    -- it is the only line behind those before it
+    at_line : StopsAt reading state number (lines_of tail) held (Script number 0)
+    at_line =
+        subst (λ lines. StopsAt reading state number lines held (Script number 0)) (sym (lines_of-last tail (Lacks-push 10 line byte lacks other) (omega (arith, size))))
+        (StopsAt-line reading state number (strip_carriage_return tail) held (Script number 0) (is_held ∙ long-held line byte full)
+        (line_step-not_plain reading state number (strip_carriage_return tail) (ap (λ xs. is_plain_line (strip_carriage_return xs)) (sym (append-nil tail)) ∙ begins-not_plain tail [] (omega (arith, size)))))
+
 -- at a line more than a script may have
-pub Ends-late : {S A : Type 0} (reading : Reading S A) (is_silent : S → Bool) (start state : S) (number : ℕ) (block later : BlockState) (input rest after old new flushed : Option (List ℕ)) (byte : ℕ)
+pub Ends-late : {S A : Type 0} (reading : Reading S A) (is_silent : S → Bool) (start state : S) (number : ℕ) (block later : BlockState) (input rest after old new flushed : Option (List ℕ)) (held : List ℕ) (byte : ℕ)
     → Progress reading is_silent start state number block input rest old new → number ≡ reading.most_lines + 1 → Takes block later rest after (byte ∷ []) → IsSmall later → Keeps new flushed
-    → Ends reading start input after old flushed (Err (Script number 0))
-Ends-late reading is_silent start state number block later input rest after old new flushed byte so_far late taken few flushes =
-    record {
-      judged = so_far.read ++ byte ∷ [];
-      ahead = later.ahead;
-      consumed = took reading is_silent start state number block later input rest after old new (byte ∷ []) so_far taken;
-      bound = omega (arith, length-append so_far.read (byte ∷ []), so_far.bound, late);
-      block = small later few;
-      ends = settled reading start state number later.ahead after old new flushed so_far.read so_far.text (byte ∷ []) _ so_far.whole told so_far.written flushes;
-    }
+    → Ends reading start held input after old flushed (Err (Script number 0))
+Ends-late reading is_silent start state number block later input rest after old new flushed held byte so_far late taken few flushes = (
+  record {
+    judged = so_far.read ++ byte ∷ [];
+    ahead = later.ahead;
+    consumed = took reading is_silent start state number block later input rest after old new (byte ∷ []) so_far taken;
+    bound = omega (arith, length-append so_far.read (byte ∷ []), so_far.bound, late);
+    block = small later few;
+    ends = settled reading start state number later.ahead after old new flushed so_far.read so_far.text (byte ∷ []) _ so_far.whole told so_far.written flushes;
+  },
+  λ within_most. absurd (omega (arith, within_most, late)),
+)
   where
     told : (more : List ℕ) → text_from reading state number (byte ∷ more) ≡ ended (Err (Script number 0))
     told more =
@@ -465,36 +503,40 @@ Ends-late reading is_silent start state number block later input rest after old 
         ∙ lines_result-fault reading reading.ending state number (strip_carriage_return first.line) first.lines _ (rw late (line_step-late reading state (strip_carriage_return first.line)))
 
 -- where the reader failed
-pub Ends-read : {S A : Type 0} (reading : Reading S A) (is_silent : S → Bool) (start state : S) (number : ℕ) (block later : BlockState) (input rest after old new flushed : Option (List ℕ)) (line : List ℕ)
+pub Ends-read : {S A : Type 0} (reading : Reading S A) (is_silent : S → Bool) (start state : S) (number : ℕ) (block later : BlockState) (input rest after old new flushed : Option (List ℕ)) (line held : List ℕ)
     → Progress reading is_silent start state number block input rest old new → 130 * number + length line ≤ 130 * reading.most_lines + 131 → Lacks 10 line → Takes block later rest after line → later.ahead ≡ [] → Keeps new flushed
-    → Ends reading start input after old flushed (Err Read)
-Ends-read reading is_silent start state number block later input rest after old new flushed line so_far within lacks taken none flushes =
-    record {
-      judged = so_far.read ++ line;
-      ahead = [];
-      consumed = rw none at (took reading is_silent start state number block later input rest after old new line so_far taken);
-      bound = omega (arith, length-append so_far.read line, so_far.bound, within);
-      block = omega arith;
-      ends = (
-        refl,
-        rw (failed_within reading is_silent start state number block input rest old new line so_far lacks)
-            ((rw (append-nil so_far.text) (written_till reading is_silent start state number block input rest old new flushed so_far flushes), refl)),
-      );
-    }
+    → Ends reading start held input after old flushed (Err Read)
+Ends-read reading is_silent start state number block later input rest after old new flushed line held so_far within lacks taken none flushes = (
+  record {
+    judged = so_far.read ++ line;
+    ahead = [];
+    consumed = rw none at (took reading is_silent start state number block later input rest after old new line so_far taken);
+    bound = omega (arith, length-append so_far.read line, so_far.bound, within);
+    block = omega arith;
+    ends = (
+      refl,
+      rw (failed_within reading is_silent start state number block input rest old new line so_far lacks)
+          ((rw (append-nil so_far.text) (written_till reading is_silent start state number block input rest old new flushed so_far flushes), refl)),
+    );
+  },
+  tt,
+)
 
 -- where a flush failed: before the last line with text stands a front of what was taken
-pub Ends-flush : {S A : Type 0} (reading : Reading S A) (is_silent : S → Bool) (start state : S) (number : ℕ) (block later : BlockState) (input rest after old new flushed : Option (List ℕ)) (line : List ℕ)
+pub Ends-flush : {S A : Type 0} (reading : Reading S A) (is_silent : S → Bool) (start state : S) (number : ℕ) (block later : BlockState) (input rest after old new flushed : Option (List ℕ)) (line held : List ℕ)
     → Progress reading is_silent start state number block input rest old new → number ≤ reading.most_lines + 1 → Takes block later rest after line → later.ahead ≡ [] → later.has_text ≡ true → IsSmall later
-    → Ends reading start input after old flushed (Err Write)
-Ends-flush reading is_silent start state number block later input rest after old new flushed line so_far within taken none text few =
-    record {
-      judged = judged;
-      ahead = last.tail ++ line;
-      consumed = rw joined at (rw (append-nil (so_far.read ++ line)) at (rw none at (took reading is_silent start state number block later input rest after old new line so_far taken)));
-      bound = omega (arith, so_far.bound, within, ap length last.is, length-append judged last.tail);
-      block = omega (arith, length-append last.tail line, last.near, same.1, few);
-      ends = (last.ok, (last.front, inl refl, last.some));
-    }
+    → Ends reading start held input after old flushed (Err Write)
+Ends-flush reading is_silent start state number block later input rest after old new flushed line held so_far within taken none text few = (
+  record {
+    judged = judged;
+    ahead = last.tail ++ line;
+    consumed = rw joined at (rw (append-nil (so_far.read ++ line)) at (rw none at (took reading is_silent start state number block later input rest after old new line so_far taken)));
+    bound = omega (arith, so_far.bound, within, ap length last.is, length-append judged last.tail);
+    block = omega (arith, length-append last.tail line, last.near, same.1, few);
+    ends = (last.ok, (last.front, inl refl, last.some));
+  },
+  tt,
+)
   where
     same : (block.has_text ≡ true) × (later.taken ≡ block.taken + length line)
     same = taken.same_block text
@@ -509,31 +551,31 @@ Ends-flush reading is_silent start state number block later input rest after old
     joined = ap (λ xs. xs ++ line) last.is ∙ append_assoc judged last.tail line
 
 -- where a line wasn't read to its end
-pub Ends-stopped : {S A : Type 0} (reading : Reading S A) (is_silent : S → Bool) (start state : S) (number : ℕ) (block later : BlockState) (input rest after old new flushed : Option (List ℕ)) (line : List ℕ) (fault : ScriptFault)
+pub Ends-stopped : {S A : Type 0} (reading : Reading S A) (is_silent : S → Bool) (start state : S) (number : ℕ) (block later : BlockState) (input rest after old new flushed : Option (List ℕ)) (line held : List ℕ) (fault : ScriptFault)
     → Progress reading is_silent start state number block input rest old new → number ≤ reading.most_lines → Lacks 10 line × (length line ≤ 129) × Stops block later rest after line fault → IsSmall later → Keeps new flushed
-    → Ends reading start input after old flushed (Err fault)
-Ends-stopped reading is_silent start state number block later input rest after old new flushed line (Script l word) so_far within part few flushes = absurd part.2
-Ends-stopped reading is_silent start state number block later input rest after old new flushed line (Setup f) so_far within part few flushes = absurd part.2
-Ends-stopped reading is_silent start state number block later input rest after old new flushed line Read so_far within (lacks, short, (taken, none)) few flushes =
-    Ends-read reading is_silent start state number block later input rest after old new flushed line so_far (omega (arith, within, short)) lacks taken none flushes
-Ends-stopped reading is_silent start state number block later input rest after old new flushed line Write so_far within (lacks, short, (taken, none, text)) few flushes =
-    Ends-flush reading is_silent start state number block later input rest after old new flushed line so_far (omega (arith, within)) taken none text few
-Ends-stopped reading is_silent start state number block later input rest after old new flushed line NoMemory so_far within part few flushes = absurd part.2
+    → Ends reading start held input after old flushed (Err fault)
+Ends-stopped reading is_silent start state number block later input rest after old new flushed line held (Script l word) so_far within part few flushes = absurd part.2
+Ends-stopped reading is_silent start state number block later input rest after old new flushed line held (Setup f) so_far within part few flushes = absurd part.2
+Ends-stopped reading is_silent start state number block later input rest after old new flushed line held Read so_far within (lacks, short, (taken, none)) few flushes =
+    Ends-read reading is_silent start state number block later input rest after old new flushed line held so_far (omega (arith, within, short)) lacks taken none flushes
+Ends-stopped reading is_silent start state number block later input rest after old new flushed line held Write so_far within (lacks, short, (taken, none, text)) few flushes =
+    Ends-flush reading is_silent start state number block later input rest after old new flushed line held so_far (omega (arith, within)) taken none text few
+Ends-stopped reading is_silent start state number block later input rest after old new flushed line held NoMemory so_far within part few flushes = absurd part.2
 
 nothing : Lacks 10 []
 nothing i within = absurd (omega (arith, within))
 
 -- where what follows the last line that may stand wasn't read
-pub Ends-unread : {S A : Type 0} (reading : Reading S A) (is_silent : S → Bool) (start state : S) (number : ℕ) (block later : BlockState) (input rest after old new flushed : Option (List ℕ)) (fault : ScriptFault)
+pub Ends-unread : {S A : Type 0} (reading : Reading S A) (is_silent : S → Bool) (start state : S) (number : ℕ) (block later : BlockState) (input rest after old new flushed : Option (List ℕ)) (held : List ℕ) (fault : ScriptFault)
     → Progress reading is_silent start state number block input rest old new → number ≡ reading.most_lines + 1 → TakesByte block later rest after (Err fault) → IsSmall later → Keeps new flushed
-    → Ends reading start input after old flushed (Err fault)
-Ends-unread reading is_silent start state number block later input rest after old new flushed (Script l word) so_far late part few flushes = absurd part
-Ends-unread reading is_silent start state number block later input rest after old new flushed (Setup f) so_far late part few flushes = absurd part
-Ends-unread reading is_silent start state number block later input rest after old new flushed Read so_far late (taken, none) few flushes =
-    Ends-read reading is_silent start state number block later input rest after old new flushed [] so_far (omega (arith, late)) nothing taken none flushes
-Ends-unread reading is_silent start state number block later input rest after old new flushed Write so_far late (taken, none, text) few flushes =
-    Ends-flush reading is_silent start state number block later input rest after old new flushed [] so_far (omega (arith, late)) taken none text few
-Ends-unread reading is_silent start state number block later input rest after old new flushed NoMemory so_far late part few flushes = absurd part
+    → Ends reading start held input after old flushed (Err fault)
+Ends-unread reading is_silent start state number block later input rest after old new flushed held (Script l word) so_far late part few flushes = absurd part
+Ends-unread reading is_silent start state number block later input rest after old new flushed held (Setup f) so_far late part few flushes = absurd part
+Ends-unread reading is_silent start state number block later input rest after old new flushed held Read so_far late (taken, none) few flushes =
+    Ends-read reading is_silent start state number block later input rest after old new flushed [] held so_far (omega (arith, late)) nothing taken none flushes
+Ends-unread reading is_silent start state number block later input rest after old new flushed held Write so_far late (taken, none, text) few flushes =
+    Ends-flush reading is_silent start state number block later input rest after old new flushed [] held so_far (omega (arith, late)) taken none text few
+Ends-unread reading is_silent start state number block later input rest after old new flushed held NoMemory so_far late part few flushes = absurd part
 
 -- a line more than a script may have writes nothing
 unread : {S A : Type 0} (reading : Reading S A) (grows : Bool) (is_silent : S → Bool) (state : S) (number : ℕ) (w z : Option (List ℕ)) (result : Result A ScriptFault) → number ≡ reading.most_lines + 1
@@ -544,9 +586,11 @@ unread {A = A} reading grows is_silent state number w z result late takes =
     rw none takes
 
 -- at the input's end, after as many lines as may stand
-pub Ends-full : {S A : Type 0} (reading : Reading S A) (grows : Bool) (is_silent : S → Bool) (start state : S) (number : ℕ) (block later : BlockState) (input rest after old new flushed newer : Option (List ℕ)) (result : Result A ScriptFault)
+pub Ends-full : {S A : Type 0} (reading : Reading S A) (grows : Bool) (is_silent : S → Bool) (start state : S) (number : ℕ) (block later : BlockState) (input rest after old new flushed newer : Option (List ℕ)) (held : List ℕ) (result : Result A ScriptFault)
     → Progress reading is_silent start state number block input rest old new → number ≡ reading.most_lines + 1 → TakesByte block later rest after (Ok None) → Keeps new flushed
-    → TakesRest (reading.ending state number) [] (grows && reading.wants_at_end state) (is_silent state) flushed newer result → EndsOr reading grows start input after old newer result
-Ends-full reading grows is_silent start state number block later input rest after old new flushed newer result so_far late (taken, none, at_end) flushes takes =
-    Ends-rest reading grows is_silent start state number block later input rest after old new flushed newer [] result so_far (omega (arith, late)) nothing taken none at_end flushes
+    → TakesRest (reading.ending state number) [] (grows && reading.wants_at_end state) (is_silent state) flushed newer result → held ≡ []
+    → EndsOr reading grows start held input after old newer result
+Ends-full reading grows is_silent start state number block later input rest after old new flushed newer held result so_far late (taken, none, at_end) flushes takes cleared =
+    Ends-rest reading grows is_silent start state number block later input rest after old new flushed newer [] held result so_far (omega (arith, late)) nothing taken none at_end flushes
     (unread reading grows is_silent state number flushed newer result late takes)
+    (subst (λ line. StopsWithin reading state number [] line result) (sym cleared) (StopsWithin-end reading state number [] (grows && reading.wants_at_end state) (is_silent state) flushed newer result takes))

@@ -8,4 +8,5 @@ mod PlainLines
 mod Progress
 mod ScriptLines
 pub mod StageSteps
+pub mod Stopping
 pub mod ToldFields

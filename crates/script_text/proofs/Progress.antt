@@ -10,6 +10,8 @@ use Rattle.line_text.proofs.TraceTexts.{grows}
 use Rattle.script_text.specs.Reads.{BlockState, Takes, left}
 use Rattle.script_text.specs.Scripts.{Reading, TextResult, after_step, after_text, asks_at_end, asks_last, end_wants, ended, last_wants, line_step, line_wants, lines_result, text_from, text_of, text_before_failure, where_it_stands}
 use Rattle.script_text.specs.Steps.{Goes}
+use Rattle.script_text.specs.Stops.{state_after}
+use Rattle.script_text.proofs.Stopping.{state_after-push}
 use Rattle.line_text.specs.Words.{lines_of, ended_lines_of, is_plain_line, is_skipped, words_of}
 use Rattle.script_text.specs.declared.faults.ScriptFault.{ScriptFault}
 use Rattle.script_text.specs.declared.faults.ScriptFault.TheVariants.{Script, Read}
@@ -69,6 +71,11 @@ pub record Progress {S A : Type 0} (reading : Reading S A) (is_silent : S → Bo
   pub wanted : Bool
   pub asks : (more : List ℕ) → asks_last reading start (read ++ more) ≡ last_wants reading wanted state number (lines_of more)
   pub asks_then : (more : List ℕ) → asks_at_end reading start (read ++ more) ≡ end_wants reading state number (lines_of more)
+  -- they are these lines, none of which has a fault
+  pub before : List (List ℕ)
+  pub counted : number ≡ 1 + length before
+  pub went : state_after reading start 1 before ≡ Ok state
+  pub lines : (more : List ℕ) → lines_of (read ++ more) ≡ before ++ lines_of more
 
 pub Progress-start : {S A : Type 0} (reading : Reading S A) (is_silent : S → Bool) (start : S) (block : BlockState) (input old : Option (List ℕ)) → block ≡ record { ahead = []; taken = 0; has_text = false; line = [] }
     → Progress reading is_silent start start 1 block input input old old
@@ -86,6 +93,10 @@ Progress-start reading is_silent start block input old none =
       wanted = false;
       asks = λ more. refl;
       asks_then = λ more. refl;
+      before = [];
+      counted = refl;
+      went = refl;
+      lines = λ more. refl;
     }
   where
     by_known : (a : Option (List ℕ)) → Consumes a (prepend_known [] a) []
@@ -175,6 +186,12 @@ progress_by reading is_silent start state next number block later noted input re
       asks_then = λ more.
           ap (asks_at_end reading start) (joined more) ∙ so_far.asks_then (line ++ 10 ∷ more) ∙ ap (end_wants reading state number) (lines_of-line line more lacks)
           ∙ ap (where_it_stands (λ after. end_wants reading after (number + 1) (lines_of more))) goes.step_is;
+      before = so_far.before ++ strip_carriage_return line ∷ [];
+      counted = omega (arith, so_far.counted, length-append so_far.before (strip_carriage_return line ∷ []));
+      went = state_after-push reading start state next number 1 so_far.before (strip_carriage_return line) goes.text so_far.went so_far.counted goes.step_is;
+      lines = λ more.
+          ap lines_of (joined more) ∙ so_far.lines (line ++ 10 ∷ more) ∙ ap (λ found. so_far.before ++ found) (lines_of-line line more lacks)
+          ∙ sym (append_assoc so_far.before (strip_carriage_return line ∷ []) (lines_of more));
     }
   where
     joined : (more : List ℕ) → (so_far.read ++ (line ++ 10 ∷ [])) ++ more ≡ so_far.read ++ (line ++ 10 ∷ more)

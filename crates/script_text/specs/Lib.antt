@@ -5,3 +5,4 @@ pub mod SetupLines
 pub mod SetupRules
 pub mod Stages
 pub mod Steps
+pub mod Stops

@@ -1,13 +1,16 @@
 //! How a script is read and carried out, line by line, whatever its lines do.
-ghost use Rattle.std.specs.Prelude.{◌≡◌, ◌≤◌, ◌<◌, ◌++◌, ◌∷◌, ◌&&◌, [], true, false, MatchOption};
+ghost use Rattle.std.specs.Prelude.{◌≡◌, ◌≤◌, ◌<◌, ◌++◌, ◌∷◌, ◌&&◌, [], true, false, MatchOption, OnErr};
 ghost use Rattle.std.specs.Str.Lines.{strip_carriage_return};
 ghost use Rattle.script_text.specs.Reads.{IsOneLine};
 ghost use Rattle.line_text.specs.Words.{is_plain_line};
 ghost use Rattle.script_text.specs.Scripts.{line_step, line_wants, rest_wants, text_failing_from, text_from, EndsOrStops};
 ghost use Rattle.script_text.specs.Steps.{TakesStep, TakesRest};
+ghost use Rattle.script_text.specs.Stops.{EndsHolding, StopsWithin, held_of};
+ghost use Rattle.line_text.specs.Words.{lines_of};
 
 use crate::faults::ScriptFault;
 use crate::reader::{Block, Ending};
+use crate::stopped::StoppedLine;
 use line_text::{Words, is_comment, may_stand};
 use std::alloc::Global;
 use std::io::{Read, Write};
@@ -129,39 +132,69 @@ fn take_read<S: Script, W: Write>(
     take_line(script, alloc, number, block.line(), writer)
 }
 
-/// Carries out the line that the input's end ended, if there is one, and ends the script.
+/// The same, with the line held where it has a fault.
+#[inline(always)]
+fn take_held<S: Script, W: Write>(
+    script: &mut S,
+    alloc: Global,
+    number: u32,
+    block: &Block,
+    writer: &mut W,
+    stopped: &mut StoppedLine,
+) -> Result<bool, ScriptFault>
+    requires { number ≤ S.reading.most_lines }
+    ensures step { TakesStep S.reading (S.grows && line_wants S.reading (S.state script.old) (strip_carriage_return block.now.line)) (line_step S.reading (S.state script.old) number (strip_carriage_return block.now.line)) S.is_silent (S.state script.old) (S.state script.new) (W.contents writer.old) (W.contents writer.new) result }
+    ensures held { OnErr result (stopped.new ≡ held_of (strip_carriage_return block.now.line)) }
+{
+    match take_read(script, alloc, number, block, writer) {
+        Ok(wrote) => Ok(wrote),
+        Err(fault) => {
+            stopped.hold(without_return(block.line()));
+            Err(fault)
+        }
+    }
+}
+
+/// Carries out the line that the input's end ended, if there is one, and ends the script. A line with a fault is held.
 fn take_rest<S: Script + Drop, W: Write>(
     script: S,
     alloc: Global,
     number: u32,
     line: &[u8],
     writer: &mut W,
+    stopped: &mut StoppedLine,
 ) -> Result<S::Answer, ScriptFault>
     requires number { number ≤ S.reading.most_lines }
     requires small { number < 4294967295 }
     requires line { IsOneLine line.now }
-    ensures { TakesRest (text_from S.reading (S.state script) number line.now) (text_failing_from S.reading (S.state script) number (line.now ++ 10 ∷ [])).output (S.grows && rest_wants S.reading (S.state script) number line.now) (S.is_silent (S.state script)) (W.contents writer.old) (W.contents writer.new) result }
+    ensures rest { TakesRest (text_from S.reading (S.state script) number line.now) (text_failing_from S.reading (S.state script) number (line.now ++ 10 ∷ [])).output (S.grows && rest_wants S.reading (S.state script) number line.now) (S.is_silent (S.state script)) (W.contents writer.old) (W.contents writer.new) result }
+    ensures held { StopsWithin S.reading (S.state script) number (lines_of line.now) stopped.new result }
 {
     if line.is_empty() {
+        stopped.clear();
         return script.end(alloc, number, writer);
     }
     let mut script = script;
     if let Err(fault) = take_line(&mut script, alloc, number, line, writer) {
+        stopped.hold(without_return(line));
         return Err(fault);
     }
+    stopped.clear();
     script.end(alloc, number + 1, writer)
 }
 
 /// Reads a script to its end or its first fault, and answers what the script does. Each line is carried out before the next
-/// is looked at, and its text is flushed before the reader is asked for more.
-pub fn read_script<S: Script + Drop, R: Read, W: Write>(
+/// is looked at, and its text is flushed before the reader is asked for more. At a script fault the line is held at which it
+/// stopped, or none where the script's end has the fault.
+pub fn read_script_with<S: Script + Drop, R: Read, W: Write>(
     script: S,
     alloc: Global,
     reader: &mut R,
     writer: &mut W,
+    stopped: &mut StoppedLine,
 ) -> Result<S::Answer, ScriptFault>
     requires { S.is_silent (S.state script) ≡ true }
-    ensures { EndsOrStops S.grows S.reading (S.state script) (R.remaining reader.old) (R.remaining reader.new) (W.contents writer.old) (W.contents writer.new) result }
+    ensures { EndsHolding S.grows S.reading (S.state script) stopped.new (R.remaining reader.old) (R.remaining reader.new) (W.contents writer.old) (W.contents writer.new) result }
 {
     let Ok(mut block) = Block::new(alloc) else {
         return Err(ScriptFault::NoMemory);
@@ -171,18 +204,22 @@ pub fn read_script<S: Script + Drop, R: Read, W: Write>(
     for number in 1..late {
         match block.read_line(reader, writer)? {
             Ending::LineFeed => {}
-            Ending::Input => return take_rest(script, alloc, number, block.line(), writer),
+            Ending::Input => {
+                return take_rest(script, alloc, number, block.line(), writer, stopped);
+            }
             Ending::Room => {
+                stopped.hold(block.line());
                 return Err(ScriptFault::Script {
                     line: number,
                     word: 0,
                 });
             }
         }
-        if take_read(&mut script, alloc, number, &block, writer)? {
+        if take_held(&mut script, alloc, number, &block, writer, stopped)? {
             block.note_text();
         }
     }
+    stopped.clear();
     if let Some(_) = block.next_byte(reader, writer)? {
         return Err(ScriptFault::Script {
             line: late,
@@ -190,4 +227,18 @@ pub fn read_script<S: Script + Drop, R: Read, W: Write>(
         });
     }
     script.end(alloc, late, writer)
+}
+
+/// The same, where nobody asks at which line it stopped.
+pub fn read_script<S: Script + Drop, R: Read, W: Write>(
+    script: S,
+    alloc: Global,
+    reader: &mut R,
+    writer: &mut W,
+) -> Result<S::Answer, ScriptFault>
+    requires { S.is_silent (S.state script) ≡ true }
+    ensures { EndsOrStops S.grows S.reading (S.state script) (R.remaining reader.old) (R.remaining reader.new) (W.contents writer.old) (W.contents writer.new) result }
+{
+    let mut stopped = StoppedLine::new();
+    read_script_with(script, alloc, reader, writer, &mut stopped)
 }

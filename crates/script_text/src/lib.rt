@@ -9,10 +9,12 @@ mod score_setup_lines;
 mod setup_lines;
 mod setup_parser;
 mod stages;
+mod stopped;
 
-pub use driver::{Script, read_script, take_line};
+pub use driver::{Script, read_script, read_script_with, take_line};
 pub use faults::ScriptFault;
 pub use keywords::Form;
 pub use setup_lines::{ScriptSetup, add_line, is_setup_form, setup_line};
 pub use setup_parser::SetupLine;
 pub use stages::{Kind, StagedScript};
+pub use stopped::StoppedLine;

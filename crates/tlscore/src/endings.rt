@@ -2,13 +2,13 @@
 ghost use Rattle.std.specs.Prelude.{◌≡◌, ◌≢◌, ◌⊎◌, [], Some, Err, true};
 ghost use Rattle.std.specs.Io.Buffered.{writer_buffer, writer_contents};
 ghost use Rattle.std.specs.Io.KnownBytes.{Keeps};
-ghost use Rattle.script_text.specs.Scripts.{EndsOrStops};
+ghost use Rattle.script_text.specs.Stops.{EndsHolding};
 ghost use Rattle.score_script.specs.Scores.{opening_state, score_reading};
 ghost use Rattle.tlscore.specs.Endings.{Flushes, status_of};
 
 use burst_plan::MapFault;
-use score_script::score_text;
-use script_text::ScriptFault;
+use score_script::score_text_with;
+use script_text::{ScriptFault, StoppedLine};
 use setups::SetupFault;
 use std::alloc::Global;
 use std::io::{BufWriter, Read, Write};
@@ -34,18 +34,19 @@ pub(crate) fn flushed<W: Write + Drop>(
 }
 
 /// Judges an observation, and flushes the output. Output that can't be flushed is a write fault, whatever the input ended
-/// with.
+/// with. At a fault of the text the line is held at which it stopped, or none where the input's end has the fault.
 pub(crate) fn scored<R: Read, W: Write + Drop>(
     alloc: Global,
     reader: &mut R,
     writer: &mut BufWriter<W>,
+    stopped: &mut StoppedLine,
 ) -> Result<bool, ScriptFault>
-    ensures ends { Flushes (λ held. EndsOrStops true score_reading opening_state (R.remaining reader.old) (R.remaining reader.new) (writer_contents W.contents writer.old) held) (writer_contents W.contents writer.new) result }
+    ensures ends { Flushes (λ held. EndsHolding true score_reading opening_state stopped.new (R.remaining reader.old) (R.remaining reader.new) (writer_contents W.contents writer.old) held) (writer_contents W.contents writer.new) result }
 
     // Nothing is left in the buffer, but where a write failed.
     ensures flushed { (result ≡ Err ScriptFault.Write) ⊎ (writer_buffer writer.new ≡ []) }
 {
-    let ending = score_text(alloc, reader, writer);
+    let ending = score_text_with(alloc, reader, writer, stopped);
     flushed(ending, writer)
 }
 

@@ -6,7 +6,8 @@ mod tasks;
 mod version;
 
 use endings::{scored, status_of};
-use script_text::ScriptFault;
+use score_script::fault_reason;
+use script_text::{ScriptFault, StoppedLine};
 use std::alloc::Global;
 use std::env;
 use std::io::{BufWriter, Read, Write};
@@ -29,12 +30,13 @@ fn carried_out<R: Read, W: Write + Drop>(
     alloc: Global,
     reader: &mut R,
     output: W,
+    stopped: &mut StoppedLine,
 ) -> Result<bool, ScriptFault> {
     let Ok(mut writer) = BufWriter::new(alloc, output) else {
         return Err(ScriptFault::NoMemory);
     };
     match task {
-        Task::Judge => scored(alloc, reader, &mut writer),
+        Task::Judge => scored(alloc, reader, &mut writer, stopped),
         Task::Version => version_told(&mut writer),
     }
 }
@@ -44,9 +46,19 @@ fn main(rt: HostRuntime) -> ExitCode {
         let _ = eprintln!(rt; "usage: tlscore [--version]");
         return ExitCode::from(BAD_WORDS);
     };
-    let ending = carried_out(task, rt.alloc(), &mut rt.reader(), rt.stdout());
+    let mut stopped = StoppedLine::new();
+    let ending = carried_out(
+        task,
+        rt.alloc(),
+        &mut rt.reader(),
+        rt.stdout(),
+        &mut stopped,
+    );
     if let Err(fault) = ending {
-        let _ = eprintln!(rt; "{fault}");
+        let _ = match fault_reason(&fault, &stopped) {
+            Some(reason) => eprintln!(rt; "{fault}: {}", reason.text()),
+            None => eprintln!(rt; "{fault}"),
+        };
     }
     ExitCode::from(status_of(&ending))
 }

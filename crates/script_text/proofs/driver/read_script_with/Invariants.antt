@@ -1,5 +1,5 @@
 use Rattle.script_text.proofs.Progress.{Progress}
-use Rattle.script_text.proofs.driver.read_script.Given as goal
+use Rattle.script_text.proofs.driver.read_script_with.Given as goal
 
 abbrev pub invariant-loop-number : goal.invariant-loop-number
 invariant-loop-number g l =
