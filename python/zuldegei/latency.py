@@ -7,15 +7,16 @@ one with an x where it would have to be known, is passed over."""
 from collections import Counter, OrderedDict, deque
 from dataclasses import dataclass, field
 from enum import Enum
-from typing import Deque, Dict, Iterable, Iterator, List, Optional, Tuple, Union
+from typing import Deque, Dict, Iterable, Iterator, List, Optional, Tuple
 
 from .command import Fault
 from .forms import check_words
 from .observation import (
-    A, AR, AW, B, D, FIELDS, GET, INTENT, LAST_PUT, LAST_WITH_DATA, NOT_TAKEN, OPERATIONS, R, WORD, Beat, Event, number,
+    A, AR, AW, B, D, FIELDS, GET, INTENT, LAST_PUT, LAST_WITH_DATA, NOT_TAKEN, OPERATIONS, R, W, WORD, Beat, number,
 )  # fmt: skip
 
-RESETS, EVENTS, TIME = ("reset", "drained"), ("reset", "drained", "end"), "time"
+TIME, RESET, DRAINED, END = "time", "reset", "drained", "end"  # kinds of lines beside the beats
+EVENTS = (RESET, DRAINED, END)
 MOST_SIZE, MOST_TRANSFER = 12, 3  # binary logarithms of the bytes of a request, and of a burst's transfer
 READ, WRITE = "AXI4 read", "AXI4 write"
 FINE = 6  # binary digits of a time that a histogram tells apart
@@ -45,6 +46,11 @@ class Transaction:
     @property
     def begun(self) -> int:
         return self.beat.time
+
+    @property
+    def moved(self) -> int:
+        """The bytes that it moves, which are none of an Intent."""
+        return 0 if self.kind.endswith("intent") else self.bytes
 
     def took(self, now: int) -> int:
         return (now if self.ended is None else self.ended) - self.begun
@@ -160,23 +166,22 @@ class Latencies:
             self.sides[it.side].end(it.took(self.now))
         return self
 
-    def take(self, it: Union[Beat, Event]) -> None:
-        if isinstance(it, Event):
-            self.event(it)
-            return
-        self.first = self.now if self.first is None else self.first
-        if it.kind in self.takers:
-            self.takers[it.kind](it)
+    def take(self, it: Beat) -> None:
+        if it.kind == TIME:
+            self.pass_to(it.time)
+        elif it.kind in FIELDS:
+            self.first = it.time if self.first is None else self.first
+            if it.kind in self.takers:
+                self.takers[it.kind](it)
+        elif it.kind != END:
+            self.cut(it.kind == RESET)
 
-    def event(self, event: Event) -> None:
-        """Another time, or a reset or a drained port, which ends what is under way there."""
-        if event.name == TIME:
-            self.pass_to(event.time)
-        elif event.name in RESETS:
-            for it in [it for it in self.under_way if event.name == "reset" or it.beat.kind != A]:
-                self.end(it, End.CUT)
-            self.open.clear()
-        if event.name == "reset":
+    def cut(self, are_all: bool) -> None:
+        """A reset ends all that is under way, a drained port its bursts."""
+        for it in [it for it in self.under_way if are_all or it.beat.kind != A]:
+            self.end(it, End.CUT)
+        self.open.clear()
+        if are_all:
             self.begun.clear()
             self.due.clear()
 
@@ -258,7 +263,7 @@ class Latencies:
         del self.under_way[it]
         self.sides[it.side].end(it.took(self.now))
         if how is End.ANSWERED:
-            self.kinds.setdefault(it.kind, Times()).add(it.took(self.now), it.bytes)
+            self.kinds.setdefault(it.kind, Times()).add(it.took(self.now), it.moved)
         if self.watch:
             self.watch.open.pop(it, None)
 
@@ -278,51 +283,62 @@ def burst_of(beat: Beat, address: int, length: int, size: int) -> Transaction:
     return Transaction(beat, side, side, (length + 1) * each - address % each, 0, 1 if beat.kind == AW else length + 1)
 
 
-def passed(lines: Iterable[str]) -> Iterator[Union[Beat, Event]]:
-    """The beats, times and events of an observation as they come; an A line is a beat once the next one doesn't say that it wasn't
+class Clock:
+    """The times of an observation's lines. A W beat that was held back until its AW came has an earlier one than the beats ahead of it."""
+
+    def __init__(self):
+        self.now: Optional[int] = None
+        self.latest = -1
+
+    def pass_to(self, words: List[str]) -> bool:
+        """Takes a line `time T`; whether it is later than all before."""
+        self.now = int(words[1])
+        is_later = self.now > self.latest
+        self.latest = max(self.now, self.latest)
+        return is_later
+
+    def of(self, kind: str) -> int:
+        """The time of a beat."""
+        if self.now is None:
+            raise Fault("has no time: no line `time T` stands ahead of it")
+        if self.now < self.latest and kind != W:
+            raise Fault(f"goes back to {self.now}, and it was {self.latest}: no beat but W may")
+        return self.now
+
+
+def passed(lines: Iterable[str]) -> Iterator[Beat]:
+    """The beats, later times and events of an observation as they come; an A line is a beat once the next one doesn't say that it wasn't
     taken."""
-    now, waiting = None, None
+    clock, waiting = Clock(), None
     for place, line in enumerate(lines, 1):
         words = line.split()
         if not words or words[0].startswith("#"):
             continue
-        first, is_answer = words[0], words[0] == "=" and len(words) > 1
-        if waiting and not (is_answer and words[1] in NOT_TAKEN):
+        if waiting and not (words[0] == "=" and words[1:2] and words[1] in NOT_TAKEN):
             yield waiting
         waiting = None
-        if first in FIELDS:
-            beat = Beat(place, checked(place, words, line, now), first, words[1:])
-            if first == A:
-                waiting = beat
-            else:
-                yield beat
-        elif first == TIME:
-            now = later(place, words, line, now)
-            yield Event(place, now, TIME)
-        elif is_answer and words[1] in EVENTS:
-            yield Event(place, now, words[1])
+        try:
+            it = read(place, words, clock)
+        except (ValueError, Fault) as why:
+            said = why if isinstance(why, Fault) else "isn't what tlscore reads"
+            raise Fault(f"line {place} of the observation, {line.strip()[:80]!r}, {said}") from why
+        if it and it.kind == A:
+            waiting = it
+        elif it:
+            yield it
     if waiting:
         yield waiting
 
 
-def checked(place: int, words: List[str], line: str, now: Optional[int]) -> int:
-    """The time of a beat, which is refused where it isn't as tlscore reads it, or has no time."""
-    check(place, words, line)
-    if now is None:
-        raise Fault(f"line {place}, {line.strip()[:80]!r}, has no time: no line `time T` stands ahead of it")
-    return now
-
-
-def later(place: int, words: List[str], line: str, now: Optional[int]) -> int:
-    """The time that a line has, which is none before the one that it was."""
-    check(place, words, line)
-    if now is not None and int(words[1]) < now:
-        raise Fault(f"line {place}, {line.strip()[:80]!r}, goes back: it was {now}")
-    return int(words[1])
-
-
-def check(place: int, words: List[str], line: str) -> None:
-    try:
+def read(place: int, words: List[str], clock: Clock) -> Optional[Beat]:
+    """The beat, the later time or the event of a line, if it has one."""
+    kind = words[0]
+    if kind in FIELDS:
         check_words(words)
-    except ValueError as why:
-        raise Fault(f"line {place} of the observation, {line.strip()[:80]!r}, isn't what tlscore reads") from why
+        return Beat(place, clock.of(kind), kind, words[1:])
+    if kind == TIME:
+        check_words(words)
+        return Beat(place, clock.now, TIME, []) if clock.pass_to(words) else None
+    if kind == "=" and words[1:2] and words[1] in EVENTS:
+        return Beat(place, clock.latest, words[1], [])
+    return None
