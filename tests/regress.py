@@ -389,7 +389,7 @@ def late(folder: Path, score: str) -> Iterator[Case]:
     due = "line 7 client 0 source 5 at 10 answered after 35: Get of 8 bytes at 00000008"
     why = made.wrong(1, ["slow", "failed"]) or (None if (made.runs[0]["late"], made.runs[0]["first_late"]) == (1, due) else f"{made.runs[0]}")
     yield "something took longer than 34, and a run without times", why or (None if "no times: " in made.runs[1]["why"] else f"{made.runs[1]}")
-    row = f"slow          4       8/8  1 late, first {due}\n"
+    row = f"slow         4       8/8  1 late, first {due}\n"
     yield "the table of a slow run", None if row in made.ran.stdout and "1 failed, 0 late, 1 slow; " in made.ran.stdout else made.ran.stdout
     (folder / "wrong.lines").write_text(timed.replace("1122334455667788 0\n= end", "1122334455667789 0\n= end"))
     made = Made(folder, score, "wrong.lines", "--late", 34)
