@@ -180,7 +180,7 @@ class Inputs:
         return Call(["image", *words], {"image": changed(lot.choice(self.images), lot, False)})
 
     def explain(self, lot: random.Random) -> Call:
-        return Call(["run.lines", "run.told", *lot.choice(([], ["-n", "9"], ["--html", "run.html", "-n", "3"]))], self.judged(lot))
+        return Call(["run.lines", "run.told", *lot.choice(([], ["-n", "9"], ["--uncompared"], ["--html", "run.html", "-n", "3"]))], self.judged(lot))
 
     def wave_of(self, lot: random.Random) -> Call:
         return Call(["run.lines", "run.told", "run.vcd"], self.judged(lot))
