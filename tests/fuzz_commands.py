@@ -184,7 +184,7 @@ class Inputs:
         return Call(["image", *words], {"image": changed(lot.choice(self.images), lot, False)})
 
     def explain(self, lot: random.Random) -> Call:
-        words = lot.choice(([], ["-n", "9"], ["--html", "run.html", "-n", "3"], ["--html", "run.html", "--late", "300"]))
+        words = lot.choice(([], ["-n", "9"], ["--uncompared"], ["--html", "run.html", "-n", "3"], ["--html", "run.html", "--late", "300"]))
         return Call(["run.lines", "run.told", *words], self.judged(lot))
 
     def times(self, lot: random.Random) -> Call:

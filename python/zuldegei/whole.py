@@ -8,7 +8,7 @@ from typing import Iterator, TextIO
 @contextlib.contextmanager
 def written(path: Path) -> Iterator[TextIO]:
     """A file that is written; where it can't be written whole, what was written of it is taken away, and the fault names it."""
-    file = path.open("w")
+    file = path.open("w", encoding="utf-8", errors="backslashreplace")  # a name may have bytes that are no text
     try:
         with file:
             yield file
