@@ -27,6 +27,7 @@ COMMANDS = {
     "zuldegei-fill": "read a memory image as fill lines for tlscore",
     "zuldegei-explain": "explain and draw the wrong beats of an observation",
     "zuldegei-wave-of": "make a VCD of the beats and the verdict of an observation",
+    "zuldegei-times": "tell how long requests and bursts took",
     "zuldegei-regress": "judge many runs of a bridge side by side",
 }
 STATUSES = (

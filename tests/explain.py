@@ -424,6 +424,7 @@ def browsed(browser: str, folder: Path, score: str) -> Iterator[Case]:
         marks = re.findall(rf'class="(?:wrong|flag)"[^>]*data-lines="{line}"', text)
         yield f"{name}, its first wrong beat", None if marks and f"wrong {line} " in text else f"{len(marks)} marks of line {line}"
     yield from used(browser, folder)
+    yield from rung_late(browser, folder)
     yield from pictured(folder)
     yield "100,000 beats", large(browser, folder, score)
 
@@ -462,6 +463,19 @@ def used(browser: str, folder: Path) -> Iterator[Case]:
     named = [line.strip(" !").partition(": ") for line in tip.splitlines()]
     is_well = len(named) >= 3 and all(lines.read_text().splitlines()[int(number) - 1] == text for number, _, text in named)
     yield "the lines of a bar", None if is_well else repr(tip)
+
+
+def rung_late(browser: str, folder: Path) -> Iterator[Case]:
+    """The rings around what took longer than --late: in this run three took longer than 700, and none longer than 10,000."""
+    lines, verdict = run_of("reply-lost")
+    page = folder / "late.html"
+    for late, firsts in ((700, ["13", "15", "22"]), (10_000, [])):
+        ran = command("explain", lines, verdict, "--late", late, "--html", page)
+        text = dom(browser, folder, f"{page.as_uri()}#all")
+        rung = re.findall(r'<g data-lines="(\d+)[^"]*"><rect [^>]*></rect><rect class="late"', text)
+        is_told = ran.stdout.endswith(f", {len(firsts)} took longer than {late}\n") and (f"{len(firsts)} took too long" in text) == bool(firsts)
+        is_well = sorted(rung, key=int) == firsts and is_told
+        yield f"rings of what took longer than {late}", None if is_well else f"around bars of lines {rung}; {ran.stdout[-100:]!r}"
 
 
 def pictured(folder: Path) -> Iterator[Case]:

@@ -38,11 +38,11 @@ from zuldegei import vcd
 from zuldegei.command import Fault, Status
 from zuldegei.observation import Observation, check_same, verdict_of
 
-COMMANDS = ("waves", "fill", "explain", "wave_of", "regress")
+COMMANDS = ("waves", "fill", "explain", "wave_of", "times", "regress")
 COUNT, SEED, BATCH, AT_ONCE, MOST_TOLD, JUDGED = 2000, 1, 100, 2, 9, 500
 SECONDS, WAITED, MEMORY = 10, 120, 2 << 30  # of a processor and of the clock, for a call, and bytes for those of a batch
 # The statuses of python/README.md that an input may lead to.
-STATUSES = {"waves": (0, 2, 3), "fill": (0, 2), "explain": (0, 1, 2), "wave_of": (0, 1, 2), "regress": (0, 1, 2)}
+STATUSES = {"waves": (0, 2, 3), "fill": (0, 2), **dict.fromkeys(("explain", "wave_of", "times", "regress"), (0, 1, 2))}
 WORDS = (
     *(b"0 1 -1 2 3 7 8 255 256 x z X zzzz ff 00000000 ffffffff 100000000 99999999999999 18446744073709551616 1e5 0x10".split()),
     *(b"A D AW AR W B R = time fill config region page reset end wrong judged expected at client of part".split()),
@@ -52,6 +52,9 @@ WORDS = (
     *(b"=1 =-1 = [3:0] [ * a.b.c".split()),
 )
 NUMBERS = (0, 1, 2, 31, 32, 56, 0x7F, 0xFF, 0xFFFF, 0x7FFF_FFFF, 0x8000_0000, 0xFFFF_FFFF, 1 << 40, (1 << 63) - 1, 1 << 63, (1 << 64) - 1)
+# The status and what JUnit has of a run in each state; of all others these are 2 and an error.
+ENDS = {"right": (0, "system-out"), "waived": (0, "skipped"), "wrong": (1, "failure"), "slow": (1, "failure")}
+WAIVERS = b"# known\nreply PAYLOAD client 1 the old DMA\nreply UNANSWERED pages 0 8 lost\naxi CROSS_4K pages 10010 4 pages\naxi WLAST pages 0 99 w\n"
 Case = Tuple[str, Optional[str]]
 
 
@@ -154,6 +157,7 @@ class Inputs:
         stored = sorted((RTL / "runs").glob("*.lines"))
         rows = [it for it in sorted((TOP / "examples/scoreboard").glob("*.in")) if b"= judged" in it.with_suffix(".out").read_bytes()]
         self.runs = [(it.read_bytes(), it.with_suffix(".told").read_bytes()) for it in stored]
+        self.stored = len(self.runs)  # with times
         self.runs += [(it.read_bytes(), it.with_suffix(".out").read_bytes()) for it in rows]
         self.setup = (RTL / "setup.lines").read_bytes()
         self.dumps = [dump(is_by_bit) for is_by_bit in (False, True)]
@@ -180,7 +184,13 @@ class Inputs:
         return Call(["image", *words], {"image": changed(lot.choice(self.images), lot, False)})
 
     def explain(self, lot: random.Random) -> Call:
-        return Call(["run.lines", "run.told", *lot.choice(([], ["-n", "9"], ["--uncompared"], ["--html", "run.html", "-n", "3"]))], self.judged(lot))
+        words = lot.choice(([], ["-n", "9"], ["--uncompared"], ["--html", "run.html", "-n", "3"], ["--html", "run.html", "--late", "300"]))
+        return Call(["run.lines", "run.told", *words], self.judged(lot))
+
+    def times(self, lot: random.Random) -> Call:
+        words = lot.choice(([], ["--late", "300"], ["--late", "1", "-n", "3"], ["--clock", "7", "--json", "times.json"]))
+        lines = lot.choice(self.runs[: lot.choice((self.stored, len(self.runs)))])[0]
+        return Call(["run.lines", *words], {"run.lines": changed(lines, lot)})
 
     def wave_of(self, lot: random.Random) -> Call:
         return Call(["run.lines", "run.told", "run.vcd"], self.judged(lot))
@@ -196,7 +206,8 @@ class Inputs:
         files = self.judged(lot)
         files["set.lines"] = changed(self.setup, lot) if lot.randrange(2) else self.setup
         words = ["--score", "cat", "run.told"] if lot.randrange(2) else ["--score", self.score, "run.lines"]
-        words += lot.choice(([], ["--setup", "set.lines"], ["--keep", "kept"]))
+        words += lot.choice(([], ["--setup", "set.lines"], ["--keep", "kept"], ["--late", "300"], ["--waive", "known.waivers"]))
+        files["known.waivers"] = changed(WAIVERS, lot) if lot.randrange(2) else WAIVERS
         return Call([*words, "--json", "runs.json", "--junit", "junit.xml", "-j", "1"], files)
 
 
@@ -270,7 +281,7 @@ def wrong(command: str, ended: Ended) -> Optional[str]:
     is_told = ended.said.count("\n") == 1 and ended.said.startswith(f"zuldegei-{command.replace('_', '-')}: ")
     if ended.status >= Status.FAULT and not is_told and "runs: " not in ended.printed:
         return f"status {ended.status}, and it said {ended.said[-600:]!r}"
-    return at_fault(command, ended) if command in ("explain", "regress") else None
+    return at_fault(command, ended) if command in ("explain", "times", "regress") else None
 
 
 def at_fault(command: str, ended: Ended) -> Optional[str]:
@@ -278,8 +289,10 @@ def at_fault(command: str, ended: Ended) -> Optional[str]:
     if command == "explain":
         count = re.search(r"(?m)^(\d+) wrong lines?, ", ended.printed)
         is_wrong = bool(count and int(count[1]))
+    elif command == "times":
+        count, is_wrong = "with a clock of" in ended.printed, "\n= late " in ended.printed
     else:
-        count, is_wrong = "runs: " in ended.printed, "1 runs: 0 right, 1 wrong," in ended.printed
+        count, is_wrong = "runs: " in ended.printed, bool(re.search("1 runs: 0 right, 1 wrong,|, 1 slow", ended.printed))
     if (ended.status == Status.WRONG) != is_wrong or ended.status <= Status.WRONG and not count:
         return f"status {ended.status}, and it printed {ended.printed[-300:]!r}"
     return None
@@ -293,8 +306,8 @@ def unreadable(command: str, call: Call, status: int) -> Optional[str]:
         if command == "regress" and Path("runs.json").exists():
             states = [it["status"] for it in json.loads(Path("runs.json").read_text())["runs"]]
             tags = [it[0].tag for it in ElementTree.parse("junit.xml").iter("testcase")]
-            due = {0: (["right"], ["system-out"]), 1: (["wrong"], ["failure"])}.get(status, (states, ["error"]))
-            return None if (states, tags) == due and len(states) == 1 else f"status {status}, and files of {states} {tags}"
+            due = [ENDS.get(it, (2, "error")) for it in states]
+            return None if [(status, it) for it in tags] == due and len(states) == 1 else f"status {status}, and files of {states} {tags}"
     except (ValueError, TypeError, OSError, ElementTree.ParseError, IndexError) as why:
         return f"its files can't be read: {why!r}"
     return None

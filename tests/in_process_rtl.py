@@ -2,7 +2,7 @@
 faults stops in the clock of the first beat that tlscore finds wrong of the lines of the same run, by both profiles, or at the run's end
 where nothing but an answer is missing; what it tells is what tlscore tells, line by line; and the right bridge runs on to its end. A run
 in which something is wrong, or that isn't judged, has a status other than 0 and says why it failed, with Verilator's limit of errors and
-without; a set-up of 200,000 lines is read in few seconds. What only an x shows is shown by whatever Verilator has in its place. Then the
+without; a set-up of 200,000 lines is read in few seconds. What is told as late is what zuldegei-times finds so in the lines of the run. What only an x shows is shown by whatever Verilator has in its place. Then the
 same under Icarus, which has no DPI: tlscore reads the lines from a named pipe while the simulation runs. A simulator that isn't installed
 is named.
 
@@ -25,14 +25,17 @@ from typing import Iterator, NamedTuple, Optional, Tuple
 from ends import told
 
 TOP = Path(__file__).resolve().parent.parent
-sys.path.append(str(TOP / "examples/testbench/rtl"))
+sys.path += [str(TOP / "examples/testbench/rtl"), str(TOP / "python")]
 import run
+from zuldegei.latency import End, Latencies
 
 SYSTEMVERILOG = TOP / "interfaces/systemverilog"
 MODULES = [SYSTEMVERILOG / "zuldegei_pkg.sv", SYSTEMVERILOG / "zuldegei_monitor.sv", SYSTEMVERILOG / "example_bind.sv"]
 UNOPTIMIZED = ["OPT_FAST=-O0", "OPT_GLOBAL=-O0"]
 TOLD = re.compile(r"(?m)(= (?:wrong|judged) .*)$")
 TIMED = re.compile(r"(?m)^\[(\d+)\] %Error: .*zuldegei: (= wrong .*|the run failed: \d+ wrong)$")
+LATE = re.compile(r"zuldegei: late: no reply after \d+ to client (\d+) source (\d+), which asked at (\d+)")
+TOO_LONG = (300, 900)
 NO_LIMIT = "+verilator+error+limit+1000000"  # each $error and $fatal goes on, as far as Verilator is asked
 LONG_LINES = ("# a line of a set-up\n", "fill 10000 00 00 00 00\n")
 ABORTED = -signal.SIGABRT  # as which Verilator ends a run, and a shell says 134
@@ -127,6 +130,36 @@ def stopped_below_limit(ran: Simulated, judged: str, count: int) -> Optional[str
     return failed_wrong(ran, 1, f"the run failed: {len(got)} wrong") if is_given_up else f"it isn't stopped: {ran.text[-200:]!r}"
 
 
+def late_wrong(ran: Simulated, limit: int) -> Optional[str]:
+    """How the requests that are told as late aren't those of the run's lines: beyond these there may be some that got no reply, and whose
+    time was over behind the last beat ahead of a reset or the end."""
+    got, lines = LATE.findall(ran.text), ran.lines.splitlines()
+    found, every = (Latencies(it, 1 << 20).take_all(lines) for it in (limit, 1))
+    due = [it for it in found.watch.first if it.beat.kind == "A"]
+    lacking = [it for it in (*every.watch.first, *every.under_way) if it.beat.kind == "A" and it.how is not End.ANSWERED]
+    unanswered = [named(it) for it in lacking]
+    told_of = [it for it in got if it not in unanswered]
+    answered = [named(it) for it in due if it.how is End.ANSWERED]
+    if told_of != answered or not {named(it) for it in due} <= set(got) or len(set(got)) != len(got):
+        return f"told are {got}, and due {[named(it) for it in due]}"
+    wrong = len([it for it in TOLD.findall(ran.text) if it.startswith("= wrong")])
+    return failed_wrong(ran, 1, f"the run failed: {wrong} wrong, {len(got)} late") if got else None
+
+
+def named(it: object) -> Tuple[str, str, str]:
+    """The client and the source of a request, and when it began."""
+    return it.beat.words[0], it.beat.words[4], str(it.begun)
+
+
+def late_told(name: str, bench: Path, seed: int, setup: Path) -> Iterator[Case]:
+    """Runs with resets, in which late replies are told, and one that takes none for late."""
+    for limit in TOO_LONG:
+        ran = simulated(bench, seed, setup, f"+zuldegei_late={limit}", f"+resets={seed}", NO_LIMIT, *[NO_LIMIT] * (limit > TOO_LONG[0]))
+        yield f"{name}, late after {limit}", late_wrong(ran, limit)
+    ran = simulated(bench, seed, setup, "+zuldegei_late=999999999", "+resets=1", NO_LIMIT)
+    yield f"{name}, late after very long", f"told are {LATE.findall(ran.text)}" if " late" in ran.text else None
+
+
 def words_tried(bench: Path) -> Iterator[Case]:
     """Words of the run by which nothing can be judged, and how that is said; each with Verilator's limit of errors, and without."""
     folder, setup = bench.parent, f"+zuldegei_setup={run.HERE / 'setup.lines'}"
@@ -146,6 +179,9 @@ def words_tried(bench: Path) -> Iterator[Case]:
         ([setup, "+zuldegei_stop="], f"+zuldegei_stop= {no_number}"),
         ([setup, "+zuldegei_stop"], f"+zuldegei_stop= {no_number}"),
         ([setup, "+zuldegei_stop=1234567890"], f"+zuldegei_stop=1234567890 {no_number}"),
+        ([setup, "+zuldegei_late=0"], f"+zuldegei_late=0 {no_number} above 0"),
+        ([setup, "+zuldegei_late=1.5"], f"+zuldegei_late=1.5 {no_number} above 0"),
+        ([setup, "+zuldegei_late"], f"+zuldegei_late= {no_number} above 0"),
     ):
         ran = started(bench, NO_LIMIT, *words)
         yield f"with {words}", failed_wrong(ran, 1, f"the run failed: {why}")
@@ -179,6 +215,8 @@ def tried(bug: str, bench: Path, given: argparse.Namespace) -> Iterator[Case]:
             judged = run.judged(given.score, asked.setup, f"{whole.lines}= end\n")
             yield f"{name}, whole", whole_wrong(whole, judged)
             first = run.first_wrong(asked.setup, whole.lines, judged)
+            if not first or first.name.endswith("UNANSWERED") or seed == 1:
+                yield from late_told(name, bench, seed, setup)
             if first:
                 found += 1
                 stops = simulated(bench, seed, setup, "+zuldegei_stop=1", "+verilator+error+limit+2", *x)

@@ -44,11 +44,12 @@ class Made:
         got = [it["status"] for it in self.runs]
         if self.ran.returncode != status or got != states:
             return f"status {self.ran.returncode}, {got}; {self.ran.stdout[-400:]}{self.ran.stderr[-400:]}"
-        kinds = {"right": [], "wrong": ["failure"]}
+        kinds = {"right": [], "wrong": ["failure"], "slow": ["failure"], "waived": ["skipped"]}
         wanted = [kinds.get(it, ["error"]) for it in states]
         cases = [[kind.tag for kind in it if kind.tag != "system-out"] for it in self.suite.findall("testcase")]
-        counts = {name: int(self.suite.get(name)) for name in ("tests", "failures", "errors")}
+        counts = {name: int(self.suite.get(name)) for name in ("tests", "failures", "errors", "skipped")}
         due = {"tests": len(states), "failures": wanted.count(["failure"]), "errors": wanted.count(["error"])}
+        due["skipped"] = wanted.count(["skipped"])
         return None if cases == wanted and counts == due else f"JUnit has {cases}, {counts}"
 
 
@@ -292,6 +293,113 @@ def lists(folder: Path, score: str) -> Iterator[Case]:
         yield f"the seeds {text!r}", None if is_well else f"status {ran.returncode}, {ran.stderr[-300:]!r}"
 
 
+# Two clients, each of which gets a reply with other bytes than those that it put (lines 9 and 16), and a burst over the end of a page (18).
+KNOWN = """config 2 4 16 2 16 12 hh
+region 0 4 10 gpah
+page 10 4 good
+time 10
+A 0 0 0 3 5 00000008 ff 1122334455667788 0
+D 0 0 0 3 5 0 0000000000000000 0
+A 0 4 0 3 5 00000008 ff 0000000000000000 0
+time 20
+D 0 1 0 3 5 0 0000000000000001 0
+A 1 4 0 3 7 00001008 ff 0000000000000000 0
+time 30
+A 1 0 0 3 9 00001008 ff 1122334455667788 0
+D 1 1 0 3 7 0 0000000000000000 0
+D 1 0 0 3 9 0 0000000000000000 0
+A 1 4 0 3 7 00001008 ff 0000000000000000 0
+D 1 1 0 3 7 0 0000000000000001 0
+time 85
+AW 0 00011ff8 1 3 1
+"""
+# A file of waivers, how the run ends by it, how many wrong lines are left, the first of these, and how many each waiver waived.
+WAIVERS = {
+    "a client": ("reply PAYLOAD client 0 the old DMA", "wrong", 2, 16, [1]),
+    "the other client": ("reply PAYLOAD client 1 new", "wrong", 2, 9, [1]),
+    "a client of whom nothing is": ("reply PAYLOAD client 2 none", "wrong", 3, 9, [0]),
+    "another rule": ("reply SIZE client 0 none", "wrong", 3, 9, [0]),
+    "TileLink's page of a reply": ("reply PAYLOAD pages 1 1 a page", "wrong", 2, 9, [1]),
+    "both of its pages": ("reply PAYLOAD pages 0 2 two pages", "wrong", 1, 18, [2]),
+    "the pages of the other side": ("reply PAYLOAD pages 10 4 none", "wrong", 3, 9, [0]),
+    "the page of a burst": ("axi CROSS_4K pages 11 1 bursts", "wrong", 2, 9, [1]),
+    "a page beside that of a burst": ("axi CROSS_4K pages 12 1 bursts\naxi CROSS_4K pages 10 1 bursts", "wrong", 3, 9, [0, 0]),
+    "all": ("# known\n\nreply PAYLOAD client 0 a\r\n  reply PAYLOAD client 1 b\naxi CROSS_4K pages 11 1 c", "waived", 0, None, [1, 1, 1]),
+    "the first that fits": ("reply PAYLOAD pages 0 2 two\nreply PAYLOAD client 1 none", "wrong", 1, 18, [2, 0]),
+    "no waiver": ("# none", "wrong", 3, 9, []),
+}
+# Files that aren't waivers: a line, and what is told of it.
+NO_WAIVERS = {
+    "a word": ("PAYLOAD", "a line is `KIND RULE client N REASON`"),
+    "no place": ("reply PAYLOAD the old DMA", "a line is `KIND RULE client N REASON`"),
+    "a rule that isn't there": ("reply PAYLOADS client 0 the old DMA", "no rule reply PAYLOADS"),
+    "a rule of another kind": ("axi PAYLOAD pages 0 1 the old DMA", "no rule axi PAYLOAD"),
+    "no reason": ("reply PAYLOAD client 0", "it has no reason"),
+    "no reason behind pages": ("reply PAYLOAD pages 0 1", "it has no reason"),
+    "a client of a rule of the port": ("axi WLAST client 0 the old DMA", "name pages"),
+    "a client beyond 7": ("reply PAYLOAD client 8 the old DMA", "a client is 0 to 7"),
+    "a client that is none": ("reply PAYLOAD client x the old DMA", "a client is 0 to 7"),
+    "no page": ("reply PAYLOAD pages 0 0 the old DMA", "FIRST is a page"),
+    "a page beyond the last": ("reply PAYLOAD pages fffff 2 the old DMA", "FIRST is a page"),
+    "an address": ("reply PAYLOAD pages 0x10 2 the old DMA", "FIRST is a page"),
+    "bytes that are no text": ("reply PAYLOAD client 0 f\udcfcr", "it isn't UTF-8"),
+}
+
+
+def waived(folder: Path, score: str) -> Iterator[Case]:
+    """Wrong lines that are known: how many are left, by each rule and place; and what each waiver waived, in the table and both files."""
+    (folder / "known.lines").write_text(KNOWN)
+    for name, (text, state, left, line, counts) in WAIVERS.items():
+        (folder / "known.waivers").write_text(text)
+        made = Made(folder, score, "known.lines", "--waive", "known.waivers")
+        yield f"waived: {name}", made.wrong(int(state == "wrong"), [state]) or waiving(folder, made, left, line, counts)
+    for name, (text, said) in NO_WAIVERS.items():
+        (folder / "no.waivers").write_bytes(b"# known\nreply SIZE client 0 ok\n" + text.encode(errors="surrogateescape"))
+        made = Made(folder, score, "known.lines", "--waive", "no.waivers")
+        yield f"no waiver: {name}", ended(made, 2, "no.waivers line 3") or (None if said in made.ran.stderr else made.ran.stderr)
+    yield "waivers that aren't there", ended(Made(folder, score, "known.lines", "--waive", "none"), 3, "none: No such file")
+    (folder / "known.waivers").write_text("reply UNANSWERED pages 2 2 slow\naxi UNANSWERED pages 11 1 none\nreply UNANSWERED client 1 lost")
+    made = Made(folder, score, RTL / "runs/reply-lost.lines", "--waive", "known.waivers")  # 00001ff0 of client 0, and 00001fe0 of client 1
+    yield "waived at the end", made.wrong(1, ["wrong"]) or waiving(folder, made, 1, 65, [0, 0, 1])
+    (folder / "known.waivers").write_text("reply UNANSWERED pages 1 1 lost")
+    made = Made(folder, score, RTL / "runs/reply-lost.lines", RIGHT, "--waive", "known.waivers")
+    yield "waived by their pages at the end", made.wrong(0, ["waived", "right"]) or waiving(folder, made, 0, None, [2])
+
+
+def waiving(folder: Path, made: Made, left: int, line: Optional[int], counts: List[int]) -> Optional[str]:
+    """What the files and the table have otherwise of a run with waivers."""
+    run = made.runs[0]
+    if [run[it] for it in ("wrong", "line", "waived")] != [left, line, sum(counts)]:
+        return f"{run}"
+    listed = json.loads((folder / "runs.json").read_text()).get("waivers", [])
+    values = [it.get("value") for it in made.suite.findall("properties/property")]
+    rows = re.findall(r"(?m)^(waived \d+|met nothing): known\.waivers line \d+, ", made.ran.stdout)
+    due = [f"waived {it}" if it else "met nothing" for it in counts]
+    is_well = [it["waived"] for it in listed] == counts and values == rows == due
+    return None if is_well else f"{listed}, {values}, {rows}"
+
+
+def late(folder: Path, score: str) -> Iterator[Case]:
+    """Runs in which something took longer than N: slow where nothing is wrong, and told of wrong ones too."""
+    timed = "".join(KNOWN.splitlines(True)[:7]) + "time 45\nD 0 1 0 3 5 0 1122334455667788 0\n= end\n"  # of 10 to 45
+    (folder / "timed.lines").write_text(timed)
+    made = Made(folder, score, "timed.lines", "--late", 35)
+    yield "nothing took longer than 35", made.wrong(0, ["right"])
+    made = Made(folder, score, "timed.lines", RIGHT, "--late", 34)
+    due = "line 7 client 0 source 5 at 10 answered after 35: Get of 8 bytes at 00000008"
+    why = made.wrong(1, ["slow", "failed"]) or (None if (made.runs[0]["late"], made.runs[0]["first_late"]) == (1, due) else f"{made.runs[0]}")
+    yield "something took longer than 34, and a run without times", why or (None if "no times: " in made.runs[1]["why"] else f"{made.runs[1]}")
+    row = f"slow         4       8/8  1 late, first {due}\n"
+    yield "the table of a slow run", None if row in made.ran.stdout and "1 failed, 0 late, 1 slow; " in made.ran.stdout else made.ran.stdout
+    (folder / "wrong.lines").write_text(timed.replace("1122334455667788 0\n= end", "1122334455667789 0\n= end"))
+    made = Made(folder, score, "wrong.lines", "--late", 34)
+    yield "a wrong run that is slow", made.wrong(1, ["wrong"]) or (None if made.runs[0]["late"] == 1 else f"{made.runs[0]}")
+    (folder / "known.waivers").write_text("reply PAYLOAD client 0 known")
+    made = Made(folder, score, "wrong.lines", "--late", 34, "--waive", "known.waivers")
+    yield "a waived run that is slow", made.wrong(1, ["slow"]) or (None if made.runs[0]["waived"] == 1 else f"{made.runs[0]}")
+    yield "--late 0", ended(Made(folder, score, "wrong.lines", "--late", 0), 6, "--late")
+
+
 def setup_of(folder: Path) -> Path:
     """The set-up of the right run, by itself."""
     path = folder / "setup.lines"
@@ -322,6 +430,8 @@ def cases(folder: Path, score: str) -> Iterator[Case]:
     yield from halfway(folder, score)
     yield from set_up(folder, score)
     yield from lists(folder, score)
+    yield from waived(folder, score)
+    yield from late(folder, score)
 
 
 if __name__ == "__main__":

@@ -17,12 +17,14 @@ import time
 from collections import Counter
 from concurrent.futures import FIRST_COMPLETED, Future, ThreadPoolExecutor, wait
 from pathlib import Path
-from typing import BinaryIO, Callable, Dict, Iterator, List, Optional, Sequence, Set, TextIO, Tuple
+from typing import BinaryIO, Callable, Dict, Iterator, List, NamedTuple, Optional, Sequence, Set, TextIO, Tuple
 from urllib.parse import quote_plus
 
 from .command import Fault, Status, Words, ended, naming, one_line, reason, tell, unexpected, words_of
 from .observation import Verdict, plural, verdict_of
 from .reports import Asked, Job, Outcome, Report, State
+from .times import counting, latencies_of
+from .waivers import Waivers
 
 NAME = "zuldegei-regress"
 MOST_SEEDS, MOST_AT_ONCE, MOST_SECONDS = 1_000_000, 1024, 10**9
@@ -39,12 +41,21 @@ turn. The set-up of --setup is put ahead of each. A run is
   failed     its command failed, or its observation is at fault, or its verdict: one without its last line, with another count of wrong
              lines than that line says, or with another status than its lines have
   late       it took longer than --timeout
+  slow       nothing is wrong, and by --late N a request or a burst in it took longer than N units of its `time` lines
+  waived     all that is wrong in it is waived by --waive FILE
   unjudged   the call was interrupted, or couldn't go on, before this run was judged
 
-Status 0: all are right; 1: one is wrong; 2: none is wrong, and one isn't right; 3: no run could be made, as where tlscore isn't there,
-or a file that was asked for couldn't be written; 6: a word that it doesn't know; 130: interrupted, by SIGINT or SIGTERM. Table, JUnit
-and JSON tell all that was judged, however the call ends, and name the rest. JUnit, JSON and the folder of --keep are opened ahead of
-the first run.
+Status 0: all are right or waived; 1: one is wrong or slow; 2: none is, and one isn't right or waived; 3: no run could be made, as where
+tlscore isn't there, or a file that was asked for couldn't be written; 6: a word that it doesn't know; 130: interrupted, by SIGINT or
+SIGTERM. Table, JUnit and JSON tell all that was judged, however the call ends, and name the rest. JUnit, JSON and the folder of --keep
+are opened ahead of the first run.
+
+A line of --waive FILE is `KIND RULE client N REASON`, or `KIND RULE pages FIRST COUNT REASON` with FIRST in hexadecimal, such as
+
+  reply PAYLOAD client 1 the old DMA reads ahead of its own writes
+  axi CROSS_4K pages 10010 4 its bursts cross pages, and that memory takes them
+
+What each waived, and which met nothing, stands in the table and both files.
 
 With --keep FOLDER the observation and the verdict of each run that isn't right are kept there, for zuldegei-explain, as NAME.lines and
 NAME.told: NAME is the run's, with + for a space and %2F for /, and so for other characters; of a name of more than 100 characters it
@@ -101,11 +112,53 @@ def copied(source: Path, target: BinaryIO, its_name: Path, until: float = float(
                 target.write(chunk)
 
 
+class Beside(NamedTuple):
+    """What a run is asked beside its verdict: that nothing takes longer than `late`, and which wrong lines are waived."""
+
+    late: Optional[int] = None
+    waivers: Optional[Waivers] = None
+
+    def applied(self, made: Outcome, observation: Path, verdict: str) -> Outcome:
+        """A wrong run without what is waived of it, and a right one that may be slow."""
+        if made.state is State.WRONG and self.waivers:
+            made = without_waived(made, self.waivers, observation, verdict)
+        if self.late is not None and made.state in (State.RIGHT, State.WRONG, State.WAIVED):
+            made = with_late(made, self.late, observation)
+        return made
+
+
+def without_waived(made: Outcome, waivers: Waivers, observation: Path, verdict: str) -> Outcome:
+    """A wrong run without the lines that are waived; where it can't be said which are, none is."""
+    try:
+        found = waivers.applied(observation, verdict)
+    except Fault as why:
+        return made._replace(why=f"nothing was waived: {why}")
+    first = found.left[0] if found.left else None
+    told = (first.text[2:], first.line, first.time) if first else ("", None, None)
+    state = State.WRONG if found.left else State.WAIVED
+    made = made._replace(state=state, wrong=len(found.left), waivers=tuple(sorted(found.counts.items())))
+    return made._replace(first=told[0], line=told[1], time=told[2])
+
+
+def with_late(made: Outcome, late: int, observation: Path) -> Outcome:
+    """A run with what took too long; where that can't be said of one in which nothing is wrong, it isn't right either."""
+    try:
+        found = latencies_of(str(observation), late, 1)
+    except Fault as why:
+        why = str(why).replace(f"{observation}: ", "", 1)
+        return made._replace(state=made.state if made.state is State.WRONG else State.FAILED, why=f"no times: {why}")
+    if not found.watch.count:
+        return made
+    first = found.watch.first[0]
+    state = made.state if made.state is State.WRONG else State.SLOW
+    return made._replace(state=state, late=found.watch.count, first_late=f"line {first.beat.line} {first.text(found.now)}")
+
+
 class Runner:
     """Makes runs and has them judged."""
 
-    def __init__(self, score: str, setup: bytes, timeout: float, keeper: Optional[Keeper]):
-        self.score, self.setup, self.timeout, self.keeper = score, setup, timeout, keeper
+    def __init__(self, score: str, setup: bytes, timeout: float, keeper: Optional[Keeper], beside: Beside):
+        self.score, self.setup, self.timeout, self.keeper, self.beside = score, setup, timeout, keeper, beside
         self.running: Set[int] = set()  # the commands that go on, each with all that it began
         self.is_stopped = False
 
@@ -130,7 +183,7 @@ class Runner:
             state, verdict, why = (State.FAILED, "", why) if why else self.judged(joined, began)
         except subprocess.TimeoutExpired:
             state, verdict, why = State.LATE, "", f"it took longer than {self.timeout:g} s"
-        made = told(job, state, verdict, why, time.monotonic() - began)
+        made = self.beside.applied(told(job, state, verdict, why, time.monotonic() - began), joined, verdict)
         if self.keeper and made.state is not State.RIGHT:
             return made._replace(unkept=self.keeper.keep(job.name, joined, verdict))
         return made
@@ -274,7 +327,8 @@ def all_made(asked: Asked, runner: Runner, at_once: int) -> Tuple[Report, Option
         stopped = why
     progress.close()
     name = "" if stopped is None else "interrupted" if isinstance(stopped, KeyboardInterrupt) else type(stopped).__name__
-    return Report(asked, made, time.monotonic() - began, f"regress ended before it was judged: {name}"), stopped
+    waivers = runner.beside.waivers.all if runner.beside.waivers else ()
+    return Report(asked, made, time.monotonic() - began, f"regress ended before it was judged: {name}", waivers), stopped
 
 
 class Output:
@@ -366,6 +420,8 @@ def all_words() -> Words:
     words.add_argument("--timeout", type=float, default=600, metavar="SECONDS", help="for a run and its verdict (600)")
     words.add_argument("--junit", metavar="FILE", help="where JUnit XML goes")
     words.add_argument("--json", metavar="FILE", help="where JSON goes")
+    words.add_argument("--late", type=counting, metavar="N", help="a run in which something took longer than N units of time is slow")
+    words.add_argument("--waive", metavar="FILE", help="wrong lines that are let pass, by rule and client or pages, each with a reason")
     words.add_argument("--keep", metavar="FOLDER", help="where runs that aren't right are kept")
     return words
 
@@ -385,8 +441,9 @@ def work(arguments: Sequence[str]) -> int:
     """Does what the words ask for. What was judged is told, however it ends."""
     given = given_of(arguments)
     score, setup = score_of(given.score), setup_of(given.setup) if given.setup else b""
+    beside = Beside(given.late, Waivers(given.waive) if given.waive else None)
     junit, json, keeper = Output(given.junit), Output(given.json), Keeper(Path(given.keep)) if given.keep else None
-    runner = Runner(score, setup, given.timeout, keeper)
+    runner = Runner(score, setup, given.timeout, keeper, beside)
     report, stopped = all_made(Asked(given.runs, given.command, given.seeds), runner, given.jobs)
     failures = [junit.write(report.junit()), json.write(report.json()), printed(report.table()), unkept(report)]
     said = "; ".join(filter(None, failures))

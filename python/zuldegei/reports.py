@@ -4,11 +4,13 @@ import enum
 import itertools
 import json
 import textwrap
+from collections import Counter
 from dataclasses import dataclass
-from typing import Dict, Iterator, List, NamedTuple, Optional, Sequence
+from typing import Dict, Iterator, NamedTuple, Optional, Sequence, Tuple
 from xml.etree import ElementTree
 
 from .command import Status, one_line
+from .waivers import Waiver
 
 MOST_NAMED, LONGEST = 20, 4096  # runs that weren't judged and that the table names, and characters of a name
 
@@ -21,7 +23,13 @@ class State(enum.Enum):
     NOTHING = "nothing"
     FAILED = "failed"
     LATE = "late"
+    SLOW = "slow"
+    WAIVED = "waived"
     UNJUDGED = "unjudged"
+
+
+# States that are named only where there is one.
+SELDOM = (State.SLOW, State.WAIVED, State.UNJUDGED)
 
 
 class Job(NamedTuple):
@@ -71,14 +79,25 @@ class Outcome(NamedTuple):
     time: Optional[int] = None
     why: str = ""  # of a run that couldn't be judged
     unkept: str = ""  # why its files couldn't be kept
+    waivers: Tuple[Tuple[int, int], ...] = ()  # of each waiver that waived any line its place, and how many
+    late: int = 0  # requests and bursts that took too long
+    first_late: str = ""  # the first of them
+
+    @property
+    def waived(self) -> int:
+        """How many of its wrong lines were waived."""
+        return sum(count for _, count in self.waivers)
 
     def said(self) -> str:
         """Why it isn't right, in one line."""
-        return one_line("; ".join(filter(None, (self.why, self.first))))
+        waived = f"{self.waived} waived" if self.waived else ""
+        late = f"{self.late} late, first {self.first_late}" if self.late else ""
+        return one_line("; ".join(filter(None, (self.why, self.first, waived, late))))
 
     def entry(self) -> Dict[str, object]:
         """What the JSON has of it."""
-        kept = {name: getattr(self, name) for name in ("beats", "wrong", "compared", "told", "first", "line", "time", "why")}
+        names = ("beats", "wrong", "compared", "told", "first", "line", "time", "why", "waived", "late", "first_late")
+        kept = {name: getattr(self, name) for name in names}
         return {"run": self.job.name, "seed": self.job.seed, "status": self.state.value, "seconds": round(self.seconds, 3), **kept}
 
 
@@ -90,6 +109,7 @@ class Report:
     made: Dict[int, Outcome]
     seconds: float
     stopped: str = ""
+    waivers: Sequence[Waiver] = ()
 
     def outcomes(self) -> Iterator[Outcome]:
         """What came of each run, in the order in which they were asked for."""
@@ -103,9 +123,16 @@ class Report:
 
     def status(self) -> Status:
         """The status of all runs together."""
-        if self.count(State.WRONG):
+        if self.count(State.WRONG) or self.count(State.SLOW):
             return Status.WRONG
-        return Status.DONE if self.count(State.RIGHT) == len(self.asked) else Status.FAULT
+        return Status.DONE if self.count(State.RIGHT) + self.count(State.WAIVED) == len(self.asked) else Status.FAULT
+
+    def met(self) -> Iterator[Tuple[Waiver, int]]:
+        """Each waiver, and how many lines it waived."""
+        counts: "Counter[int]" = Counter()
+        for it in self.made.values():
+            counts.update(dict(it.waivers))
+        return ((it, counts[place]) for place, it in enumerate(self.waivers))
 
     # ---- the table
 
@@ -119,6 +146,8 @@ class Report:
             compared = f"{it.compared}/{it.told}"
             yield f"{name_of(it):{wide}}  {it.state.value:7}{it.beats:7}  {compared:>8}  {it.said()}\n"
         yield from self.unjudged()
+        for waiver, count in self.met():
+            yield f"{f'waived {count}' if count else 'met nothing'}: {waiver_text(waiver)}\n"
         yield f"{len(self.asked)} runs: {self.counts()}\n"
 
     def unjudged(self) -> Iterator[str]:
@@ -131,7 +160,7 @@ class Report:
 
     def counts(self) -> str:
         """How many runs ended in which way, and how much was looked at."""
-        states = [it for it in State if it is not State.UNJUDGED or self.count(it)]
+        states = [it for it in State if it not in SELDOM or self.count(it)]
         beats, compared, told = (sum(getattr(it, name) for it in self.made.values()) for name in ("beats", "compared", "told"))
         ends = ", ".join(f"{self.count(it)} {it.value}" for it in states)
         return f"{ends}; {beats} beats, {compared} of {told} bytes compared"
@@ -139,17 +168,23 @@ class Report:
     # ---- files
 
     def junit(self) -> Iterator[str]:
-        """JUnit XML: a wrong run is a failure, one that couldn't be judged, or wasn't, an error."""
-        wrong, right, count = self.count(State.WRONG), self.count(State.RIGHT), len(self.asked)
-        counts = f'tests="{count}" failures="{wrong}" errors="{count - wrong - right}" time="{self.seconds:.3f}"'
-        yield f'<?xml version="1.0" encoding="utf-8"?>\n<testsuites {counts}>\n<testsuite name="tlscore" {counts} skipped="0">\n'
+        """JUnit XML: a wrong run or a slow one is a failure, one that is waived is skipped, and one that couldn't be judged, or wasn't, an
+        error. What each waiver waived is a property."""
+        bad, waived, count = self.count(State.WRONG) + self.count(State.SLOW), self.count(State.WAIVED), len(self.asked)
+        errors = count - bad - waived - self.count(State.RIGHT)
+        counts = f'tests="{count}" failures="{bad}" errors="{errors}" time="{self.seconds:.3f}"'
+        yield f'<?xml version="1.0" encoding="utf-8"?>\n<testsuites {counts}>\n<testsuite name="tlscore" {counts} skipped="{waived}">\n'
+        if self.waivers:
+            yield f"{ElementTree.tostring(properties_of(self.met()), encoding='unicode')}\n"
         for it in self.outcomes():
             yield f"{ElementTree.tostring(case_of(it), encoding='unicode')}\n"
         yield "</testsuite>\n</testsuites>\n"
 
     def json(self) -> Iterator[str]:
-        """JSON: the seconds of all, and an entry for each run."""
-        yield f'{{\n "seconds": {round(self.seconds, 3)},\n "runs": ['
+        """JSON: the seconds of all, what each waiver waived, and an entry for each run."""
+        waivers = [{"place": it.place, "what": it.what(), "reason": it.reason, "waived": count} for it, count in self.met()]
+        listed = f' "waivers": {json.dumps(waivers)},\n' if self.waivers else ""
+        yield f'{{\n "seconds": {round(self.seconds, 3)},\n{listed} "runs": ['
         for at, it in enumerate(self.outcomes()):
             yield f"{',' if at else ''}\n{textwrap.indent(json.dumps(it.entry(), indent=1), '  ')}"
         yield "\n ]\n}\n"
@@ -160,12 +195,27 @@ def name_of(it: Outcome) -> str:
     return one_line(it.job.name, LONGEST)
 
 
+def waiver_text(it: Waiver) -> str:
+    """A waiver in one line."""
+    return one_line(f"{it.place}, {it.what()}: {it.reason}")
+
+
+def properties_of(met: Iterator[Tuple[Waiver, int]]) -> ElementTree.Element:
+    """What each waiver waived, in JUnit XML."""
+    properties = ElementTree.Element("properties")
+    for waiver, count in met:
+        ElementTree.SubElement(properties, "property", {"name": waiver_text(waiver), "value": f"waived {count}" if count else "met nothing"})
+    return properties
+
+
 def case_of(it: Outcome) -> ElementTree.Element:
     """A run in JUnit XML."""
     names = {"classname": "tlscore", "name": name_of(it), "time": f"{it.seconds:.3f}"}
     case = ElementTree.Element("testcase", names)
-    if it.state is not State.RIGHT:
-        kind = "failure" if it.state is State.WRONG else "error"
+    if it.state is State.WAIVED:
+        ElementTree.SubElement(case, "skipped", {"message": it.said()})
+    elif it.state is not State.RIGHT:
+        kind = "failure" if it.state in (State.WRONG, State.SLOW) else "error"
         ElementTree.SubElement(case, kind, {"type": it.state.value, "message": it.said()}).text = it.said()
     out = f"beats {it.beats}, wrong {it.wrong}, compared {it.compared} of {it.told} bytes"
     ElementTree.SubElement(case, "system-out").text = out + (f", seed {it.job.seed}" if it.job.seed is not None else "")

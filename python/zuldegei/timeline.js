@@ -1,12 +1,12 @@
 "use strict";
 // Draws the requests and bursts of an observation in a window of time. DATA has `rows`, the names of the lines of the picture;
 // `bars`, each [row, kind, label, begin, end, beats]; a beat is [time, line, isReply]; `wrong`, each [time, line, text, row of its own
-// or -1, when what is behind it began, first lines of that]; `lines`, the text of each line; `resets`, times; `texts`, what is said of
-// the wrong beats.
+// or -1, when what is behind it began, first lines of that]; `lines`, the text of each line; `resets`, times; `late`, the first lines of
+// the bars that took too long; `texts`, what is said of the wrong beats.
 const DATA = JSON.parse(document.getElementById("data").textContent);
 const LEFT = 150, TOP = 18, HIGH = 20, MOST = 4000;
 const SVG = "http://www.w3.org/2000/svg";
-const wrongLines = new Set(DATA.wrong.map(it => it[1]));
+const wrongLines = new Set(DATA.wrong.map(it => it[1])), lateLines = new Set(DATA.late);
 const ends = DATA.bars.reduce((most, it) => Math.max(most, it[4]), DATA.wrong.reduce((most, it) => Math.max(most, it[0]), 1));
 const begins = DATA.bars.reduce((least, it) => Math.min(least, it[3]), ends - 1);
 let from = begins, to = ends, at = -1, behind = new Set();
@@ -49,6 +49,7 @@ function drawBar(svg, bar, y, x) {
   const group = described(element(svg, "g", {}), beats.map(it => it[1]));
   const look = "bar " + kind + (isBehind ? " behind" : "") + (blamed ? " blamed" : "");
   element(group, "rect", { class: look, x: left, y: y + 2, width: wide, height: HIGH - 5 });
+  if (lateLines.has(beats[0][1])) element(group, "rect", { class: "late", x: left - 2, y: y, width: wide + 4, height: HIGH - 1, rx: 4 });
   if (wide > label.length * 6.8) element(group, "text", { x: left + 3, y: y + 12 }, label);
   for (const [time, line, isReply] of beats) {
     const place = x(time) + 1.5;
@@ -99,6 +100,7 @@ function drawHead(left) {
   const said = head.appendChild(document.createElement("b"));
   said.className = count ? "wrong" : "right";
   said.textContent = count ? `${count} wrong: line ${shown[2].slice(8)}` : "nothing is wrong";
+  if (DATA.late.length) head.appendChild(document.createElement("span")).textContent = `${DATA.late.length} took too long`;
   for (const [name, act] of Object.entries({ first, previous, next, "zoom in": zoomIn, "zoom out": zoomOut, all })) {
     const button = head.appendChild(document.createElement("button"));
     button.textContent = name;

@@ -85,8 +85,9 @@ class Timeline:
             client, source = (int(it) if it.isdigit() else None for it in (words[1], words[5]))
         return self.index.last_of(client, source, wrong.line, wrong.name in AT_END)
 
-    def data(self, texts: List[str], causes: Sequence[Sequence[object]]) -> dict:
-        """All that the page's script draws; `causes` has what is behind each of the first wrong beats."""
+    def data(self, texts: List[str], causes: Sequence[Sequence[object]], late: Sequence[int]) -> dict:
+        """All that the page's script draws; `causes` has what is behind each of the first wrong beats, `late` the first lines of what took
+        too long."""
         bars = [self.request_bar(it) for it in self.history.requests] + [self.burst_bar(it) for it in self.history.bursts]
         resets = [self.time(it.line) for it in self.history.events if it.name == "reset"]
         return {
@@ -95,15 +96,18 @@ class Timeline:
             "wrong": [self.mark(it, behind) for it, behind in zip(self.verdict.wrong, itertools.chain(causes, itertools.repeat(())))],
             "lines": self.observation.lines,
             "resets": resets,
+            "late": list(late),
             "texts": texts,
         }
 
 
 def page(
-    history: History, verdict: Verdict, texts: List[str], causes: Sequence[Sequence[object]], title: str, index: Optional[Index] = None
-) -> str:
+    history: History, verdict: Verdict, texts: List[str], causes: Sequence[Sequence[object]], title: str,
+    index: Optional[Index] = None, late: Sequence[int] = (),
+) -> str:  # fmt: skip
     """The page of a time line."""
-    data = json.dumps(Timeline(history, verdict, index or Index(history)).data(texts, causes), separators=(",", ":")).replace("<", "\\u003c")
+    drawn = Timeline(history, verdict, index or Index(history)).data(texts, causes, late)
+    data = json.dumps(drawn, separators=(",", ":")).replace("<", "\\u003c")
     escaped = title.replace("&", "&amp;").replace("<", "&lt;")
     return Template((HERE / "timeline.html").read_text()).substitute(
         TITLE=escaped, DATA=data, SCRIPT=(HERE / "timeline.js").read_text()
