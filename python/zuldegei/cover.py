@@ -5,7 +5,7 @@ from pathlib import Path
 from typing import Sequence
 
 from .command import Status, ended, naming, words_of
-from .cover_page import Page
+from .cover_page import Page, in_ascii
 from .cover_read import Reader
 from .cover_report import Cover, Shown, cover_of, cover_of_json, withouts_of
 from .whole import written
@@ -59,7 +59,7 @@ def work(arguments: Sequence[str]) -> int:
             file.write(cover.json())
     if given.html:
         with written(given.html) as file:
-            file.write(Page(shown, given.html).text())
+            file.write(in_ascii(Page(shown, given.html).text()))
     if given.lcov:
         shown.lcov(given.lcov)
     return Status.DONE

@@ -195,12 +195,15 @@ def reset(setup: Setup) -> Iterator[str]:
     return (it for it in RESETS if is_there.get(it, True))
 
 
+def several(setup: Setup) -> List[str]:
+    """The ports at which a message or burst may have several beats."""
+    clients = [it for it in setup.clients if setup.has_long and setup.config.levels[it] == "h"]
+    ports = [f"A{it}" for it in clients if "put" in setup.kinds] + [f"D{it}" for it in clients if "get" in setup.kinds]
+    return ports + [port for port, side in (("W", "AW"), ("R", "AR")) if side in setup.sides and setup.transfers(side) > 1]
+
+
 def gap(setup: Setup) -> Iterator[str]:
-    has_puts, has_gets = "put" in setup.kinds, "get" in setup.kinds
-    long_clients = [it for it in setup.clients if setup.has_long and setup.config.levels[it] == "h"]
-    ports = [f"A{it}" for it in long_clients if has_puts] + [f"D{it}" for it in long_clients if has_gets]
-    ports += [port for port, side in (("W", "AW"), ("R", "AR")) if side in setup.sides and setup.transfers(side) > 1]
-    return names(ports, [*(name for _, name in CLOCKS_BETWEEN), OTHERS_BETWEEN])
+    return names(several(setup), [*(name for _, name in CLOCKS_BETWEEN), OTHERS_BETWEEN])
 
 
 def together(setup: Setup) -> Iterator[str]:
@@ -215,8 +218,7 @@ def wait(setup: Setup) -> Iterator[str]:
     ports = [f"{channel}{it}" for channel in "AD" for it in setup.clients]
     ports += ["AW", "W", "B"] * ("AW" in setup.sides) + ["AR", "R"] * ("AR" in setup.sides)
     yield from names(ports, [*(name for _, name in CLOCKS_WAITED), OTHERS_WAITED])
-    yield from names([port for port, side in (("W", "AW"), ("R", "AR")) if side in setup.sides and setup.transfers(side) > 1], ["within"])
-    yield from names([it for it in ports if it[0] in "AD" and it[1:].isdigit() and setup.has_long], ["within"])
+    yield from names(several(setup), ["within"])
 
 
 class Group(NamedTuple):

@@ -4,11 +4,12 @@ import html
 import os
 from pathlib import Path
 from string import Template
-from typing import Dict, Iterator, List, Optional
+from typing import Dict, Iterator, Optional
+from urllib.parse import quote
 
-from .cover_report import Count, Row, Shown, First, percent, why_none
+from .cover_report import Count, First, Row, Shown, percent, why_none
 
-HERE = Path(__file__).parent
+FORM = Path(__file__).with_name("cover.html")
 FEW = 3  # a bin that was reached less often is marked
 
 
@@ -31,7 +32,7 @@ class Page:
         if first is None:
             return "never"
         text, link = html.escape(f"{first.run}:{first.line}"), self.link(first.run)
-        return f'<a href="{html.escape(url(link))}">{text}</a>' if link else text
+        return f'<a href="{html.escape(quote(link))}">{text}</a>' if link else text
 
     def square(self, name: str, count: Count) -> str:
         """A bin as a square: its name, how often it was reached and where first on pointing, and a link to that run."""
@@ -39,7 +40,7 @@ class Page:
         first = f", first in {count.first.run}:{count.first.line}" if count.first else ""
         title = html.escape(f"{name}: {count.count}{first}")
         link = self.link(count.first.run) if count.first else None
-        href = f' href="{html.escape(url(link))}"' if link else ""
+        href = f' href="{html.escape(quote(link))}"' if link else ""
         return f'<a class="{kind}"{href} title="{title}" aria-label="{title}"></a>'
 
     def row(self, row: Row) -> str:
@@ -64,7 +65,7 @@ class Page:
 
     def text(self) -> str:
         missed = "".join(f"<li>{html.escape(it)}</li>\n" for it in self.shown.missed) or "<li>none</li>"
-        return Template((HERE / "cover.html").read_text()).substitute(
+        return Template(FORM.read_text()).substitute(
             TOTAL=html.escape(self.shown.total()),
             GROUPS=joined(self.row(it) for it in self.shown.groups()),
             RULES=joined(self.row(it) for it in self.shown.rules()),
@@ -79,8 +80,6 @@ def joined(parts: Iterator[str]) -> str:
     return "\n".join(parts)
 
 
-def url(path: str) -> str:
-    """A path as a link that is relative to the page."""
-    from urllib.parse import quote
-
-    return quote(path)
+def in_ascii(text: str) -> str:
+    """A text whose other characters stand as numbers, so that it can be written in any encoding."""
+    return text.encode("ascii", "xmlcharrefreplace").decode()

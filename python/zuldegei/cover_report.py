@@ -16,6 +16,7 @@ from .whole import written
 FORMAT = "zuldegei-cover"
 VERSION = 1
 NAMED = 4  # bins that a row of the table names
+NAME = re.compile(r"[a-z-]+/[\w+/-]+", re.ASCII)
 PART = re.compile(r"(\d+)")
 
 
@@ -87,10 +88,17 @@ def cover_of_json(text: str, name: str) -> Cover:
         found = json.loads(text)
         if found[FORMAT] != VERSION:
             raise ValueError("another format")
-        counts = [{it: count_of(entry) for it, entry in found[part].items()} for part in ("bins", "beside")]
+        counts = [{a_name(it): count_of(entry) for it, entry in found[part].items()} for part in ("bins", "beside")]
         return Cover(natural(found["runs"]), natural(found["beats"]), *counts)
     except (ValueError, TypeError, KeyError, AttributeError, RecursionError) as why:
         raise Fault(f"{name} isn't what zuldegei-cover --json writes") from why
+
+
+def a_name(name: str) -> str:
+    """A name that a bin may have."""
+    if not NAME.fullmatch(name) or name.partition("/")[0] not in RANK:
+        raise ValueError(name)
+    return name
 
 
 def natural(value: object) -> int:
