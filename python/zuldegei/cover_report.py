@@ -15,7 +15,7 @@ from .whole import written
 
 FORMAT = "zuldegei-cover"
 VERSION = 1
-NAMED = 4  # bins that a row of the table names
+NAMED = 3  # bins that a row of the table names
 NAME = re.compile(r"[a-z-]+/[\w+/-]+", re.ASCII)
 PART = re.compile(r"(\d+)")
 
