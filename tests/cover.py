@@ -136,7 +136,7 @@ def tables() -> Iterator[Case]:
     for rule, patterns in CORNERS.items():
         empty = [it for it in patterns if not any(fnmatchcase(name, it) for name in names)]
         yield f"the corners of {rule}", f"no bin is like {', '.join(empty)}" if empty or not patterns else None
-    page = GROUP.findall((TOP / "docs/COVERAGE.md").read_text())
+    page = [*dict.fromkeys(GROUP.findall((TOP / "docs/COVERAGE.md").read_text()))]
     yield "the groups of docs/COVERAGE.md", None if page == [it.name for it in GROUPS] else f"it has {page}"
 
 
@@ -269,13 +269,14 @@ def lcov(folder: Path, bins: Dict[str, list]) -> Iterator[Case]:
 def without(folder: Path) -> Iterator[Case]:
     """Bins that are left out, by patterns and with reasons."""
     shutil.copy(CASES / "source.lines", folder)
-    lines = ("# reasons", "without source/of-* one client at a time", "without wait/* nobody prints them", "without reset/i* no reset")
+    lines = ("# reasons", "without source/of-* one client at a time", "without wait/* nobody prints them", "without reset/idle no reset")
     (folder / "out.lines").write_text("\n".join(lines))
     all_, ran = (command("cover", "source.lines", *more, cwd=folder) for more in ((), ("--without", "out.lines", "--html", "out.html")))
     before, after = (re.search(r": (\d+) of (\d+) bins", it.stdout) for it in (all_, ran))
     due = (int(before[1]) - 1, int(before[2]) - 2)
     yield "bins that are left out", None if (int(after[1]), int(after[2])) == due and "\n2 bins left out\n" in ran.stdout else ran.stdout
-    yield "one that was reached all the same", None if "line 2: 1 bin left out and reached all the same: source/of-two-clients" in ran.stdout else ran.stdout
+    due_line = "line 2: 1 bin left out and reached all the same: source/of-two-clients"
+    yield "one that was reached all the same", None if due_line in ran.stdout else ran.stdout
     yield "a pattern without a bin", None if "line 3: no bin that is left has a name like wait/*" in ran.stdout else ran.stdout
     text = (folder / "out.html").read_text()
     yield "the reasons on the page", None if "<td>one client at a time</td>" in text else "they aren't there"
@@ -288,22 +289,23 @@ def without(folder: Path) -> Iterator[Case]:
 
 def fault(ran: subprocess.CompletedProcess, status: int, said: str) -> Optional[str]:
     """How a call didn't end with a status and one line that says this."""
-    is_right = ran.returncode == status and ran.stderr.count("\n") == 1 and ran.stderr.startswith("zuldegei-cover: ") and said in ran.stderr
-    return None if is_right else f"status {ran.returncode}, {ran.stderr[-300:]!r}"
+    is_one_line = ran.stderr.count("\n") == 1 and ran.stderr.startswith("zuldegei-cover: ")
+    return None if ran.returncode == status and is_one_line and said in ran.stderr else f"status {ran.returncode}, {ran.stderr[-300:]!r}"
 
 
 def faults(folder: Path) -> Iterator[Case]:
     """Calls that can't be carried out."""
     odd = {
         "empty.lines": "", "beat.lines": f"{WIDE}A 0 4\n", "late.lines": f"{WIDE}B 0 OKAY\nregion 20 1 30 gpah\n",
-        "two.lines": WIDE + WIDE, "range.lines": WIDE.replace("config 2 4 4 4", "config 2 4 4000000000 4"), "levels.lines": WIDE.replace("lh", "lhl"),
-        "port.lines": f"{WIDE}waited A9 3\n", "text.json": "{", "other.json": "{}", "old.json": f'{{"{FORMAT}": 0}}',
+        "two.lines": WIDE + WIDE, "range.lines": WIDE.replace("config 2 4 4 4", "config 2 4 4000000000 4"),
+        "levels.lines": WIDE.replace("lh", "lhl"), "port.lines": f"{WIDE}waited A9 3\n", "text.json": "{", "other.json": "{}",
+        "old.json": f'{{"{FORMAT}": 0}}',
         "count.json": f'{{"{FORMAT}": 1, "runs": 1, "beats": 1, "bins": {{"id/AW/1": [-1, "a", 1]}}, "beside": {{}}}}',
         "name.json": f'{{"{FORMAT}": 1, "runs": 1, "beats": 1, "bins": {{"../x": [0]}}, "beside": {{}}}}',
     }  # fmt: skip
     due = {
-        "empty.lines": "no config line", "beat.lines": "line 9", "late.lines": "line 10", "two.lines": "line 9", "range.lines": "IDS is 4000000000",
-        "levels.lines": "LEVELS", "port.lines": "line 9",
+        "empty.lines": "no config line", "beat.lines": "line 9", "late.lines": "line 10", "two.lines": "line 9",
+        "range.lines": "IDS is 4000000000", "levels.lines": "LEVELS", "port.lines": "line 9",
     }  # fmt: skip
     for name, text in odd.items():
         (folder / name).write_text(text)

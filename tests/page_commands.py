@@ -1,7 +1,8 @@
-"""Runs the commands that README.md, docs/TESTBENCH.md, docs/COVERAGE.md, python/README.md and interfaces/README.md show, each block of `shell` in turn at
-the top of the repository, those of README.md in a folder that is laid out as an unpacked archive, and compares what they print, and the
-last status, with the block of `printed` behind it. A block that needs a program which isn't installed, or the library where it isn't
-built, is left out, and named. (Those of docs/INSTALL.md are tried by installed.py, in an archive, as are those of README.md once more.)
+"""Runs the commands that README.md, docs/TESTBENCH.md, docs/COVERAGE.md, python/README.md and interfaces/README.md show, each block of
+`shell` in turn at the top of the repository, those of README.md in a folder that is laid out as an unpacked archive, and compares what
+they print, and the last status, with the block of `printed` behind it. A block that needs a program which isn't installed, or the library
+where it isn't built, is left out, and named. (Those of docs/INSTALL.md are tried by installed.py, in an archive, as are those of README.md
+once more.)
 
     python3 tests/page_commands.py TLSCORE
 """

@@ -306,6 +306,6 @@ CORNERS: Dict[str, Tuple[str, ...]] = {
 
 
 def bins_of(setup: Setup, lines: Sequence[str]) -> List[str]:
-    """The names of the bins that a set-up has; `lines` names the kinds of lines that the observation had, of those that a group may need."""
+    """The names of the bins that a set-up has; `lines` names the lines that the observation had, of those that a group may need."""
     groups = [it for it in GROUPS if it.needs is None or it.needs in lines]
     return [f"{it.name}/{name}" for it in groups for name in it.bins(setup)]

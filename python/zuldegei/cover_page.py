@@ -7,6 +7,7 @@ from string import Template
 from typing import Dict, Iterator, Optional
 from urllib.parse import quote
 
+from .cover_bins import CORNERS
 from .cover_report import Count, First, Row, Shown, percent, why_none
 
 FORM = Path(__file__).with_name("cover.html")
@@ -47,9 +48,11 @@ class Page:
         """A group or a rule with its bins."""
         head = f'<tr><th scope="row" title="{html.escape(row.says)}">{html.escape(row.name)}</th>'
         if not row.bins:
-            return f'{head}<td>-</td><td></td><td class="bins">{html.escape(why_none(row.name) if "/" not in row.says else "no corner here")}</td></tr>'
+            why = "no corner is left" if row.name in CORNERS else why_none(row.name)
+            return f"{head}<td>-</td><td></td><td>{html.escape(why)}</td></tr>"
         squares = "".join(self.square(it, self.shown.counts[it]) for it in row.bins)
-        return f'{head}<td>{row.hit} of {len(row.bins)}</td><td>{percent(row.hit, len(row.bins))} %</td><td class="bins">{squares}</td></tr>'
+        counts = f"<td>{row.hit} of {len(row.bins)}</td><td>{percent(row.hit, len(row.bins))} %</td>"
+        return f'{head}{counts}<td class="bins">{squares}</td></tr>'
 
     def names(self) -> Iterator[str]:
         """Each bin with its count and where it was reached first."""

@@ -200,7 +200,8 @@ class Shown:
     def total(self) -> str:
         """The last line."""
         count, hit = len(self.counts), len(self.counts) - len(self.missed)
-        return f"{plural(self.cover.runs, 'run')}, {plural(self.cover.beats, 'beat')}: {hit} of {plural(count, 'bin')}, {percent(hit, count)} %"
+        read = f"{plural(self.cover.runs, 'run')}, {plural(self.cover.beats, 'beat')}"
+        return f"{read}: {hit} of {plural(count, 'bin')}, {percent(hit, count)} %"
 
     def notes(self) -> Iterator[str]:
         """What is said of bins that are left out, and of those that no set-up has."""
