@@ -24,8 +24,8 @@ class Page:
     def link(self, run: str) -> Optional[str]:
         """Where a run is shown: the page beside it that zuldegei-explain drew, or else its lines, if they are there."""
         if run not in self.links:
-            shown = next((it for it in (Path(run).with_suffix(".html"), Path(run)) if it.is_file()), None) if run else None
-            self.links[run] = os.path.relpath(shown.resolve(), self.folder) if shown else None
+            shown = next(filter(os.path.isfile, (f"{os.path.splitext(run)[0]}.html", run)), None)
+            self.links[run] = os.path.relpath(os.path.realpath(shown), self.folder) if shown else None
         return self.links[run]
 
     def place(self, first: Optional[First]) -> str:

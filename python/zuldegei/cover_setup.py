@@ -4,7 +4,7 @@ from functools import lru_cache
 from typing import Dict, Iterator, List, NamedTuple, Optional, Sequence, Tuple
 
 from .command import Fault
-from .observation import GET, LAST_WITH_DATA, OPERATIONS, PAGE, PERMITS, WORD, Observation, Region
+from .observation import LAST_WITH_DATA, OPERATIONS, PAGE, PERMITS, WORD, Observation, Region
 
 KIND = {"PutFull": "put", "PutPartial": "put", "Arithmetic": "atomic", "Logical": "atomic", "Get": "get", "Intent": "intent"}
 KINDS = tuple(KIND[it] for it in OPERATIONS)  # by opcode
@@ -164,7 +164,7 @@ PARAMS = {
     "Logical": ("XOR", "OR", "AND", "SWAP"),
     "Intent": ("PrefetchRead", "PrefetchWrite"),
 }
-LARGEST_PARAMS = [len(PARAMS.get(it, "0")) - 1 for it in OPERATIONS]
+LARGEST_PARAMS = [len(PARAMS.get(it, ("none",))) - 1 for it in OPERATIONS]
 
 
 def permits(region: Region, operation: str) -> bool:
@@ -186,6 +186,3 @@ def beats_of(opcode: int, size: int) -> int:
 
 def replies_of(opcode: int, size: int) -> int:
     return max(1, (1 << size) // WORD) if KINDS[opcode] in ("get", "atomic") else 1
-
-
-assert OPERATIONS[GET] == "Get"
