@@ -1,8 +1,9 @@
 """What zuldegei-cover finds in observations. Of one written by hand for each group (tests/cover) all bins of the group, how often each was
 reached and in which line first, as the file beside it has them; each of these observations is right by tlscore. Beats that break a rule
-reach no bin of a request. Merging in any order and any parts gives the same file. The corners of each rule of docs/RULES.md, and the groups
-of docs/COVERAGE.md. What genhtml, lcov and Chromium make of what it writes, where they are installed. Its words, its faults and its files.
-Its speed, and that a longer run takes no more room.
+reach no bin of a request; no history of score_cases.py is refused, and no right one reaches what its set-up hasn't. Merging in any order
+and any parts gives the same file. The corners of each rule of docs/RULES.md, and the groups of docs/COVERAGE.md. What genhtml, lcov and
+Chromium make of what it writes, where they are installed. Its words, its faults and its files. Its speed, and that a longer run takes no
+more room.
 
     python3 tests/cover.py TLSCORE
 """
@@ -24,7 +25,9 @@ from pathlib import Path
 from typing import Dict, Iterator, List, Optional, Tuple
 
 from ends import told
+from score_cases import all_cases
 from waves import RTL, TOP, command
+from zuldegei.command import Fault
 from zuldegei.cover_bins import CORNERS, GROUPS, bins_of
 from zuldegei.cover_read import Reader
 from zuldegei.cover_report import FORMAT, Cover, cover_of, cover_of_json
@@ -119,6 +122,23 @@ def broken(score: str) -> Iterator[Case]:
     later = "A 1 0 0 4 0 00000000 ff 0 0\nA 1 0 0 4 1 00000000 ff 0 0\nA 1 0 0 4 0 00000000 ff 0 0\n"
     gaps = [it for it in read(f"{WIDE}time 1\n{later}time 2\n").hits.found if it.startswith("flight/all")]
     yield "a later beat of another source begins nothing", None if gaps == ["flight/all/1"] else str(gaps)
+
+
+def histories() -> Iterator[Case]:
+    """The observations of score_cases.py that the scoreboard reads to their end: none is refused, and what a right one reaches its set-up
+    has."""
+    count = 0
+    for name, given, status, *_ in all_cases():
+        if status > 1:
+            continue
+        count += status == 0
+        try:
+            beside = sorted(cover_of(name, read(given.decode())).beside)
+        except Fault as why:
+            beside = [str(why)]
+        if beside and (status == 0 or beside[0].startswith("line")):
+            yield name, ", ".join(beside)
+    yield "histories of the scoreboard", None if count > 20 else f"{count} of them are right"
 
 
 def tables() -> Iterator[Case]:
@@ -362,6 +382,7 @@ def long_runs() -> Iterator[Case]:
 def cases(score: str) -> Iterator[Case]:
     yield from by_hand(score)
     yield from broken(score)
+    yield from histories()
     yield from tables()
     yield from merging()
     for part in (outputs, without, faults):

@@ -8,7 +8,7 @@ from .cover_setup import Setup
 from .cover_times import Hits, Times
 from .observation import PAGE
 
-INCR, REFUSED = 1, "EXOKAY"
+INCR, RESPONSES = 1, ("OKAY", "SLVERR", "DECERR")  # EXOKAY is never right, and others aren't known
 OPEN_BEYOND = 2  # times DEPTH: as many bursts of an ID are followed, as tlscore does
 
 
@@ -108,7 +108,7 @@ class Port:
     def answer(self, words: Sequence[str], line: int, time: Optional[int]) -> None:
         """Takes a B, which answers the oldest write of its ID."""
         mine = self.of_id.get(("AW", int(words[0])))
-        if not mine or not mine[0].is_whole or words[1] == REFUSED:
+        if not mine or not mine[0].is_whole or words[1] not in RESPONSES:
             return
         self.hit(f"answer/B/{words[1]}", line)
         self.close(mine.popleft(), "axi/B-out-of-order", line)
@@ -117,7 +117,7 @@ class Port:
     def read(self, words: Sequence[str], line: int, time: Optional[int]) -> None:
         """Takes an R beat, which is of the oldest read of its ID."""
         mine = self.of_id.get(("AR", int(words[0])))
-        if not mine or words[2] == REFUSED or (int(words[3]) == 1) != (mine[0].passed + 1 == mine[0].transfers):
+        if not mine or words[2] not in RESPONSES or (int(words[3]) == 1) != (mine[0].passed + 1 == mine[0].transfers):
             return
         burst = mine[0]
         self.hit(f"answer/R/{words[2]}/{'later' if burst.passed else 'first'}", line)

@@ -10,6 +10,7 @@ from .cover_times import Hits, Times
 from .observation import OPERATIONS, PAGE, PERMITS, WORD
 
 PUT_FULL, PUT_PARTIAL, MASK_OF_A_WORD = 0, 1, 0xFF
+INTENT, WITH_REPLY_DATA = "intent", ("get", "atomic")
 REMEMBERED = 16  # requests whose replies have ended
 BLOCK = 32  # bytes within which two requests lie beside each other
 
@@ -130,7 +131,7 @@ class Requests:
             kind = NOT_PERMITTED
         else:
             kind = place.kind
-            if self.setup.bad and kind != ABSENT and self.has_bad_word(request):
+            if self.setup.bad and kind != ABSENT and request.kind != INTENT and self.has_bad_word(request):
                 self.hit(f"bad-word/{operation}", line)
         self.hit(f"standing/{operation}/{'beats' if 1 << request.size > WORD else 'word'}/{kind}", line)
 
@@ -159,7 +160,9 @@ class Requests:
 
     def conflicts(self, request: Request, line: int) -> None:
         """The requests in flight whose bytes meet its own, or lie beside them."""
-        for old in self.on_page.get(request.first // PAGE, ()):
+        for old in self.on_page.get(request.first // PAGE, ()) if request.kind != INTENT else ():
+            if old.kind == INTENT:
+                continue
             if old.first // BLOCK == request.first // BLOCK or old.size > 5 or request.size > 5:
                 where = overlap(old, request)
                 if where and not (old.kind == request.kind == "get"):
@@ -238,10 +241,10 @@ class Requests:
     def passed_over(self, request: Request, line: int) -> None:
         """A reply begins: which older requests of its client it passes."""
         older: "Counter[str]" = Counter()
-        for it in self.live[request.client].values():
+        for it in self.live[request.client].values() if request.kind != INTENT else ():
             if it is request:
                 break
-            older[it.kind] += not it.replies
+            older[it.kind] += not it.replies and it.kind != INTENT
         count = "1" if sum(older.values()) == 1 else "2+"
         for kind in (it for it in older if older[it]):
             self.hit(f"order/{request.kind}-over-{kind}/{count}", line)
@@ -250,7 +253,7 @@ class Requests:
         """A reply is over."""
         self.replying[request.client] = None
         self.hit(f"reply/{request.kind}/{'denied' if request.denied else 'plain'}", line)
-        if request.bad_replies and not request.denied:
+        if request.bad_replies and not request.denied and request.kind in WITH_REPLY_DATA:
             how = "" if request.replies_due == 1 else "-all-beats" if request.bad_replies == request.replies_due else "-some-beats"
             self.hit(f"reply/{request.kind}/corrupt{how}", line)
         if request.is_whole:
