@@ -260,7 +260,7 @@ def page(path: Path, bins: Dict[str, list], counts: "Counter[str]") -> Iterator[
         return
     shot = path.with_suffix(".png")
     words = [browser, "--headless", "--no-sandbox", "--disable-gpu", f"--user-data-dir={path.parent / 'profile'}", f"--screenshot={shot}"]
-    subprocess.run([*words, "--window-size=1200,1600", path.as_uri()], capture_output=True, timeout=120)
+    subprocess.run([*words, "--window-size=1200,1600", path.as_uri()], capture_output=True, timeout=300)
     yield "the page in a browser", None if shot.is_file() and shot.stat().st_size > 20_000 else "it shows nothing"
 
 
