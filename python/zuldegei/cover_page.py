@@ -70,8 +70,8 @@ class Page:
         missed = "".join(f"<li>{html.escape(it)}</li>\n" for it in self.shown.missed) or "<li>none</li>"
         return Template(FORM.read_text()).substitute(
             TOTAL=html.escape(self.shown.total()),
-            GROUPS=joined(self.row(it) for it in self.shown.groups()),
-            RULES=joined(self.row(it) for it in self.shown.rules()),
+            GROUPS=joined(self.row(it) for it in self.shown.groups),
+            RULES=joined(self.row(it) for it in self.shown.rules),
             MISSED=missed,
             LEFT_OUT=joined(self.left_out()) or '<tr><td colspan="4">nothing</td></tr>',
             NOTES=joined(f"<p>{html.escape(it)}</p>" for it in self.shown.notes()),

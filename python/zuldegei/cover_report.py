@@ -4,6 +4,7 @@ import json
 import re
 from dataclasses import dataclass, field
 from fnmatch import fnmatchcase
+from functools import cached_property
 from pathlib import Path
 from typing import Dict, Iterator, List, NamedTuple, Optional, Sequence, Tuple
 
@@ -182,19 +183,23 @@ class Shown:
     def row(self, name: str, says: str, bins: List[str]) -> Row:
         return Row(name, says, bins, [it for it in bins if not self.counts[it].count])
 
+    @cached_property
     def groups(self) -> List[Row]:
+        """Each group with its bins."""
         of_group: Dict[str, List[str]] = {}
         for name in self.counts:
             of_group.setdefault(name.partition("/")[0], []).append(name)
         return [self.row(it.name, it.says, of_group.get(it.name, [])) for it in GROUPS]
 
+    @cached_property
     def rules(self) -> List[Row]:
         """Each rule with its corners."""
         of_rule = {rule: [it for it in self.counts if any(fnmatchcase(it, at) for at in patterns)] for rule, patterns in CORNERS.items()}
         return [self.row(rule, ", ".join(CORNERS[rule]), bins) for rule, bins in of_rule.items()]
 
-    @property
+    @cached_property
     def missed(self) -> List[str]:
+        """The bins that were never reached."""
         return [it for it, count in self.counts.items() if not count.count]
 
     def total(self) -> str:
@@ -223,8 +228,8 @@ class Shown:
     def text(self, is_all: bool) -> str:
         """The table of groups, the rules whose corners weren't all reached, and how much it is."""
         lines = [f"{'group':10} {'bins':>6} {'hit':>6} {'%':>5}  never reached"]
-        lines += [text_of_group(it) for it in self.groups()]
-        rules = [it for it in self.rules() if it.missed]
+        lines += [text_of_group(it) for it in self.groups]
+        rules = [it for it in self.rules if it.missed]
         lines += ["", f"{'rule':26} {'corners':>7} {'hit':>6} {'%':>5}"] if rules else []
         lines += [f"{it.name:26} {len(it.bins):7} {it.hit:6} {percent(it.hit, len(it.bins)):>5}" for it in rules]
         lines += ["", *self.missed] if is_all and self.missed else []
@@ -236,7 +241,7 @@ class Shown:
         """Writes lcov's .info, and in a folder beside it a file for each group, of which each line is a bin."""
         folder = Path(f"{path}.bins")
         folder.mkdir(exist_ok=True)
-        rows = [it for it in self.groups() if it.bins]
+        rows = [it for it in self.groups if it.bins]
         for row in rows:
             with written(folder / row.name) as file:
                 file.write("".join(f"{it}\n" for it in row.bins))
