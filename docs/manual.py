@@ -29,6 +29,7 @@ COMMANDS = {
     "zuldegei-wave-of": "make a VCD of the beats and the verdict of an observation",
     "zuldegei-times": "tell how long requests and bursts took",
     "zuldegei-regress": "judge many runs of a bridge side by side",
+    "zuldegei-cover": "list which cases of a set-up runs have reached",
 }
 STATUSES = (
     "0, nothing is wrong; 1, something that was judged is; 2, what was read can't be what it should; 3, a file or a program "

@@ -36,13 +36,15 @@ from waves import HAND, MAP, RTL, TOP, UNKNOWN, a_beat, hand
 from waves import WORDS as WORDS_OF_AN_IMAGE
 from zuldegei import vcd
 from zuldegei.command import Fault, Status
+from zuldegei.cover_read import Reader
+from zuldegei.cover_report import cover_of, cover_of_json
 from zuldegei.observation import Observation, check_same, verdict_of
 
-COMMANDS = ("waves", "fill", "explain", "wave_of", "times", "regress")
+COMMANDS = ("waves", "fill", "explain", "wave_of", "times", "regress", "cover")
 COUNT, SEED, BATCH, AT_ONCE, MOST_TOLD, JUDGED = 2000, 1, 100, 2, 9, 500
 SECONDS, WAITED, MEMORY = 10, 120, 2 << 30  # of a processor and of the clock, for a call, and bytes for those of a batch
 # The statuses of python/README.md that an input may lead to.
-STATUSES = {"waves": (0, 2, 3), "fill": (0, 2), **dict.fromkeys(("explain", "wave_of", "times", "regress"), (0, 1, 2))}
+STATUSES = {"waves": (0, 2, 3), **dict.fromkeys(("fill", "cover"), (0, 2)), **dict.fromkeys(("explain", "wave_of", "times", "regress"), (0, 1, 2))}
 WORDS = (
     *(b"0 1 -1 2 3 7 8 255 256 x z X zzzz ff 00000000 ffffffff 100000000 99999999999999 18446744073709551616 1e5 0x10".split()),
     *(b"A D AW AR W B R = time fill config region page reset end wrong judged expected at client of part".split()),
@@ -167,6 +169,7 @@ class Inputs:
         self.maps = [f"{HAND}{more}".encode() for more in ("renumber id 9 2\nrenumber source 0 5 6\n", laid_out, parts)]
         self.maps += [MAP.encode(), b"use rocket-chip top\n", b"use opentitan top", b"use pulp top ID=4"]
         self.maps += [it.read_bytes() for it in sorted((TOP / "tests/dumps").glob("*.map"))]
+        self.counts = cover_of("a run", Reader().read(self.runs[0][0].decode().splitlines(True))).json().encode()
         self.images = [WORDS_OF_AN_IMAGE.encode(), b"\1\2\3" * 40]
         self.images += [elf(kind, order) for kind, order in itertools.product((1, 2), "<>")]
 
@@ -209,6 +212,15 @@ class Inputs:
         words += lot.choice(([], ["--setup", "set.lines"], ["--keep", "kept"], ["--late", "300"], ["--waive", "known.waivers"]))
         files["known.waivers"] = changed(WAIVERS, lot) if lot.randrange(2) else WAIVERS
         return Call([*words, "--json", "runs.json", "--junit", "junit.xml", "-j", "1"], files)
+
+    def cover(self, lot: random.Random) -> Call:
+        """Two observations of which at least one is changed, or a file of counts that is; and which bins are left out."""
+        files = {"run.lines": changed(lot.choice(self.runs)[0], lot), "other.lines": lot.choice(self.runs)[0]}
+        files["counts.json"] = changed(self.counts, lot) if lot.randrange(4) else self.counts
+        files["without.lines"] = changed(b"without id/*/7 six slots\nwithout reset/* none\n", lot)
+        words = lot.choice((["run.lines", "other.lines"], ["other.lines", "run.lines"], ["--merge", "counts.json"]))
+        words += lot.choice(([], ["--missed"], ["--clock", "10"], ["--without", "without.lines"]))
+        return Call([*words, "--json", "cover.json", "--html", "cover.html", "--lcov", "cover.info"], files)
 
 
 def dump(is_by_bit: bool) -> bytes:
@@ -301,14 +313,18 @@ def at_fault(command: str, ended: Ended) -> Optional[str]:
 def unreadable(command: str, call: Call, status: int) -> Optional[str]:
     """Whether the files that a call wrote can be read, and say what its status says."""
     try:
-        if "--html" in call.words and status <= Status.WRONG:
+        if command == "explain" and "--html" in call.words and status <= Status.WRONG:
             json.loads(re.search(r'(?s)<script id="data" type="application/json">(.*?)</script>', Path("run.html").read_text())[1])
+        if command == "cover" and status == Status.DONE:
+            text, info = Path("cover.json").read_text(), Path("cover.info").read_text()
+            is_same = cover_of_json(text, "").json() == text and Path("cover.html").read_text().endswith("</html>\n")
+            return None if is_same and info.count("end_of_record\n") == info.count("TN:\n") else "its files aren't whole"
         if command == "regress" and Path("runs.json").exists():
             states = [it["status"] for it in json.loads(Path("runs.json").read_text())["runs"]]
             tags = [it[0].tag for it in ElementTree.parse("junit.xml").iter("testcase")]
             due = [ENDS.get(it, (2, "error")) for it in states]
             return None if [(status, it) for it in tags] == due and len(states) == 1 else f"status {status}, and files of {states} {tags}"
-    except (ValueError, TypeError, OSError, ElementTree.ParseError, IndexError) as why:
+    except (ValueError, TypeError, OSError, ElementTree.ParseError, IndexError, Fault) as why:
         return f"its files can't be read: {why!r}"
     return None
 
@@ -316,7 +332,7 @@ def unreadable(command: str, call: Call, status: int) -> Optional[str]:
 def tried(inputs: Inputs, command: str, seed: int, number: int) -> Tuple[int, Optional[str]]:
     """Makes a case in the folder in which it is, and calls the command; gives the status, and what is wrong with it."""
     call = getattr(inputs, command)(random.Random(f"{seed} {command} {number}"))
-    for name in ("runs.json", "junit.xml", "run.html", *call.files):
+    for name in ("runs.json", "junit.xml", "run.html", "cover.json", "cover.html", "cover.info", *call.files):
         Path(name).unlink(missing_ok=True)
     for name, data in call.files.items():
         Path(name).write_bytes(data)

@@ -27,7 +27,7 @@ PAGE = (TOP / "docs/INSTALL.md").read_text().replace("VERSION", VERSION).replace
 BARE = {"PATH": "/usr/bin:/bin", "LANG": "C.UTF-8"}  # nothing of the toolchain is there
 NEEDED = ("verilator", "g++", "pkg-config")  # of Debian, where a block of the page names one
 LIST = "share/zuldegei/installed.list"
-MODULES = ("waves", "fill", "explain", "wave-of", "times", "regress")
+MODULES = ("waves", "fill", "explain", "wave-of", "times", "regress", "cover")
 # A stand-in for rt, which puts what was given where rt puts what it builds.
 RT = """#!/bin/sh
 name=${PWD##*/}
