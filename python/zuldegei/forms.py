@@ -39,7 +39,8 @@ OF_ADDRESSES = ("SIZE", "BURST_KIND", "CROSS_4K", "DEPTH", "PLACE")
 AXI_RULES: Dict[str, Tuple[str, ...]] = {
     **dict.fromkeys(OF_ADDRESSES, (AW, AR)),
     "ID_RANGE": (AW, AR, B, R),
-    **dict.fromkeys(("W_WITHOUT_AW", "STROBE", "WLAST"), (W,)),
+    "W_WITHOUT_AW": (W,),
+    **dict.fromkeys(("STROBE", "WLAST"), (W, AW)),  # of an AW, where data that came ahead of it break the rule
     "B_WITHOUT_WRITE": (B,),
     **dict.fromkeys(("R_WITHOUT_READ", "RLAST"), (R,)),
     "EXOKAY": (B, R),
