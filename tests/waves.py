@@ -10,11 +10,13 @@ standard prints them. And the fill lines of memory images.
 import argparse
 import gzip
 import io
+import itertools
 import os
 import pty
 import random
 import re
 import shutil
+import struct
 import subprocess
 import sys
 import tempfile
@@ -585,6 +587,7 @@ def images(folder: Path, score: str) -> Iterator[Case]:
         yield "an ELF, as objcopy has it", elf(folder)
     else:
         print("skipped: the image of an ELF, as objcopy isn't installed")
+    yield from elves(folder)
     data = random.Random(3).randbytes(100)
     (folder / "image.bin").write_bytes(data)
     ran = command("fill", folder / "image.bin", "--format", "binary", "--at", "10ff0")
@@ -594,6 +597,11 @@ def images(folder: Path, score: str) -> Iterator[Case]:
     yield "a word that is too long", one_line(command("fill", folder / "words.hex", "--width", "8"), named=("11223344556677889",))
     ran = command("fill", folder / "image.bin", "--format", "binary", "--at", "fffffff0")
     yield "an address of more than 32 bits", one_line(ran, ran.stdout, ("32 bits",))
+    (folder / "image.bin").write_bytes(bytes(32))
+    ran = command("fill", folder / "image.bin", "--format", "binary", "--at", "ffffffe0")
+    yield "the last bytes of 32 bits", None if (ran.returncode, ran.stdout) == (0, f"fill ffffffe0{' 00' * 32}\n") else ran.stderr
+    ran = command("fill", folder / "image.bin", "--format", "binary", "--at", "ffffffe1")
+    yield "a byte behind them", one_line(ran, named=("32 bits",))
 
 
 def elf(folder: Path) -> Optional[str]:
@@ -610,6 +618,27 @@ def elf(folder: Path) -> Optional[str]:
     (folder / "cut.elf").write_bytes((folder / "image.elf").read_bytes()[:100])
     ran = command("fill", folder / "cut.elf")
     return one_line(ran, ran.stdout, ("ELF",))
+
+
+def elf_of(bits: int, order: str) -> bytes:
+    """An ELF as the System V ABI has it: four bytes for the virtual address 400000 and the physical 1000, of eight in memory."""
+    form, head, program = {32: ("HHIIIIIHHHHHH", 52, 32), 64: ("HHIQQQIHHHHHH", 64, 56)}[bits]
+    data, kind = head + program, b"\x7fELF" + bytes([bits // 32, "<>".index(order) + 1, 1]) + bytes(9)
+    heads = kind + struct.pack(order + form, 2, 0, 1, 0, head, 0, 0, head, program, 1, 0, 0, 0)
+    if bits == 32:
+        return heads + struct.pack(f"{order}8I", 1, data, 0x400000, 0x1000, 4, 8, 4, 4) + bytes([1, 2, 3, 4])
+    return heads + struct.pack(f"{order}2I6Q", 1, 4, data, 0x400000, 0x1000, 4, 8, 4) + bytes([1, 2, 3, 4])
+
+
+def elves(folder: Path) -> Iterator[Case]:
+    """The fill lines of ELFs by hand, of 32 and 64 bits and of each order of bytes, by each word that says which."""
+    begin, zeros = "01 02 03 04", "00 00 00 00"
+    due = {"": f"fill 1000 {begin}\n", "--virtual": f"fill 400000 {begin}\n", "--zeros": f"fill 1000 {begin}\nfill 1004 {zeros}\n"}
+    for bits, order in itertools.product((32, 64), "<>"):
+        (folder / "hand.elf").write_bytes(elf_of(bits, order))
+        for word, lines in due.items():
+            ran = command("fill", folder / "hand.elf", *filter(None, [word]))
+            yield f"an ELF of {bits} bits, {order}, {word}", None if (ran.returncode, ran.stdout) == (0, lines) else ran.stdout + ran.stderr
 
 
 def judged_behind(lines: str, data: bytes, score: str) -> Iterator[Case]:
