@@ -419,6 +419,9 @@ UNKNOWN = (
     (a_beat(opcode="100", data="x"), "A 0 4 0 3 5 00000008 ff 0000000000000000 0"),
     (a_beat(size="x", source="1x"), "A 0 0 0 x X 00000008 ff 0000000000000001 0"),
     (a_beat(address="x0000", corrupt="x"), "A 0 0 0 3 5 xxxxxxx0 ff 0000000000000001 x"),
+    (a_beat(data="0hl1HL"), "A 0 0 0 3 5 00000008 ff 0000000000000016 0"),  # by the nine values of VHDL: weak ones are known
+    (a_beat(data="0u0U0w0W"), "A 0 0 0 3 5 00000008 ff 00000000000000XX 0"),
+    (a_beat(data="0-000001"), "A 0 0 0 3 5 00000008 ff 00000000000000X1 0"),
     (a_beat(source="zzzz", mask="z"), "A 0 0 0 3 z 00000008 zz 0000000000000001 0"),
     ({"a_valid": "x"}, None),
     ({**a_beat(), "a_ready": "0"}, None),
@@ -436,6 +439,7 @@ def by_hand() -> Iterator[Case]:
         form = "bit by bit" if is_by_bit else "whole"
         yield f"unknown digits, vectors {form}", why or (None if got == wanted else f"{got!r}, not {wanted!r}")
     yield from refused_by_hand()
+    yield from reset_by_hand()
 
 
 def refused_by_hand() -> Iterator[Case]:
@@ -463,6 +467,28 @@ def refused_by_hand() -> Iterator[Case]:
     got, why = in_process(f"{HAND}renumber id 9 2\n", dump.text())
     wanted = "time 5\nB 2 SLVERR\ntime 15\nR 1 xxxxxxxxxxxxxxxx x 1\n"
     yield "another number for an ID", why or (None if got == wanted else got)
+
+
+SENT = {"m_axi_awvalid": "1", "m_axi_awid": "1", "m_axi_awaddr": "1000", "m_axi_awlen": "0", "m_axi_awsize": "11"}
+DATA, NEXT_DATA = ({"m_axi_wvalid": "1", "m_axi_wdata": it, "m_axi_wstrb": "11111111", "m_axi_wlast": "1"} for it in ("1", "10"))
+AW_LINE, W_LINE = "AW 1 00000008 0 3 1\n", "W 000000000000000{} ff 1\n"
+# What a reset takes away: of each clock what stands there, and the lines that are due.
+OVER = (
+    ("data ahead of their address", (DATA, {"reset": "1"}, SENT, NEXT_DATA), f"= reset\ntime 25\n{AW_LINE}time 35\n{W_LINE.format(2)}"),
+    ("an address without its data", (SENT, {"reset": "1"}, DATA, SENT, NEXT_DATA, SENT),
+        f"time 5\n{AW_LINE}= reset\ntime 35\n{AW_LINE}time 25\n{W_LINE.format(1)}time 55\n{AW_LINE}time 45\n{W_LINE.format(2)}"),
+)  # fmt: skip
+
+
+def reset_by_hand() -> Iterator[Case]:
+    """Writes that are under way at a reset."""
+    for name, clocks, wanted in OVER:
+        dump = hand(False)
+        dump.signal("reset", 1)
+        for values in clocks:
+            dump.clock({"reset": "0", **values})
+        got, why = in_process(RESET.format(""), dump.text())
+        yield f"a reset behind {name}", why or (None if got == wanted else f"{got!r}, not {wanted!r}")
 
 
 NEXT = "\n"
