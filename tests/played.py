@@ -1,6 +1,7 @@
 """The monitor and the predictor of interfaces/systemverilog on observations by hand, which testbenches don't bring about: resets in
 mid-run, data ahead of their address, busy sources, noise in lanes that tell nothing. What the monitor tells has to be what tlscore finds
-wrong of the same lines. What the predictor tells is said here. Where Verilator isn't installed that is said, and nothing is tried.
+wrong of the same lines. What the predictor tells is said here. And the free memory by hand: strobes, narrow bursts, errors, and resets in
+the midst of bursts. Where Verilator isn't installed that is said, and nothing is tried.
 
     python3 tests/played.py TLSCORE [--library FOLDER]
 """
@@ -66,12 +67,13 @@ FORETOLD: Dict[str, Foretold] = {
 }
 
 
-def bench(library: Path, folder: Path) -> Path:
-    """The testbench that plays."""
-    words = ["verilator", "--cc", "--exe", "--main", "--timing", "-Wno-fatal", "--top-module", "testbench", "-Mdir", str(folder), "-o", "bench"]
-    built([*words, *map(str, FILES), str(TOP / "tests/played.sv"), str(library / "libzuldegei.a")], folder, "played.sv")
-    built(["make", "-s", "-f", "Vtestbench.mk", *UNOPTIMIZED], folder, "played.sv")
-    return folder / "bench"
+def bench(folder: Path, *files: Path) -> Path:
+    """A testbench, in a folder of its own."""
+    room = Path(tempfile.mkdtemp(dir=folder))
+    words = ["verilator", "--cc", "--exe", "--main", "--timing", "-Wno-fatal", "--top-module", "testbench", "-Mdir", str(room), "-o", "bench"]
+    built([*words, *map(str, files)], room, files[-1].name)
+    built(["make", "-s", "-f", "Vtestbench.mk", *UNOPTIMIZED], room, files[-1].name)
+    return room / "bench"
 
 
 def played(program: Path, setup: str, lines: str, *words: str) -> str:
@@ -100,14 +102,22 @@ def foretold(program: Path) -> Iterator[Case]:
         yield f"the predictor: {name}", None if got == it.told and "no beat" not in text else f"it tells {got}, and not {it.told}: {text[-300:]!r}"
 
 
+def memory(program: Path) -> Iterator[Case]:
+    """What the free memory keeps and answers."""
+    ran = started(program)
+    lines = [it for it in ran.text.splitlines() if not it.startswith("- ")]
+    yield "the free memory", None if lines == ["looked at 1702"] and ran.status == 0 else f"status {ran.status}, {len(lines)} lines: {lines[:3]}"
+
+
 def cases(score: Path, library: Path) -> Iterator[Case]:
     if not shutil.which("verilator"):
         print("skipped: the monitor and the predictor by hand, as verilator isn't installed")
         return
     with tempfile.TemporaryDirectory() as folder:
-        program = bench(library, Path(folder))
+        program = bench(Path(folder), *FILES, library / "libzuldegei.a", TOP / "tests/played.sv")
         yield from judged(program, score)
         yield from foretold(program)
+        yield from memory(bench(Path(folder), SYSTEMVERILOG / "zuldegei_axi_memory.sv", TOP / "tests/free_memory.sv"))
 
 
 def main() -> int:
