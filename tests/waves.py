@@ -245,6 +245,8 @@ def hostile(folder: Path, dump: bytes, lines: str) -> Iterator[Case]:
         yield "noise for an FST", one_line(read(folder, MAP, "noise.fst"))
     ran = command("waves", folder / "ports.map", folder / "noise.fst", environment={"PATH": ""})
     yield "an FST without fst2vcd", one_line(ran, named=("fst2vcd", "gtkwave"), status=3)
+    for how, status in (("exit 3", 3), ("kill -9 $$", -9)):
+        yield f"an fst2vcd that ends by {how}", one_line(given_up(folder, dump, how), lines, ("fst2vcd", f"status {status}"))
     (folder / "hostile.vcd").write_bytes(dump[: dump.index(b"\n#5\n") + 1])
     yield "a clock without an edge", one_line(read(folder, MAP, "hostile.vcd"), named=("testbench.clock", "edge"))
     off = dump.replace(b"\n#500\n", b"\n#500\n$dumpoff\nx!\n$end\n", 1)
@@ -252,6 +254,14 @@ def hostile(folder: Path, dump: bytes, lines: str) -> Iterator[Case]:
     late = dump.replace(b"\n#5\n", b"\n$dumpoff\nx!\n$end\n$dumpon\n0!\n$end\n#5\n", 1)
     yield "a dump that is turned on late", None if in_process(MAP, late) == (lines, "") else in_process(MAP, late)[1] or "it has other lines"
     yield "a dump that is turned off", one_line(read(folder, MAP, "hostile.vcd"), lines, ("off from 500",))
+
+
+def given_up(folder: Path, dump: bytes, how: str) -> subprocess.CompletedProcess:
+    """What is said of an FST of which fst2vcd gives a whole dump, and then ends as it shouldn't."""
+    (folder / "whole.vcd").write_bytes(dump)
+    (folder / "fst2vcd").write_text(f"#!/bin/sh\ncat '{folder / 'whole.vcd'}'\n{how}\n")
+    (folder / "fst2vcd").chmod(0o755)
+    return command("waves", folder / "ports.map", folder / "noise.fst", environment={"PATH": f"{folder}:{os.environ['PATH']}"})
 
 
 def cut_well(dump: bytes, lines: str, at: int) -> bool:
@@ -456,6 +466,7 @@ def refused_by_hand() -> Iterator[Case]:
     yield "an address of 40 bits", refusal(in_process(f"{HAND}a 0 address top.wide\n", dump.text()), "more than 32 bits")
     got, why = in_process(f"{HAND}a 0 address top.wide[31:0]\nrenumber source 0 5 17\n", dump.text())
     yield "a slice, and another number", why or (None if got.startswith("time 5\nA 0 0 0 2 17 00000000 ") else got)
+    yield from six_bits()
     dump.signal("clocks", 2)
     body = dump.text().replace(b"1clock", b"1clock\nb10 clocks").replace(b"0clock", b"0clock\nb1 clocks")
     got, why = in_process(HAND.replace("top.clock", "top.clocks[1]"), body)
@@ -467,6 +478,16 @@ def refused_by_hand() -> Iterator[Case]:
     got, why = in_process(f"{HAND}renumber id 9 2\n", dump.text())
     wanted = "time 5\nB 2 SLVERR\ntime 15\nR 1 xxxxxxxxxxxxxxxx x 1\n"
     yield "another number for an ID", why or (None if got == wanted else got)
+
+
+def six_bits() -> Iterator[Case]:
+    """An address of six bits, which four doesn't divide, and of which some aren't known."""
+    for bits, digits in (("1x0001", "X1"), ("xx0101", "x5"), ("1100x1", "3X")):
+        dump = hand(False)
+        dump.signal("six", 6)
+        dump.clock({**a_beat(), "six": bits})
+        got, why = in_process(f"{HAND}a 0 address top.six\n", dump.text())
+        yield f"an address of the bits {bits}", why or (None if got == f"time 5\nA 0 0 0 3 5 000000{digits} ff 0000000000000001 0\n" else got)
 
 
 SENT = {"m_axi_awvalid": "1", "m_axi_awid": "1", "m_axi_awaddr": "1000", "m_axi_awlen": "0", "m_axi_awsize": "11"}
