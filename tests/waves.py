@@ -15,6 +15,7 @@ import os
 import pty
 import random
 import re
+import resource
 import shutil
 import struct
 import subprocess
@@ -649,6 +650,10 @@ def images(folder: Path, score: str) -> Iterator[Case]:
     yield "the last bytes of 32 bits", None if (ran.returncode, ran.stdout) == (0, f"fill ffffffe0{' 00' * 32}\n") else ran.stderr
     ran = command("fill", folder / "image.bin", "--format", "binary", "--at", "ffffffe1")
     yield "a byte behind them", one_line(ran, named=("32 bits",))
+    os.truncate(folder / "image.bin", 64 << 20)  # of 512 MB as a list
+    bounded = lambda: resource.setrlimit(resource.RLIMIT_AS, (300 << 20, 300 << 20))  # noqa: E731
+    ran = command("fill", folder / "image.bin", "--format", "binary", preexec_fn=bounded)
+    yield "an image that memory has no room for", one_line(ran, named=("out of memory",), status=4)
 
 
 def elf(folder: Path) -> Optional[str]:
