@@ -105,7 +105,7 @@ def build(tree: Path, library: Path) -> None:
     environment = {**os.environ, "PATH": f"{kit}:{os.environ['PATH']}"}
     ran = subprocess.run(["sh", "-c", words], cwd=tree, env=environment, capture_output=True, text=True, check=False)
     if ran.returncode:
-        raise body_edits.Unusable(f"the library can't be built: {ran.stderr.strip()[-WIDEST:]}")
+        raise body_edits.Unusable(f"the library can't be built, status {ran.returncode}: {ran.stderr.strip()[-WIDEST:]}")
 
 
 def failures(tree: Path, test: str) -> Iterator[str]:
