@@ -509,8 +509,20 @@ def waved(folder: Path) -> Iterator[Case]:
             yield f"the VCD of {name} as an FST", packed.stderr if packed.returncode else None
     if not shutil.which("vcd2fst"):
         print("skipped: VCD files made FST, as vcd2fst isn't installed")
+    yield "a VCD of a run without times", untimed(folder)
     ran = command("wave_of", lines, verdict, vcd, "--timescale", "3ns")
     yield "a unit that VCD hasn't", one_line(ran, named=("3ns",), status=6)
+
+
+def untimed(folder: Path) -> Optional[str]:
+    """What of a run without times doesn't stand at the number of its line."""
+    lines, verdict, vcd = (folder / f"untimed.{it}" for it in ("lines", "told", "vcd"))
+    lines.write_text(HEAD.format(bus="") + "\n".join([*READ_ZEROS, ""]))
+    verdict.write_text("= wrong 7 reply 1 UNASKED\n= judged 4 wrong 1 outstanding 0 open 0 compared 0 of 8\n")
+    ran = command("wave_of", lines, verdict, vcd)
+    found = [(int(time), text) for time, text in re.findall(r"(?m)^#(\d+)\ns(line\d+)_", vcd.read_text())]
+    is_well = found == [(it, f"line{it}") for it in range(4, 8)] and ran.returncode == 1
+    return None if is_well and " 7 -1" in vcd.with_suffix(".gtkw").read_text() else f"{found}"
 
 
 def misplaced(vcd: Path, lines: Path, verdict: Path) -> Optional[str]:
