@@ -271,6 +271,19 @@ def limited(kind: int, most: int) -> Callable[[], None]:
     return lambda: resource.setrlimit(kind, (most, most))
 
 
+def unended(folder: Path) -> Iterator[Case]:
+    """A burst and a request without an answer in the picture: their bars go on to its end, those of others to their answers."""
+    lines, verdict, drawn_page = (folder / f"unended.{it}" for it in ("lines", "told", "html"))
+    aw, w, b = WROTE
+    ended = f"time 10\n{PUT}\n{aw}\ntime 20\n{w}\ntime 30\n{b}\ntime 40\n{DONE}\n"
+    lines.write_text(HEAD.format(bus="") + f"{ended}time 50\n{PUT}\n{aw}\ntime 60\n{w}\ntime 90\n{GET}\n")
+    verdict.write_text("= judged 9 wrong 0 outstanding 2 open 1 compared 0 of 0\n")
+    command("explain", lines, verdict, "--html", drawn_page)
+    found = re.findall(r'\[\d+,"(\w+)","[^"]*",(\d+),(\d+),\[\[', drawn_page.read_text())
+    due = [("put", "10", "40"), ("aw", "10", "30"), ("put", "50", "90"), ("aw", "50", "90"), ("get", "90", "90")]
+    yield "bars of what has no answer", None if sorted(found) == sorted(due) else f"{found}"
+
+
 def cut(folder: Path) -> Iterator[Case]:
     """Files that can't be written whole: none is left behind, and the fault names it."""
     lines, verdict = run_of("lane-swapped")
@@ -556,6 +569,7 @@ def cases(folder: Path, score: str) -> Iterator[Case]:
     yield from missing(folder)
     yield from sentences(folder, score)
     yield from many(folder)
+    yield from unended(folder)
     yield from cut(folder)
     yield from waved(folder)
     yield from hostile(folder)
