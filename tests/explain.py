@@ -128,6 +128,15 @@ SENTENCES = {
     "tilelink: data ahead of their address, of which a `last` is too early": (
         (*(LONG.format(it) for it in (0xA1, 0xA2, 0xA3, 0xA4)), "W 00000000000000a1 ff 0", "W 00000000000000a2 ff 1", "AW 0 00010020 3 3 1"),
         "11 axi 8 WLAST", "write", ("line 10 is beat 2 of 4, and `last` is 1.",), ("among its data",)),
+    "a byte that was written wrong, and then right": (
+        (PUT, "AW 0 00010008 0 2 1", "W 0000000055667799 0f 1", *WROTE[:2], "B 0 OKAY", "B 0 OKAY", DONE, GET, AR,
+         R.format("1122334455667799"), "D 1 1 0 3 7 0 1122334455667799 0"), f"15 reply 7 PAYLOAD {DUE}", "answer",
+        ("The byte was written and answered, and the memory gave another one for the read.",), ("has another one.",)),
+    "an error told behind an answer without one": (
+        (PUT, *WROTE, DONE.replace("5 0", "5 1")), f"8 reply 5 DENIED expected {DONE}", "reply", (f"Its DENIED isn't as due: {DONE}.",), ("before",)),
+    "an error told ahead of the answer": (
+        (PUT, *WROTE[:2], DONE.replace("5 0", "5 1"), "B 0 OKAY"), f"7 reply 5 DENIED expected {DONE}", "order",
+        (f"It came before the answer to its burst, which tells of errors: due is {DONE}.",), ()),
     "a Put of one byte, and one in flight to other bytes": (
         ("A 0 0 0 0 5 00000008 01 0000000000000099 0", "AW 0 00010008 0 0 1", "W 0000000000000099 01 1", "B 0 OKAY",
          "D 0 0 0 0 5 0 0000000000000000 0",
