@@ -9,7 +9,8 @@ are, but for interfaces/c, which is compiled anew for each slip.
 A slip is a file NAME.edit: a line `tests: NAME ..`, the tests that have to find it, that of the least time first; a line `file: ..` by
 its path from the top of the repository; then `old: ..` and `new: ..`, as body_edits.py reads them. A test is given the words that ./test
 gives it. A slip passes that one of its tests finds: by the first line `FAILED: ..` that this test doesn't print without a slip too, or
-by an end without a last line. So each test is run once without one.
+by an end without a last line. So each test is run once without one. Of a slip that no test finds a line `but: ..` says why that is, and
+what it could do: it passes where none does.
 """
 
 import argparse
@@ -30,7 +31,7 @@ from ends import told
 
 TOP = Path(__file__).resolve().parent.parent
 SLIPS = TOP / "tests/slips"
-TESTS = re.compile(r"^tests: (.+)$", re.M)
+TESTS, BUT = re.compile(r"^tests: (.+)$", re.M), re.compile(r"^but: (.+)$", re.M)
 # In ./test: a list of tests that are called alike, and a call.
 LISTED, CALLED = re.compile(r"for name in (.+); do"), re.compile(r'\s*try (?:"\$(name)"|(\w+))(.*)')
 LAST = re.compile(r"\d+ passed, \d+ failed")
@@ -126,18 +127,26 @@ def failures(tree: Path, test: str) -> Iterator[str]:
                 os.killpg(program.pid, signal.SIGKILL)
 
 
-def found(given: Given, slip: Slip, known: Dict[str, Set[str]]) -> Optional[str]:
-    """Why a slip fails: no test of its own finds it, or it can't be tried. By which test one is found is printed."""
+def finder(given: Given, slip: Slip, known: Dict[str, Set[str]]) -> str:
+    """By which of its tests a slip is found, and what that tells; nothing, where none finds it."""
+    with copy(given, slip.text) as tree:
+        for test in slip.tests:
+            line = next((it for it in failures(tree, test) if it not in known[test]), None)
+            if line is not None:
+                return f"{test}: {line[:WIDEST]}"
+    return ""
+
+
+def tried(given: Given, slip: Slip, known: Dict[str, Set[str]]) -> Optional[str]:
+    """Why a slip fails: no test of its own finds it, or it can't be tried. What came of one that passes is printed."""
     try:
-        with copy(given, slip.text) as tree:
-            for test in slip.tests:
-                line = next((it for it in failures(tree, test) if it not in known[test]), None)
-                if line is not None:
-                    print(f"{slip.name}: caught by {test}: {line[:WIDEST]}", flush=True)
-                    return None
+        by, but = finder(given, slip, known), BUT.search(slip.text)
     except body_edits.Unusable as why:
         return str(why)
-    return f"NOT CAUGHT by {', '.join(slip.tests)}"
+    if bool(by) == bool(but):
+        return f"caught by {by}" if by else f"NOT CAUGHT by {', '.join(slip.tests)}"
+    print(f"{slip.name}: caught by {by}" if by else f"{slip.name}: not caught: {but[1]}", flush=True)
+    return None
 
 
 def without(given: Given, tests: List[str]) -> Dict[str, Set[str]]:
@@ -151,7 +160,7 @@ def cases(given: Given, slips: List[Slip], jobs: int) -> Iterator[Tuple[str, Opt
     for test, lines in known.items():
         yield f"{test}, without a slip", "; ".join(sorted(lines))[:WIDEST]
     with ThreadPoolExecutor(jobs) as pool:
-        yield from zip((it.name for it in slips), pool.map(lambda it: found(given, it, known), slips))
+        yield from zip((it.name for it in slips), pool.map(lambda it: tried(given, it, known), slips))
 
 
 def main() -> int:
