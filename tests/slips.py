@@ -170,6 +170,9 @@ def main() -> int:
     asked.add_argument("--only", nargs="+", default=[], metavar="NAME", help="these slips alone")
     asked.add_argument("--jobs", type=int, default=1, help="how many at once (1)")
     words = asked.parse_args()
+    lacking = [it for it in words.only if not (SLIPS / f"{it}.edit").is_file()]
+    if lacking:
+        asked.error(f"tests/slips has no {', '.join(lacking)}")
     return told(cases(Given(words.tlscore, words.tlbridge, words.library), slips_of(words.only), words.jobs))
 
 
