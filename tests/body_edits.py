@@ -1,7 +1,8 @@
 """Reads wrong bodies: which lines of a crate's sources each changes, and in the bodies of which functions these stand.
 
 A wrong body is a file NAME.edit: a line `file: src/..`, then pairs of lines `old: ..` and `new: ..`, each text one line that stands in
-that file just once. Other lines aren't read. It is the format of the edits in must-fail/, which the prover's own command tries.
+that file just once. Other lines aren't read. It is the format of the edits in must-fail/, which the prover's own command tries, and of
+those in tests/slips (slips.py).
 """
 
 import re
@@ -105,15 +106,15 @@ def function_at(file: str, lines: List[str], at: int) -> Optional[Function]:
     return Function(tuple(modules), "".join(names), head[1])
 
 
-def changed(crate: Path, text: str) -> Dict[str, Tuple[List[str], List[str]]]:
-    """The files that an edit changes: the lines of each before and after."""
+def changed(top: Path, text: str, folder: str = "src/") -> Dict[str, Tuple[List[str], List[str]]]:
+    """The files below a folder of a crate, or of another tree, that an edit changes: the lines of each before and after."""
     file, old, was, now = "", "", {}, {}
     for word, line in (it.groups() for it in map(WORD.match, text.splitlines()) if it):
         if word == "file":
             file = line.strip()
-            if not file.startswith("src/") or not (crate / file).is_file():
-                raise Unusable(f"{file!r} is no file below src/")
-            was.setdefault(file, (crate / file).read_text())
+            if not file.startswith(folder) or not (top / file).is_file():
+                raise Unusable(f"{file!r} is no file below {folder or 'the top'}")
+            was.setdefault(file, (top / file).read_text())
             now.setdefault(file, was[file])
         elif word == "old":
             old = line

@@ -78,6 +78,17 @@ REFUSED = {
 SCOREBOARDS = "profile tilelink\n errors any\naxi strict\nx data\nfill 10000 1 2 3\ntime 5\n= said\n"
 
 
+# A beat that breaks each rule of channel A alone, by its name in docs/RULES.md, and the client that offers it: the port of client 1 is
+# TL-UL. The first beat of a Put of 16 bytes has begun ahead of the last one, and the source of the one before is busy.
+LEVELS, BEGUN = "config 2 4 16 2 16 12 hl\nregion 0 4 10 gpah\npage 10 4 good\n", ABeat(0, 0, 4, 9, 0x10)
+BREAKS = (
+    ("OPCODE", 0, ABeat(6, 0, 3, 0, 8)), ("LEVEL", 1, ABeat(2, 0, 3, 0, 8)), ("SIZE", 0, ABeat(4, 0, 13, 0, 0)),
+    ("ATOMIC_SIZE", 0, ABeat(2, 0, 4, 0, 0x10)), ("ALIGN", 0, ABeat(4, 0, 3, 0, 4)), ("PARAM", 0, ABeat(4, 1, 3, 0, 8)),
+    ("MASK", 0, ABeat(4, 0, 3, 0, 8, mask=0xF)), ("CORRUPT", 0, ABeat(4, 0, 3, 0, 8, corrupt=1)), ("SOURCE_BUSY", 0, ABeat(4, 0, 3, 7, 8)),
+    ("BURST_CONTROL", 0, ABeat(0, 0, 4, 9, 0x20)),
+)  # fmt: skip
+
+
 class Recorded:
     """A bridge, and what each call of it was and gave."""
 
@@ -194,6 +205,17 @@ def in_python(library):
         yield "the script that it keeps", None if bridge.script == wanted else f"{bridge.script}"
 
 
+def refused(library):
+    """The rule that each refused beat breaks."""
+    with Bridge(LEVELS, library) as bridge:
+        bridge.offer(0, ABeat(4, 0, 3, 7, 8))
+        for rule, client, beat in BREAKS:
+            if rule == "BURST_CONTROL":
+                bridge.offer(0, BEGUN)
+            answer = bridge.offer(client, beat)
+            yield f"a beat that breaks {rule}", None if (answer.kind, answer.rule) == ("refused", rule) else f"it is {answer}"
+
+
 def wrong_calls(folder, library):
     """Wrong calls and refused memory, alone and under valgrind."""
     calls = compiled("bridge-calls", TOP / "tests/bridge_process_calls.c", "-pthread", folder=folder, library=library)
@@ -253,6 +275,7 @@ def cases(asked):
         yield from wrong_calls(Path(room), folder)
         yield from watched(Path(room), folder)
         yield from in_python(library)
+        yield from refused(library)
         yield from by_words(tlbridge, folder)
         yield from by_lot(program, tlbridge, library, rng, asked.scripts)
         yield from benches(tlbridge, library, rng, asked.requests)

@@ -128,6 +128,15 @@ SENTENCES = {
     "tilelink: data ahead of their address, of which a `last` is too early": (
         (*(LONG.format(it) for it in (0xA1, 0xA2, 0xA3, 0xA4)), "W 00000000000000a1 ff 0", "W 00000000000000a2 ff 1", "AW 0 00010020 3 3 1"),
         "11 axi 8 WLAST", "write", ("line 10 is beat 2 of 4, and `last` is 1.",), ("among its data",)),
+    "a byte that was written wrong, and then right": (
+        (PUT, "AW 0 00010008 0 2 1", "W 0000000055667799 0f 1", *WROTE[:2], "B 0 OKAY", "B 0 OKAY", DONE, GET, AR,
+         R.format("1122334455667799"), "D 1 1 0 3 7 0 1122334455667799 0"), f"15 reply 7 PAYLOAD {DUE}", "answer",
+        ("The byte was written and answered, and the memory gave another one for the read.",), ("has another one.",)),
+    "an error told behind an answer without one": (
+        (PUT, *WROTE, DONE.replace("5 0", "5 1")), f"8 reply 5 DENIED expected {DONE}", "reply", (f"Its DENIED isn't as due: {DONE}.",), ("before",)),
+    "an error told ahead of the answer": (
+        (PUT, *WROTE[:2], DONE.replace("5 0", "5 1"), "B 0 OKAY"), f"7 reply 5 DENIED expected {DONE}", "order",
+        (f"It came before the answer to its burst, which tells of errors: due is {DONE}.",), ()),
     "a Put of one byte, and one in flight to other bytes": (
         ("A 0 0 0 0 5 00000008 01 0000000000000099 0", "AW 0 00010008 0 0 1", "W 0000000000000099 01 1", "B 0 OKAY",
          "D 0 0 0 0 5 0 0000000000000000 0",
@@ -269,6 +278,19 @@ def many_wrong(is_again: bool) -> Tuple[str, str]:
 def limited(kind: int, most: int) -> Callable[[], None]:
     """What limits a process that is about to begin."""
     return lambda: resource.setrlimit(kind, (most, most))
+
+
+def unended(folder: Path) -> Iterator[Case]:
+    """A burst and a request without an answer in the picture: their bars go on to its end, those of others to their answers."""
+    lines, verdict, drawn_page = (folder / f"unended.{it}" for it in ("lines", "told", "html"))
+    aw, w, b = WROTE
+    ended = f"time 10\n{PUT}\n{aw}\ntime 20\n{w}\ntime 30\n{b}\ntime 40\n{DONE}\n"
+    lines.write_text(HEAD.format(bus="") + f"{ended}time 50\n{PUT}\n{aw}\ntime 60\n{w}\ntime 90\n{GET}\n")
+    verdict.write_text("= judged 9 wrong 0 outstanding 2 open 1 compared 0 of 0\n")
+    command("explain", lines, verdict, "--html", drawn_page)
+    found = re.findall(r'\[\d+,"(\w+)","[^"]*",(\d+),(\d+),\[\[', drawn_page.read_text())
+    due = [("put", "10", "40"), ("aw", "10", "30"), ("put", "50", "90"), ("aw", "50", "90"), ("get", "90", "90")]
+    yield "bars of what has no answer", None if sorted(found) == sorted(due) else f"{found}"
 
 
 def cut(folder: Path) -> Iterator[Case]:
@@ -523,8 +545,20 @@ def waved(folder: Path) -> Iterator[Case]:
             yield f"the VCD of {name} as an FST", packed.stderr if packed.returncode else None
     if not shutil.which("vcd2fst"):
         print("skipped: VCD files made FST, as vcd2fst isn't installed")
+    yield "a VCD of a run without times", untimed(folder)
     ran = command("wave_of", lines, verdict, vcd, "--timescale", "3ns")
     yield "a unit that VCD hasn't", one_line(ran, named=("3ns",), status=6)
+
+
+def untimed(folder: Path) -> Optional[str]:
+    """What of a run without times doesn't stand at the number of its line."""
+    lines, verdict, vcd = (folder / f"untimed.{it}" for it in ("lines", "told", "vcd"))
+    lines.write_text(HEAD.format(bus="") + "\n".join([*READ_ZEROS, ""]))
+    verdict.write_text("= wrong 7 reply 1 UNASKED\n= judged 4 wrong 1 outstanding 0 open 0 compared 0 of 8\n")
+    ran = command("wave_of", lines, verdict, vcd)
+    found = [(int(time), text) for time, text in re.findall(r"(?m)^#(\d+)\ns(line\d+)_", vcd.read_text())]
+    is_well = found == [(it, f"line{it}") for it in range(4, 8)] and ran.returncode == 1
+    return None if is_well and " 7 -1" in vcd.with_suffix(".gtkw").read_text() else f"{found}"
 
 
 def misplaced(vcd: Path, lines: Path, verdict: Path) -> Optional[str]:
@@ -558,6 +592,7 @@ def cases(folder: Path, score: str) -> Iterator[Case]:
     yield from missing(folder)
     yield from sentences(folder, score)
     yield from many(folder)
+    yield from unended(folder)
     yield from cut(folder)
     yield from waved(folder)
     yield from hostile(folder)

@@ -267,6 +267,19 @@ static void threads(void) {
     for (int k = 0; k < 4; k++) pthread_join(started[k], NULL), same("wrong in a thread", (int64_t)wrong[k], 500);
 }
 
+/* A text in each room: as much as it has place for, a zero behind that, and nothing behind the room. */
+static void rooms(tlscore *board) {
+    static const char whole[] = "= wrong 7 reply 1 UNASKED\n";
+    const size_t length = sizeof whole - 1;
+    for (size_t room = 0; room < length + 4; room++) {
+        char text[64];
+        const size_t shown = room > length ? length : room ? room - 1 : 0, behind = room ? shown + 1 : 0;
+        memset(text, '~', sizeof text);
+        same("length", tlscore_text(board, text, room), (int64_t)length), same("shown", memcmp(text, whole, shown), 0);
+        same("its end", room ? text[shown] : 0, 0), same("behind it", text[behind], '~');
+    }
+}
+
 int main(void) {
     tlscore *board = tlscore_new(SETUP, NULL, NULL, 0), *other = tlscore_new(SETUP, NULL, NULL, 0);
     if (!board || !other) return puts("no board"), 1;
@@ -278,7 +291,7 @@ int main(void) {
     same("no such reply", tlscore_d(board, 1, 0, 0, 3, 5, false, NULL, 0, 0, false), TLSCORE_REPLY + 1);
     before = state_of(board);
     same("outstanding", before.outstanding, 1), same("open", before.open_bursts, 1), same("judged", (int64_t)before.judged, 4);
-    says("text", before.text, "= wrong 7 reply 1 UNASKED\n");
+    says("text", before.text, "= wrong 7 reply 1 UNASKED\n"), rooms(board);
     nulls(board), tilelink_ranges(board), axi_ranges(board), other_ranges(board), found(board);
     same("byte of the other", tlscore_byte(other, 0x10008), 0x89), same("its requests", tlscore_outstanding(other), 0);
     tlscore_free(board), tlscore_free(other), threads();

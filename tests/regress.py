@@ -181,6 +181,9 @@ def untrusted(folder: Path, score: str) -> Iterator[Case]:
     began = time.monotonic()
     made = Made(folder, "", RIGHT, "--timeout", 0.5, "--score", stand_in(folder, "sleep 50; true"))
     yield "a scoreboard that takes too long", made.wrong(2, ["late"]) or (None if time.monotonic() - began < 40 else "it was waited for")
+    slow = stand_in(folder, f"sleep 1.5; exec '{score}'")
+    made = Made(folder, "", "--command", f"sleep 1.5; cat '{RIGHT}'", "--timeout", 2.5, "--score", slow)
+    yield "a run that takes too long with its verdict", made.wrong(2, ["late"])
 
 
 def early(folder: Path, score: str) -> Iterator[Case]:

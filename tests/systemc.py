@@ -29,6 +29,7 @@ OTHER, END = "W 1122334455667788 ff 0\n", "= end\n"
 # What is played at the ports, and the lines that it is to be judged as; the same where there is nothing.
 PLAYED = {
     "W data ahead of their AW": (f"time 10\n{PUT}{OTHER}time 20\n{AW}{END}", f"time 10\n{PUT}time 20\n{AW}time 10\n{OTHER}{END}"),
+    "two addresses ahead of their data": (f"time 10\n{PUT}{AW}time 20\n{AW}time 30\n{W}time 40\n{W}{END}", None),
     "a reset in mid-run": (
         f"time 10\n{PUT}{AW}= reset\ntime 30\n{PUT}{W}{END}",
         f"time 10\n{PUT}{AW}= reset\ntime 30\n{PUT}{END}",

@@ -10,11 +10,14 @@ standard prints them. And the fill lines of memory images.
 import argparse
 import gzip
 import io
+import itertools
 import os
 import pty
 import random
 import re
+import resource
 import shutil
+import struct
 import subprocess
 import sys
 import tempfile
@@ -243,6 +246,8 @@ def hostile(folder: Path, dump: bytes, lines: str) -> Iterator[Case]:
         yield "noise for an FST", one_line(read(folder, MAP, "noise.fst"))
     ran = command("waves", folder / "ports.map", folder / "noise.fst", environment={"PATH": ""})
     yield "an FST without fst2vcd", one_line(ran, named=("fst2vcd", "gtkwave"), status=3)
+    for how, status in (("exit 3", 3), ("kill -9 $$", -9)):
+        yield f"an fst2vcd that ends by {how}", one_line(given_up(folder, dump, how), lines, ("fst2vcd", f"status {status}"))
     (folder / "hostile.vcd").write_bytes(dump[: dump.index(b"\n#5\n") + 1])
     yield "a clock without an edge", one_line(read(folder, MAP, "hostile.vcd"), named=("testbench.clock", "edge"))
     off = dump.replace(b"\n#500\n", b"\n#500\n$dumpoff\nx!\n$end\n", 1)
@@ -250,6 +255,14 @@ def hostile(folder: Path, dump: bytes, lines: str) -> Iterator[Case]:
     late = dump.replace(b"\n#5\n", b"\n$dumpoff\nx!\n$end\n$dumpon\n0!\n$end\n#5\n", 1)
     yield "a dump that is turned on late", None if in_process(MAP, late) == (lines, "") else in_process(MAP, late)[1] or "it has other lines"
     yield "a dump that is turned off", one_line(read(folder, MAP, "hostile.vcd"), lines, ("off from 500",))
+
+
+def given_up(folder: Path, dump: bytes, how: str) -> subprocess.CompletedProcess:
+    """What is said of an FST of which fst2vcd gives a whole dump, and then ends as it shouldn't."""
+    (folder / "whole.vcd").write_bytes(dump)
+    (folder / "fst2vcd").write_text(f"#!/bin/sh\ncat '{folder / 'whole.vcd'}'\n{how}\n")
+    (folder / "fst2vcd").chmod(0o755)
+    return command("waves", folder / "ports.map", folder / "noise.fst", environment={"PATH": f"{folder}:{os.environ['PATH']}"})
 
 
 def cut_well(dump: bytes, lines: str, at: int) -> bool:
@@ -417,6 +430,9 @@ UNKNOWN = (
     (a_beat(opcode="100", data="x"), "A 0 4 0 3 5 00000008 ff 0000000000000000 0"),
     (a_beat(size="x", source="1x"), "A 0 0 0 x X 00000008 ff 0000000000000001 0"),
     (a_beat(address="x0000", corrupt="x"), "A 0 0 0 3 5 xxxxxxx0 ff 0000000000000001 x"),
+    (a_beat(data="0hl1HL"), "A 0 0 0 3 5 00000008 ff 0000000000000016 0"),  # by the nine values of VHDL: weak ones are known
+    (a_beat(data="0u0U0w0W"), "A 0 0 0 3 5 00000008 ff 00000000000000XX 0"),
+    (a_beat(data="0-000001"), "A 0 0 0 3 5 00000008 ff 00000000000000X1 0"),
     (a_beat(source="zzzz", mask="z"), "A 0 0 0 3 z 00000008 zz 0000000000000001 0"),
     ({"a_valid": "x"}, None),
     ({**a_beat(), "a_ready": "0"}, None),
@@ -434,6 +450,7 @@ def by_hand() -> Iterator[Case]:
         form = "bit by bit" if is_by_bit else "whole"
         yield f"unknown digits, vectors {form}", why or (None if got == wanted else f"{got!r}, not {wanted!r}")
     yield from refused_by_hand()
+    yield from reset_by_hand()
 
 
 def refused_by_hand() -> Iterator[Case]:
@@ -450,6 +467,7 @@ def refused_by_hand() -> Iterator[Case]:
     yield "an address of 40 bits", refusal(in_process(f"{HAND}a 0 address top.wide\n", dump.text()), "more than 32 bits")
     got, why = in_process(f"{HAND}a 0 address top.wide[31:0]\nrenumber source 0 5 17\n", dump.text())
     yield "a slice, and another number", why or (None if got.startswith("time 5\nA 0 0 0 2 17 00000000 ") else got)
+    yield from six_bits()
     dump.signal("clocks", 2)
     body = dump.text().replace(b"1clock", b"1clock\nb10 clocks").replace(b"0clock", b"0clock\nb1 clocks")
     got, why = in_process(HAND.replace("top.clock", "top.clocks[1]"), body)
@@ -461,6 +479,38 @@ def refused_by_hand() -> Iterator[Case]:
     got, why = in_process(f"{HAND}renumber id 9 2\n", dump.text())
     wanted = "time 5\nB 2 SLVERR\ntime 15\nR 1 xxxxxxxxxxxxxxxx x 1\n"
     yield "another number for an ID", why or (None if got == wanted else got)
+
+
+def six_bits() -> Iterator[Case]:
+    """An address of six bits, which four doesn't divide, and of which some aren't known."""
+    for bits, digits in (("1x0001", "X1"), ("xx0101", "x5"), ("1100x1", "3X")):
+        dump = hand(False)
+        dump.signal("six", 6)
+        dump.clock({**a_beat(), "six": bits})
+        got, why = in_process(f"{HAND}a 0 address top.six\n", dump.text())
+        yield f"an address of the bits {bits}", why or (None if got == f"time 5\nA 0 0 0 3 5 000000{digits} ff 0000000000000001 0\n" else got)
+
+
+SENT = {"m_axi_awvalid": "1", "m_axi_awid": "1", "m_axi_awaddr": "1000", "m_axi_awlen": "0", "m_axi_awsize": "11"}
+DATA, NEXT_DATA = ({"m_axi_wvalid": "1", "m_axi_wdata": it, "m_axi_wstrb": "11111111", "m_axi_wlast": "1"} for it in ("1", "10"))
+AW_LINE, W_LINE = "AW 1 00000008 0 3 1\n", "W 000000000000000{} ff 1\n"
+# What a reset takes away: of each clock what stands there, and the lines that are due.
+OVER = (
+    ("data ahead of their address", (DATA, {"reset": "1"}, SENT, NEXT_DATA), f"= reset\ntime 25\n{AW_LINE}time 35\n{W_LINE.format(2)}"),
+    ("an address without its data", (SENT, {"reset": "1"}, DATA, SENT, NEXT_DATA, SENT),
+        f"time 5\n{AW_LINE}= reset\ntime 35\n{AW_LINE}time 25\n{W_LINE.format(1)}time 55\n{AW_LINE}time 45\n{W_LINE.format(2)}"),
+)  # fmt: skip
+
+
+def reset_by_hand() -> Iterator[Case]:
+    """Writes that are under way at a reset."""
+    for name, clocks, wanted in OVER:
+        dump = hand(False)
+        dump.signal("reset", 1)
+        for values in clocks:
+            dump.clock({"reset": "0", **values})
+        got, why = in_process(RESET.format(""), dump.text())
+        yield f"a reset behind {name}", why or (None if got == wanted else f"{got!r}, not {wanted!r}")
 
 
 NEXT = "\n"
@@ -585,6 +635,7 @@ def images(folder: Path, score: str) -> Iterator[Case]:
         yield "an ELF, as objcopy has it", elf(folder)
     else:
         print("skipped: the image of an ELF, as objcopy isn't installed")
+    yield from elves(folder)
     data = random.Random(3).randbytes(100)
     (folder / "image.bin").write_bytes(data)
     ran = command("fill", folder / "image.bin", "--format", "binary", "--at", "10ff0")
@@ -594,6 +645,15 @@ def images(folder: Path, score: str) -> Iterator[Case]:
     yield "a word that is too long", one_line(command("fill", folder / "words.hex", "--width", "8"), named=("11223344556677889",))
     ran = command("fill", folder / "image.bin", "--format", "binary", "--at", "fffffff0")
     yield "an address of more than 32 bits", one_line(ran, ran.stdout, ("32 bits",))
+    (folder / "image.bin").write_bytes(bytes(32))
+    ran = command("fill", folder / "image.bin", "--format", "binary", "--at", "ffffffe0")
+    yield "the last bytes of 32 bits", None if (ran.returncode, ran.stdout) == (0, f"fill ffffffe0{' 00' * 32}\n") else ran.stderr
+    ran = command("fill", folder / "image.bin", "--format", "binary", "--at", "ffffffe1")
+    yield "a byte behind them", one_line(ran, named=("32 bits",))
+    os.truncate(folder / "image.bin", 64 << 20)  # of 512 MB as a list
+    bounded = lambda: resource.setrlimit(resource.RLIMIT_AS, (300 << 20, 300 << 20))  # noqa: E731
+    ran = command("fill", folder / "image.bin", "--format", "binary", preexec_fn=bounded)
+    yield "an image that memory has no room for", one_line(ran, named=("out of memory",), status=4)
 
 
 def elf(folder: Path) -> Optional[str]:
@@ -610,6 +670,27 @@ def elf(folder: Path) -> Optional[str]:
     (folder / "cut.elf").write_bytes((folder / "image.elf").read_bytes()[:100])
     ran = command("fill", folder / "cut.elf")
     return one_line(ran, ran.stdout, ("ELF",))
+
+
+def elf_of(bits: int, order: str) -> bytes:
+    """An ELF as the System V ABI has it: four bytes for the virtual address 400000 and the physical 1000, of eight in memory."""
+    form, head, program = {32: ("HHIIIIIHHHHHH", 52, 32), 64: ("HHIQQQIHHHHHH", 64, 56)}[bits]
+    data, kind = head + program, b"\x7fELF" + bytes([bits // 32, "<>".index(order) + 1, 1]) + bytes(9)
+    heads = kind + struct.pack(order + form, 2, 0, 1, 0, head, 0, 0, head, program, 1, 0, 0, 0)
+    if bits == 32:
+        return heads + struct.pack(f"{order}8I", 1, data, 0x400000, 0x1000, 4, 8, 4, 4) + bytes([1, 2, 3, 4])
+    return heads + struct.pack(f"{order}2I6Q", 1, 4, data, 0x400000, 0x1000, 4, 8, 4) + bytes([1, 2, 3, 4])
+
+
+def elves(folder: Path) -> Iterator[Case]:
+    """The fill lines of ELFs by hand, of 32 and 64 bits and of each order of bytes, by each word that says which."""
+    begin, zeros = "01 02 03 04", "00 00 00 00"
+    due = {"": f"fill 1000 {begin}\n", "--virtual": f"fill 400000 {begin}\n", "--zeros": f"fill 1000 {begin}\nfill 1004 {zeros}\n"}
+    for bits, order in itertools.product((32, 64), "<>"):
+        (folder / "hand.elf").write_bytes(elf_of(bits, order))
+        for word, lines in due.items():
+            ran = command("fill", folder / "hand.elf", *filter(None, [word]))
+            yield f"an ELF of {bits} bits, {order}, {word}", None if (ran.returncode, ran.stdout) == (0, lines) else ran.stdout + ran.stderr
 
 
 def judged_behind(lines: str, data: bytes, score: str) -> Iterator[Case]:

@@ -41,7 +41,7 @@ AXI_RULES: Dict[str, Tuple[str, ...]] = {
     **dict.fromkeys(OF_ADDRESSES, (AW, AR)),
     "ID_RANGE": (AW, AR, B, R),
     "W_WITHOUT_AW": (W,),
-    **dict.fromkeys(("STROBE", "WLAST"), (W, AW)),  # of data ahead of their address by that
+    **dict.fromkeys(("STROBE", "WLAST"), (W, AW)),  # of an AW, where data that came ahead of it break the rule
     "B_WITHOUT_WRITE": (B,),
     **dict.fromkeys(("R_WITHOUT_READ", "RLAST"), (R,)),
     "EXOKAY": (B, R),
