@@ -77,7 +77,7 @@ def python(program: str) -> Testbench:
                 raise SystemExit(why)
             return random_bench.observed(bridge)
 
-    return Testbench("random_bench.py", RTL.parent / "without.lines", 74, observed)
+    return Testbench("random_bench.py", RTL.parent / "without.lines", 78, observed)
 
 
 def reached(bench: Testbench, runs: int, score: str) -> Iterator[Case]:

@@ -4,8 +4,8 @@ out the requests whole, one at a time, in the order in which they were accepted.
     python3 examples/testbench/random_bench.py [--steps N] [--corners N] [--observed FILE] [--in-process] [SEED]
 
 Of 16 requests so many as --corners says (4) look for a corner: the edge of a page or a region, a page that fails or isn't there, a bad
-word, masks that are empty, a message that is corrupt in all beats; and now and then for a while no answer is given, no reply is taken or
-no burst is sent. With 0 there are plain lots. --observed writes what tlscore and zuldegei-cover read of the run. With --in-process the
+word, masks that are empty, a message that is corrupt in all beats; and for a while replies are taken soon, or none is taken, no answer is
+given or no burst is sent. With 0 there are plain lots. --observed writes what tlscore and zuldegei-cover read of the run. With --in-process the
 model is that of the library (interfaces/README.md), and else the program's. Both give the same.
 """
 
@@ -33,7 +33,7 @@ BAD = 0xFD8  # the place of a word in the first page that reads with an error
 ROOM = 128
 PLACES = (*range(ROOM), *range(BYTES - ROOM, BYTES + ROOM), *range(2 * BYTES - ROOM, 2 * BYTES))  # of the good pages
 CORNERS, MOST_CORNERS = 4, 16  # of 16 requests, how many look for a corner, and at the most
-MOOD_STEPS = 64  # for so many steps at a time, on average, something isn't done
+MOOD_STEPS = 32  # how many steps a mood lasts on average: in some moods replies are taken soon, and in others something isn't done
 
 
 def set_up(bridge):
@@ -264,7 +264,8 @@ class Bench:
     def run(self, steps):
         set_up(self.bridge)
         moves = self.moves()
-        moods = moves, moves, self.moves(self.answer_b, self.answer_r), self.moves(self.take), self.moves(self.pump)
+        fast = moves + [self.take] * 3
+        moods = fast, fast, self.moves(self.answer_b, self.answer_r), self.moves(self.take), self.moves(self.pump)
         for _ in range(steps):
             if self.corners and self.rng.randrange(MOOD_STEPS) == 0:
                 moves = self.rng.choice(moods)
