@@ -503,7 +503,7 @@ def rung_late(browser: str, folder: Path) -> Iterator[Case]:
 def pictured(folder: Path) -> Iterator[Case]:
     """Whether docs/picture.py makes a picture with the bars' colours and red, and whether the one that is kept is like it."""
     picture = folder / "picture.png"
-    ran = subprocess.run([sys.executable, TOP / "docs/picture.py", picture], capture_output=True, text=True, timeout=300)
+    ran = subprocess.run([sys.executable, TOP / "docs/picture.py", "timeline", picture], capture_output=True, text=True, timeout=300)
     found = pixels(picture) if ran.returncode == 0 else Counter()
     lacking = [it for it in COLOURS if found[bytes.fromhex(it)] < 20]
     yield "a picture", f"it has hardly a pixel of {lacking}; {ran.stderr}" if lacking else None

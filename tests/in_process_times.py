@@ -60,7 +60,7 @@ def ways(folder: Path, library: Path, given: argparse.Namespace) -> Dict[str, Ca
         loop = f"for seed in $(seq {given.seeds}); do {command}; done"
         return lambda: subprocess.run(["sh", "-ec", loop], cwd=folder, stdout=subprocess.DEVNULL, check=True)
 
-    asked = f"+seed=$seed +requests={REQUESTS}"
+    asked = f"+seed=$seed +requests={REQUESTS} +corners=0"
     found = {"no monitor": each(f"{bare} {asked}"), "lines to a file": each(f"{prints} {asked} +observed=seen")}
     for profile in run.PROFILES:
         (folder / profile).write_text(run.Asked(profile).setup)

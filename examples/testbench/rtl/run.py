@@ -3,9 +3,9 @@ judge what the monitor saw.
 
     python3 examples/testbench/rtl/run.py [--runs N] [--first SEED] [--jobs N] [--simulator NAME] [--score PROGRAM]
                                           [--profile NAME] [--errors HOW] [--pages KIND] [--bridge NAME] [--habit NAME] [--calm]
-                                          [--resets N]
+                                          [--resets N] [--corners N]
     python3 examples/testbench/rtl/run.py --right [--runs N] [--first SEED] [--jobs N] [--simulator NAME] [--score PROGRAM]
-                                          [--pages KIND] [--resets N]
+                                          [--pages KIND] [--resets N] [--corners N]
 
 For each of them it prints how many runs were told wrong, and after how many beats the first wrong line came. It ends with status 0
 exactly where the right bridge is never blamed and each fault is told in some run, with 1 where not, with 2 for words that it doesn't
@@ -13,7 +13,8 @@ know, with 3 where a simulator or tlscore can't do its work, and with 4 where th
 another one judged, which tells errors in its own way: it asks for --profile tilelink --errors any, or with --calm for the first alone.
 By --errors any, without --calm, the memory whose good pages fail by lot is among them. By --pages any each memory begins with bytes
 by lot, which nobody tells tlscore, and by --pages unknown with x. By --resets N all of a testbench is reset N times in each run, but
-for the memory's bytes. What x alone shows is left out where the simulator is Verilator, which has two states, and that is said.
+for the memory's bytes. By --corners N the clients look for a corner with N of 16 requests, and by 0 they ask by plain lots. What x
+alone shows is left out where the simulator is Verilator, which has two states, and that is said.
 
 --right has both bridges judged as they are, each by what it promises, N runs in all, and prints a table of them.
 """
@@ -44,6 +45,7 @@ ERRORS = ("strict", "any")
 PAGES = {"good": "ZEROS", "any": "NOISE", "unknown": "UNKNOWN"}  # by the kind of the pages what the memory begins with
 HABITS = ("EARLY", "QUIET")  # of the streaming bridge
 MEMORIES = ("ANY_ORDER", "IN_ORDER", "AS_BEATS_COME", "SLOW")
+CORNERS, MOST_CORNERS = 4, 16  # of 16 requests, how many look for a corner, and at the most; with 0 there are plain lots
 FAILING = "FAILING"  # bursts to good pages fail by lot, which no set-up can say: for errors any alone
 RIGHT = "NONE"
 BUGS = ("LANE_SWAPPED", "STROBE_LOST", "OTHER_SOURCE", "REPLY_TWICE", "WLAST_EARLY", "PAGE_CROSSED", "REGION_UNASKED")
@@ -85,6 +87,7 @@ class Bench(NamedTuple):
     is_calm: bool = False  # no access fails, and no beat is corrupt
     began: str = ""  # what the memory begins with, where that isn't what the set-up says
     resets: int = 0  # how often all is reset meanwhile
+    corners: int = CORNERS
 
     @property
     def name(self):
@@ -97,6 +100,10 @@ class Bench(NamedTuple):
     @property
     def device(self):
         return self.bridge if self.bridge == BRIDGES[0] else f"{self.bridge} {self.habit}"
+
+    @property
+    def words(self):
+        return [f"+resets={self.resets}", f"+corners={self.corners}"]
 
     @property
     def defines(self):
@@ -166,7 +173,7 @@ def judged(score, setup, text):
 def ran(bench, seed, making, score, folder):
     """Runs a testbench with a seed, once it is made, and has it judged."""
     seen = folder / f"seen-{seed}.lines"
-    simulated([*making.result(), f"+seed={seed}", f"+resets={bench.resets}", f"+observed={seen}"])
+    simulated([*making.result(), f"+seed={seed}", *bench.words, f"+observed={seen}"])
     text = seen.read_text()
     seen.unlink()
     told = judged(score, bench.asked.setup, f"{text}= end\n")  # a testbench ends where all is answered, or nothing moves any more
@@ -252,10 +259,10 @@ def right_plan(seeds, pages="good"):
 def plan_of(given):
     """Each testbench that is asked for, with its seeds."""
     seeds = range(given.first, given.first + given.runs)
-    if given.right:
-        return with_resets(right_plan(seeds, given.pages), given.resets)
     asked = Asked(given.profile, given.errors, given.pages)
-    return with_resets([(bench, seeds) for bench in benches(given.bridge, asked, given.calm, given.habit)], given.resets)
+    chosen = [] if given.right else benches(given.bridge, asked, given.calm, given.habit)
+    plan = right_plan(seeds, given.pages) if given.right else [(bench, seeds) for bench in chosen]
+    return [(bench._replace(corners=given.corners), its) for bench, its in with_resets(plan, given.resets)]
 
 
 def shown_in(plan, simulator):
@@ -329,11 +336,14 @@ def words():
     asked.add_argument("--habit", choices=HABITS, help="how the streaming bridge tells errors (EARLY)")
     asked.add_argument("--calm", action="store_true", help="no access fails, and no beat is corrupt")
     asked.add_argument("--resets", type=int, default=0, help="how often all is reset in each run (0)")
+    asked.add_argument("--corners", type=int, default=CORNERS, help=f"of 16 requests how many look for a corner ({CORNERS})")
     asked.add_argument("--jobs", type=int, default=os.cpu_count() or 1, help="how many runs at once (one a processor)")
     takes_programs(asked)
     given = asked.parse_args()
     if min(given.runs, given.first, given.jobs) < 1 or given.resets < 0:
         asked.error("runs, seeds and jobs are counted from 1, and resets from 0")
+    if not 0 <= given.corners <= MOST_CORNERS:
+        asked.error(f"--corners {given.corners}: 0 to {MOST_CORNERS} of so many requests")
     if given.right and (given.calm or given.profile or given.errors or given.bridge or given.habit):
         asked.error("--right chooses the bridges, and what is asked of them, itself")
     if given.habit and given.bridge != BRIDGES[1]:

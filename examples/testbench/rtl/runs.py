@@ -20,7 +20,7 @@ RUNS = run.HERE / "runs"
 
 
 class Stored(NamedTuple):
-    """A run by its fault, its seed, and how many requests each client asks."""
+    """A run by its fault, its seed, and how many requests each client asks, by plain lots."""
 
     bug: str
     seed: int
@@ -40,7 +40,7 @@ class Stored(NamedTuple):
 
     @property
     def bench(self) -> run.Bench:
-        return run.Bench(run.BRIDGES[0], run.Asked(), bug=self.bug)
+        return run.Bench(run.BRIDGES[0], run.Asked(), bug=self.bug, corners=0)
 
     def is_shown_in(self, simulator: Optional[str]) -> bool:
         """Whether a simulator makes it: one is there, and has x where the fault is shown by that."""
@@ -69,7 +69,7 @@ def simulated(stored: Stored, simulator: str, folder: Path) -> str:
     bench, its_folder = stored.bench, Path(tempfile.mkdtemp(dir=folder))
     seen = folder / f"{stored.name}.seen"
     words = run.compiled(simulator, bench, its_folder)
-    run.simulated([*words, f"+seed={stored.seed}", f"+requests={stored.requests}", f"+observed={seen}"])
+    run.simulated([*words, f"+seed={stored.seed}", f"+requests={stored.requests}", *bench.words, f"+observed={seen}"])
     return f"{bench.asked.setup}{seen.read_text()}= end\n"
 
 
