@@ -150,7 +150,7 @@ def tables() -> Iterator[Case]:
     seen = Observation("")
     for line in lines:
         seen.set_up(0, line.split())
-    names = bins_of(Setup(config_of(lines[0].split(), 1), seen), ["time", "waited"])
+    names = bins_of(Setup(config_of(lines[0].split()[1:]), seen), ["time", "waited"])
     yield "each bin has one name", None if len(names) == len({*names}) else "some have the same"
     yield "each group has bins", ", ".join(it.name for it in GROUPS if not any(name.startswith(f"{it.name}/") for name in names)) or None
     for rule, patterns in CORNERS.items():

@@ -1,0 +1,50 @@
+"""One pass over the lines of an observation, in which all that take them get each."""
+
+from typing import Dict, Iterable, Protocol
+
+from .command import Fault
+from .observation import Beat, fault_of, passed
+
+
+class Taker(Protocol):
+    """What takes lines in their order, and refuses one by a Fault, a ValueError or an IndexError."""
+
+    def take(self, it: Beat) -> None:
+        """Takes a line."""
+
+    def finish(self) -> None:
+        """The observation is over."""
+
+
+def read(lines: Iterable[str], taker: Taker) -> None:
+    """Hands over a whole observation; a fault names the line that is refused."""
+    for it in passed(lines):
+        try:
+            taker.take(it)
+        except (ValueError, IndexError, Fault) as why:
+            raise fault_of(it, why) from why
+    taker.finish()
+
+
+class Beside:
+    """Several that take the same lines, each up to a fault of its own."""
+
+    def __init__(self, *takers: Taker):
+        self.takers = takers
+        self.faults: Dict[Taker, Fault] = {}
+
+    def take(self, it: Beat) -> None:
+        for taker in self.takers:
+            if taker not in self.faults:
+                try:
+                    taker.take(it)
+                except (ValueError, IndexError, Fault) as why:
+                    self.faults[taker] = fault_of(it, why)
+
+    def finish(self) -> None:
+        for taker in self.takers:
+            if taker not in self.faults:
+                try:
+                    taker.finish()
+                except Fault as why:
+                    self.faults[taker] = why
