@@ -1,6 +1,7 @@
 """One pass over the lines of an observation, in which all that take them get each."""
 
-from typing import Dict, Iterable, Protocol
+from pathlib import Path
+from typing import Dict, Iterable, Protocol, TextIO, Union
 
 from .command import Fault
 from .observation import Beat, fault_of, passed
@@ -16,6 +17,11 @@ class Taker(Protocol):
         """The observation is over."""
 
 
+def opened(path: Union[str, Path]) -> TextIO:
+    """The lines of a file that has an observation."""
+    return open(path, encoding="ascii", errors="replace", newline="\n")
+
+
 def read(lines: Iterable[str], taker: Taker) -> None:
     """Hands over a whole observation; a fault names the line that is refused."""
     for it in passed(lines):
@@ -26,8 +32,8 @@ def read(lines: Iterable[str], taker: Taker) -> None:
     taker.finish()
 
 
-class Beside:
-    """Several that take the same lines, each up to a fault of its own."""
+class Several:
+    """Some that take the same lines, each up to a fault of its own."""
 
     def __init__(self, *takers: Taker):
         self.takers = takers
