@@ -6,6 +6,7 @@ from pathlib import Path
 from typing import Optional, Sequence
 
 from .command import Fault, Status, ended, naming, words_of
+from .cover_groups import Covergroups
 from .cover_page import Page, in_ascii
 from .cover_read import Reader
 from .cover_report import Cover, Shown, cover_of, cover_of_json, withouts_of
@@ -51,6 +52,7 @@ def work(arguments: Sequence[str]) -> int:
     words.add_argument("--json", type=Path, metavar="FILE", help="where the counts go, for later calls")
     words.add_argument("--html", type=Path, metavar="FILE", help="where the page goes")
     words.add_argument("--lcov", type=Path, metavar="FILE", help="where lcov's .info goes, with a folder FILE.bins beside it")
+    words.add_argument("--covergroups", type=Path, metavar="FILE", help="where a module of covergroups goes, with these bins")
     words.add_argument("--clock", type=counting, metavar="UNITS", help=CLOCK)
     given = words.parse_args(arguments)
     withouts = withouts_of(given.without) if given.without else []
@@ -67,6 +69,9 @@ def work(arguments: Sequence[str]) -> int:
             file.write(in_ascii(Page(shown, given.html).text()))
     if given.lcov:
         shown.lcov(given.lcov)
+    if given.covergroups:
+        with written(given.covergroups) as file:
+            file.write(Covergroups(shown).text())
     return Status.DONE
 
 
