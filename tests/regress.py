@@ -35,7 +35,7 @@ READ = """import junitparser, sys
 for suite in junitparser.JUnitXml.fromfile(sys.argv[1]):
     print(*(f"{it.name}: {it.value}" for it in suite.properties()), *(it.system_out for it in suite), sep="\\n")
 """
-LONG = 300_000  # beats, which no process reads in a second
+LONG, TOO_SHORT = 600_000, 3  # beats, and seconds in which no process reads so many
 RUNS = sorted((RTL / "runs").glob("*.lines"))
 Case = Tuple[str, Optional[str]]
 
@@ -501,8 +501,8 @@ def beside(folder: Path, score: str) -> Iterator[Case]:
     counts = "outstanding 0 open 0 compared 8 of 8\\n"
     for state, text in (("late", f"printf '= judged 5 wrong 0 {counts}'"), ("wrong", f"printf '= wrong 9 axi 8 WLAST\\n= judged 5 wrong 1 {counts}'; exit 1")):
         began, quick = time.monotonic(), stand_in(folder, f"head -c 1 >/dev/null; {text}")
-        made = Made(folder, "", "long.lines", "--cover", "some.cover", "--timeout", 1, "--score", quick)
-        is_told = "not covered: long.lines: it took longer than 1 s" in made.ran.stdout and time.monotonic() - began < 30
+        made = Made(folder, "", "long.lines", "--cover", "some.cover", "--timeout", TOO_SHORT, "--score", quick)
+        is_told = f"not covered: long.lines: it took longer than {TOO_SHORT} s" in made.ran.stdout and time.monotonic() - began < 30
         yield f"what takes too long beside its verdict: {state}", made.wrong(2 - (state == "wrong"), [state]) or (None if is_told else made.ran.stdout)
     helpers = Helpers()
     helper = helpers.one()
