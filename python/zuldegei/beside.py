@@ -58,8 +58,9 @@ def read_once(observation: Path, takers: Sequence[Taker]) -> Dict[Taker, Fault]:
     """Reads an observation for all that take it; gives the faults that ended the parts of some."""
     several = Several(*takers)
     try:
-        with opened(observation) as lines:
-            read(lines, several)
+        if takers:
+            with opened(observation) as lines:
+                read(lines, several)
     except Fault as why:
         return {**dict.fromkeys(takers, why), **several.faults}
     return several.faults

@@ -27,7 +27,7 @@ bin was reached first is the least by run and line, so that the order of files p
 --without FILE has lines `without PATTERN REASON`: the bins whose names are like that, with * and ?, are left out of what is shown, as
 `without id/*/7 the bridge has six slots`. JSON has all of them.
 
-Beats that tlscore tells wrong belong in no run that is counted: judge the runs first.
+It judges nothing, and wrong runs count as right ones do: zuldegei-regress says which are wrong.
 """
 
 

@@ -60,9 +60,10 @@ A line of --waive FILE is `KIND RULE client N REASON`, or `KIND RULE pages FIRST
 
 What each waived, and which met nothing, stands in the table and both files.
 
-With --cover FILE it counts what the runs reached of what their set-ups allow, and writes it for zuldegei-cover, by bins: how many
-stands in the table and both files. Wrong runs count as right ones do. A run that can't count is named, with the reason, as one that
-failed, or took longer than --timeout. Lines of --without FILE are `without PATTERN REASON`, as zuldegei-cover has them.
+With --cover FILE it counts which of the cases that their set-ups allow the runs reached, and writes that for zuldegei-cover. The table
+and both files say how many there are and how many were reached. Wrong runs count as right ones do. A run that can't count, as one that
+failed or took longer than --timeout, is named with the reason. Lines of --without FILE are `without PATTERN REASON`, as zuldegei-cover
+has them.
 
 With --keep FOLDER the observation and the verdict of each run that isn't right are kept there, for zuldegei-explain, as NAME.lines and
 NAME.told: NAME is the run's, with + for a space and %2F for /, and so for other characters; of a name of more than 100 characters it
@@ -404,14 +405,14 @@ def all_words() -> Words:
     words.add_argument("-j", "--jobs", type=int, default=os.cpu_count() or 1, help="how many runs at once (one a processor)")
     words.add_argument("--score", help="the scoreboard (what TLSCORE names, else tlscore)")
     words.add_argument("--setup", metavar="FILE", help="set-up lines that are put ahead of each run")
-    words.add_argument("--timeout", type=float, default=600, metavar="SECONDS", help="for a run and its verdict (600)")
+    words.add_argument("--timeout", type=float, default=600, metavar="SECONDS", help="for a run, its verdict and what else is asked of it (600)")
     words.add_argument("--junit", metavar="FILE", help="where JUnit XML goes")
     words.add_argument("--json", metavar="FILE", help="where JSON goes")
     words.add_argument("--late", type=counting, metavar="N", help="a run in which something took longer than N units of time is slow")
     words.add_argument("--waive", metavar="FILE", help="wrong lines that are let pass, by rule and client or pages, each with a reason")
-    words.add_argument("--cover", metavar="FILE", help="where it goes what the runs reached, for zuldegei-cover")
-    words.add_argument("--without", type=Path, metavar="FILE", help="which bins --cover doesn't count, and why")
-    words.add_argument("--clock", type=counting, metavar="UNITS", help=f"for --cover {CLOCK}")
+    words.add_argument("--cover", metavar="FILE", help="where the counts go of what the runs reached, for zuldegei-cover")
+    words.add_argument("--without", type=Path, metavar="FILE", help="which bins are left out of the numbers of --cover, and why")
+    words.add_argument("--clock", type=counting, metavar="UNITS", help=f"for --cover, {CLOCK}")
     words.add_argument("--keep", metavar="FOLDER", help="where runs that aren't right are kept")
     return words
 
