@@ -98,7 +98,8 @@ def parsed(folder: Path) -> Iterator[Case]:
         print("skipped: covergroups in a parser: Debian's package libverilog-perl isn't installed", flush=True)
         return
     text = module(next(setups())[1])
-    for name, changed in (("whole", text), ("a brace lost", text.replace("};  //", ";  //", 1)), ("a name that is none", text.replace("__at0", "/at0", 1))):
+    lost, odd = text.replace("};  //", ";  //", 1), text.replace("__at0", "/at0", 1)
+    for name, changed in (("whole", text), ("a brace lost", lost), ("a name that is none", odd)):
         (folder / "parsed.sv").write_text(changed)
         ran = subprocess.run(["perl", "-e", PARSED, folder / "parsed.sv"], capture_output=True, text=True)
         is_read = ran.returncode == 0 and ran.stdout == "zuldegei_cover\n"

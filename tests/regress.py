@@ -465,7 +465,8 @@ def uncovered(folder: Path, score: str) -> Iterator[Case]:
     text = f"case {{seed}} in 1) cat '{RUNS[0]}';; 2) head -n 20 '{RUNS[0]}'; echo it broke >&2; exit 3;; *) cat '{RUNS[0]}'; sleep 60;; esac"
     words = ["--command", text, "--seeds", "1-3", "--timeout", 9, "--cover", "some.cover"]
     made = Made(folder, score, "nothing.lines", "none.lines", *words)
-    due = ["none.lines: none.lines: No such file or directory", "seed 2: the command ended with status 3: it broke", "seed 3: it took longer than 9 s"]
+    due = ["none.lines: none.lines: No such file or directory", "seed 2: the command ended with status 3: it broke"]
+    due += ["seed 3: it took longer than 9 s"]
     found = re.findall(r"(?m)^not covered: (.*)$", made.ran.stdout)
     yield "runs that don't count", made.wrong(1, ["nothing", "failed", "wrong", "failed", "late"]) or (None if found == due else f"{found}")
     yield "runs that do", None if json.loads((folder / "some.cover").read_text())["runs"] == 2 else "it isn't two"
@@ -498,12 +499,14 @@ def beside(folder: Path, score: str) -> Iterator[Case]:
     is_well = found and found[0].late > 3 and found[0].cover.beats == 65
     yield "an observation that can be read once", None if is_well else f"{found}"
     (folder / "long.lines").write_text("".join(long_run(LONG)))
-    counts = "outstanding 0 open 0 compared 8 of 8\\n"
-    for state, text in (("late", f"printf '= judged 5 wrong 0 {counts}'"), ("wrong", f"printf '= wrong 9 axi 8 WLAST\\n= judged 5 wrong 1 {counts}'; exit 1")):
+    last = "= judged 5 wrong {} outstanding 0 open 0 compared 8 of 8\\n"
+    verdicts = {"late": f"printf '{last.format(0)}'", "wrong": f"printf '= wrong 9 axi 8 WLAST\\n{last.format(1)}'; exit 1"}
+    for state, text in verdicts.items():
         began, quick = time.monotonic(), stand_in(folder, f"head -c 1 >/dev/null; {text}")
         made = Made(folder, "", "long.lines", "--cover", "some.cover", "--timeout", TOO_SHORT, "--score", quick)
         is_told = f"not covered: long.lines: it took longer than {TOO_SHORT} s" in made.ran.stdout and time.monotonic() - began < 30
-        yield f"what takes too long beside its verdict: {state}", made.wrong(2 - (state == "wrong"), [state]) or (None if is_told else made.ran.stdout)
+        why = made.wrong(2 - (state == "wrong"), [state])
+        yield f"what takes too long beside its verdict: {state}", why or (None if is_told else made.ran.stdout)
     helpers = Helpers()
     helper = helpers.one()
     helper.end()
