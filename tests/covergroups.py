@@ -3,7 +3,7 @@ it once, under its number, in the covergroup of its group, by a name of its own 
 simulator reads covergroups: that they are well formed Verilog-Perl says, where it is installed; and what stands around them runs in
 Verilator, bound in a testbench, without them: the counts that it samples are those of zuldegei-cover, by the lines of a run and by a file.
 
-    python3 tests/covergroups.py TLSCORE
+    python3 tests/covergroups.py
 """
 
 import re
