@@ -36,21 +36,24 @@ class Several:
     """Some that take the same lines, each up to a fault of its own."""
 
     def __init__(self, *takers: Taker):
-        self.takers = takers
+        self.going = takers
         self.faults: Dict[Taker, Fault] = {}
 
     def take(self, it: Beat) -> None:
-        for taker in self.takers:
-            if taker not in self.faults:
-                try:
-                    taker.take(it)
-                except (ValueError, IndexError, Fault) as why:
-                    self.faults[taker] = fault_of(it, why)
+        for taker in self.going:
+            try:
+                taker.take(it)
+            except (ValueError, IndexError, Fault) as why:
+                self.drop(taker, fault_of(it, why))
 
     def finish(self) -> None:
-        for taker in self.takers:
-            if taker not in self.faults:
-                try:
-                    taker.finish()
-                except Fault as why:
-                    self.faults[taker] = why
+        for taker in self.going:
+            try:
+                taker.finish()
+            except Fault as why:
+                self.drop(taker, why)
+
+    def drop(self, taker: Taker, fault: Fault) -> None:
+        """One takes no more lines."""
+        self.going = tuple(it for it in self.going if it is not taker)
+        self.faults[taker] = fault
