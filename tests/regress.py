@@ -483,6 +483,10 @@ def uncovered(folder: Path, score: str) -> Iterator[Case]:
     made = Made(folder, score, "timeless.lines", "--late", 5, "--cover", "some.cover")
     count = json.loads((folder / "some.cover").read_text())["runs"]
     yield "a run without times is covered", made.wrong(2, ["failed"]) or (None if count == 1 else f"{count} runs")
+    (folder / "large.lines").write_text(RUNS[0].read_text() + "# and no beat\n" * 3000)
+    small = lambda: resource.setrlimit(resource.RLIMIT_FSIZE, (20_000, 20_000))  # noqa: E731
+    ran = command("regress", "large.lines", "--cover", "/dev/null", "--score", score, cwd=folder, preexec_fn=small)
+    yield "a run without room", None if re.search(r"(?m)^not covered: large.lines: .*joined.lines: ", ran.stdout) else ran.stdout
     for word in ("--without", "--clock"):
         yield f"{word} without --cover", ended(Made(folder, score, RIGHT, word, 5), 6, "--cover")
 

@@ -12,7 +12,7 @@ import time
 from pathlib import Path
 from typing import BinaryIO, Dict, NamedTuple, Optional, Sequence, Set
 
-from .command import Fault, unexpected
+from .command import Fault, reason, unexpected
 from .cover_read import Reader
 from .cover_report import cover_of
 from .latency import Latencies
@@ -110,6 +110,8 @@ class Request(NamedTuple):
         """What is said of the run, whatever goes wrong."""
         try:
             return self.beside.applied(self.made, self.observation, self.verdict)
+        except OSError as why:
+            return self.beside.unsaid(self.made, State.FAILED, reason(why))
         except MemoryError:
             return self.beside.unsaid(self.made, State.FAILED, "out of memory")
         except Exception as why:

@@ -141,7 +141,7 @@ class Runner:
             said = "out of memory"
         except Exception as why:
             said = unexpected(why)
-        return Outcome(job, State.FAILED, time.monotonic() - began, why=said)
+        return Outcome(job, State.FAILED, time.monotonic() - began, why=said, uncovered=said if self.beside.is_covered else "")
 
     def made(self, job: Job, joined: Path, began: float) -> Outcome:
         """Makes a run, whose observation goes into a file, has it judged, and keeps it where it isn't right."""
@@ -165,7 +165,10 @@ class Runner:
         made, beside = asked.made, self.beside
         if not beside.asks(made.state):
             return made._replace(uncovered=made.why) if beside.is_covered else made
-        answer = self.helpers.answer(asked, until)
+        try:
+            answer = self.helpers.answer(asked, until)
+        except OSError as why:
+            return beside.unsaid(made, State.FAILED, reason(why))
         if answer is not None:
             return answer
         if time.monotonic() > until:
