@@ -23,12 +23,13 @@ from waves import command
 MONITOR, WIRES = TOP / "examples/testbench/rtl/monitor.sv", TOP / "tests/waits.sv"
 JUDGES = [SYSTEMVERILOG / f"zuldegei_{it}.sv" for it in ("pkg", "monitor")]
 SETUP = "# two clients\nconfig 2 4 16 2 16 12 hh\nregion 0 4 10 gpah\npage 10 4 good\n"
-# What passes by the tables of waits.sv. The Get of client 1 is withdrawn once, and then taken at once; W data come ahead of their AW; and a
-# request that waits ahead of a reset is offered anew behind it.
+# What passes by the tables of waits.sv. The Get of client 1 is withdrawn once, and waits anew behind that; W data come ahead of their AW; and
+# a request that waits ahead of a reset is offered anew behind it.
 LINES = """time 35
 waited A0 2
 A 0 0 0 3 5 00000008 ff 1122334455667788 0
-time 55
+time 65
+waited A1 1
 A 1 4 0 3 7 00000010 ff 0000000000000000 0
 time 75
 waited AW 1
@@ -57,10 +58,10 @@ WITHOUT = re.sub(r"(?m)^waited .*\n", "", LINES)
 LAST = "D 0 1 0 3 5 0 0000000000000000 0\n"
 WRONG = LAST.replace("0 0\n", "1 0\n")
 RIGHT_END = "= judged 11 wrong 0 outstanding 0 open 0 compared 16 of 16"
-WRONG_TOLD = f"= wrong 31 reply 7 PAYLOAD expected {LAST.strip()} at 175"
+WRONG_TOLD = f"= wrong 32 reply 7 PAYLOAD expected {LAST.strip()} at 175"
 WRONG_END = RIGHT_END.replace("wrong 0", "wrong 1")
 # Bins of the group `wait`, with how often they are reached and in which line first.
-BINS = ("A0/0 1 29", "A0/2-7 1 7", "A1/0 1 9", "AW/1 1 12", "W/1 1 15", "AR/0 1 17", "B/2-7 1 19", "R/1 1 22", "D0/0 1 31", "D0/1 1 24", "D1/0 1 26")
+BINS = ("A0/0 1 30", "A0/2-7 1 7", "A1/1 1 10", "AW/1 1 13", "W/1 1 16", "AR/0 1 18", "B/2-7 1 20", "R/1 1 23", "D0/0 1 32", "D0/1 1 25", "D1/0 1 27")
 # Commands, and what each is given of a run.
 COMMANDS = {"explain": ("lines", "told"), "wave_of": ("lines", "told", "vcd"), "times": ("lines",)}
 MAP = """clock testbench.clock
