@@ -218,7 +218,7 @@ class Lot:
         source = replies.begun.source if replies.begun else rng.choice(sources) if sources else -1
         if source < 0 and not self.is_rare(8):
             return None
-        if source < 0 or self.is_rare(24):
+        if source < 0 or self.is_rare(12):
             source = rng.choice(sources or [0]) if self.is_rare(2) else rng.getrandbits(self.shape.source_bits)
         due = replies.next(source)
         goes_on = bool(replies.begun)
@@ -267,7 +267,7 @@ class Lot:
 
     def w(self) -> Optional[Wires]:
         rng, burst, bus = self.rng, self.axi.to_fill(), self.shape.bus_bytes
-        if burst is None and not self.is_rare(6 if self.is_flooded else 30):
+        if burst is None and not self.is_rare(3 if self.is_flooded else 10):
             return None
         lanes = burst.transfer(bus)[2] if burst else rng.getrandbits(bus)
         strobes = lanes if self.is_rare(2) else lanes & rng.getrandbits(bus)
@@ -296,7 +296,7 @@ class Lot:
     def r(self) -> Optional[Wires]:
         id = self.id_of("reads")
         burst = self.axi.reads.oldest(id)
-        if burst is None and not self.is_rare(12):
+        if burst is None and not self.is_rare(5):
             return None
         last = int((burst is not None and burst.is_last()) != self.is_rare(16))
         resp = 1 if self.is_rare(16) else self.rng.choice((0, 0, 2, 3))
@@ -356,14 +356,16 @@ def line_of(channel: str, it: Wires) -> str:
 
 
 def packed(shape: Shape, clock: Clock) -> str:
-    """The wires of a clock as a number. What isn't offered has noise."""
-    number = int(clock.reset)
+    """The wires of a clock as words. What isn't offered has noise."""
+    number, all_bits = int(clock.reset), 1
     for channel in FIELDS:
         beat, widths = clock.beats.get(channel), shape.widths(channel)
+        all_bits += 2 + sum(widths)
         number = number << 2 | (0 if beat is None else 3 if clock.passes else 2)
         for at, bits in enumerate(widths):
             number = number << bits | (beat[at] if beat else (1 << bits) - 1)
-    return f"{number:x}"
+    digits = f"{number:0{(all_bits + 31) // 32 * 8}x}"
+    return " ".join(digits[at : at + 8] for at in range(0, len(digits), 8))
 
 
 Verdicts = Dict[Tuple[int, str], str]  # by clock and channel: port, number and name of the rule
@@ -411,6 +413,8 @@ class Simulator(NamedTuple):
             fast = ["-MAKEFLAGS", "OPT_FAST=-O0 OPT_SLOW=-O0 OPT_GLOBAL=-O0"]  # it is made in less time than it would save
             words = ["verilator", "--binary", "--timing", "--assert", *fast, *given, "--top-module", "testbench", "-Mdir", str(program), "-o", "bench"]
             words, runs = [*words, *files], [str(program / "bench"), "+verilator+error+limit+1000000"]
+        if program.exists():
+            return runs
         done = subprocess.run(words, capture_output=True, text=True, timeout=600, check=False)
         if done.returncode:
             raise SystemExit(f"{self.name} ended with status {done.returncode}: {(done.stdout + done.stderr)[-2000:]}")
@@ -479,7 +483,7 @@ def of_lots(rng: random.Random, score: str, simulator: Simulator, many: int, rou
 def of_wide(rng: random.Random, simulator: Simulator, many: int) -> Iterator[Case]:
     """AXI4 ports of more than 64 bits, beside the plain model."""
     for shape in WIDE:
-        clocks = clocks_of(rng, shape, many)
+        clocks = clocks_of(rng, shape, many * 8 // shape.bus_bytes)
         found = [it for it in simulator.played(shape, clocks) if it[2].startswith("axi")]
         yield compared(f"{simulator.name}, {8 * shape.bus_bytes} bits", clocks, by_model(clocks), found)
 
@@ -515,13 +519,6 @@ def of_wires(simulator: Simulator) -> Iterator[Case]:
             ):
                 told_of = {label for _, label, _ in simulator.played(shape, [*clocks, *end])}
                 yield f"{simulator.name}, {channel} {name}, STAYS {stays}", None if told_of == wanted else f"{sorted(told_of)} are told"
-
-
-def of_unknown(simulator: Simulator) -> Iterator[Case]:
-    """Nothing is told of wires that are x, which is the scoreboard's to tell."""
-    source = TOP / "tests/rules.sv"
-    bench = source.read_text().replace('"%h", wires) == 1', '"%h", wires) == 1 && wires !== 0')
-    yield "tests/rules.sv has one end of its clocks", None if bench != source.read_text() else "it has another"
 
 
 def labels(text: str) -> Iterator[Case]:
