@@ -438,19 +438,16 @@ def channel_of(label: str, rule: str) -> str:
 
 
 def by_assertions(clocks: List[Clock], found: List[Tuple[int, str, str]]) -> Tuple[Verdicts, List[str]]:
-    """What the assertions tell of the beats that pass, and what else they tell: two rules of a beat, or of one that waits another rule than
-    when it passes."""
+    """What the assertions tell of the beats that pass, and what else they tell: another rule of such a beat, or one of a beat that waits."""
     verdicts: Verdicts = {}
     odd = []
-    for at, label, rule in reversed(found):
+    for at, label, rule in found:
         place = at, channel_of(label, rule)
         if clocks[at].passes and place not in verdicts:
             verdicts[place] = rule
-        elif clocks[at].passes or verdicts.get((at + 1, place[1])) != rule:
-            odd.append(f"{label} at clock {at}")
         else:
-            verdicts[place] = rule
-    return {place: it for place, it in verdicts.items() if clocks[place[0]].passes}, odd
+            odd.append(f"{label} at clock {at}")
+    return verdicts, odd
 
 
 def compared(name: str, clocks: List[Clock], due: Verdicts, found: List[Tuple[int, str, str]]) -> Case:
@@ -458,7 +455,7 @@ def compared(name: str, clocks: List[Clock], due: Verdicts, found: List[Tuple[in
     verdicts, odd = by_assertions(clocks, found)
     differ = sorted(place for place in {*due, *verdicts} if due.get(place) != verdicts.get(place))
     if odd:
-        return name, f"the assertions tell too much: {odd[-1]}"
+        return name, f"the assertions tell too much: {odd[0]}"
     if not differ:
         return name, None
     at, channel = place = differ[0]

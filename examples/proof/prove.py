@@ -4,7 +4,7 @@
 
 The files are Verilog that yosys reads, among them zuldegei_rules.sv; all inputs of the top module but its clock are free, as far as its
 assumptions allow. ABC looks at one clock after the other, up to so many; it says which assertion fails first, by the path of its label, and
-FOLDER/broken.vcd shows the wires up to there. Statuses: 0 nothing fails, as far as it says; 1 an assertion fails; 2 words that can't be;
+FOLDER/broken.vcd shows the wires up to there, and a clock more. How long it took is on standard error. Statuses: 0 nothing fails, as far as it says; 1 an assertion fails; 2 words that can't be;
 3 a program couldn't do its work; 4 yosys or ABC isn't installed. yosys 0.23 and ABC are Debian's `yosys` and `berkeley-abc`.
 """
 
@@ -15,7 +15,7 @@ import subprocess
 import sys
 import time
 from pathlib import Path
-from typing import List, NamedTuple, NoReturn, Optional
+from typing import List, NamedTuple, NoReturn
 
 # Elaborates the design into model.il, which is played, and model.aig, which is solved.
 ELABORATE = """
@@ -67,11 +67,11 @@ def ran(words: List[str], folder: Path) -> str:
 
 
 def elaborate(given: argparse.Namespace) -> None:
-    began = time.process_time(), time.monotonic()
+    began = time.monotonic()
     files, defines = " ".join(str(it.resolve()) for it in given.files), " ".join(f"-D{it}" for it in given.define)
     (given.out / "model.ys").write_text(ELABORATE.format(files=files, defines=defines, top=given.top))
     ran(["yosys", "-q", "model.ys"], given.out)
-    print(f"elaborated in {time.monotonic() - began[1]:.0f} s", flush=True)
+    print(f"elaborated in {time.monotonic() - began:.0f} s", file=sys.stderr, flush=True)
 
 
 def solve(given: argparse.Namespace, program: str) -> Found:
@@ -82,7 +82,7 @@ def solve(given: argparse.Namespace, program: str) -> Found:
     size, broken, kept = SIZE.search(text), BROKEN.search(text), KEPT.search(text)
     if not size or not (broken or kept):
         end(3, f"{program} doesn't say what it found: {text[-2000:]}")
-    print(f"solved in {time.monotonic() - began:.1f} s: {size[1]} inputs, {size[2]} registers, {size[3]} gates", flush=True)
+    print(f"solved in {time.monotonic() - began:.1f} s: {size[1]} inputs, {size[2]} registers, {size[3]} gates", file=sys.stderr)
     return Found(int(broken[1]) + 1, played(given)) if broken else Found(int(kept[1]), [])
 
 
