@@ -27,7 +27,7 @@ FAULTS = {
     "LANE_SWAPPED": "word.PAYLOAD",
     "STROBE_LOST": "word.PAYLOAD",
     "WIDE_STROBES": "port.STROBE",
-    "OTHER_SOURCE": "client.D_UNASKED",
+    "OTHER_SOURCE": "client.D_OPCODE",
     "REPLY_TWICE": "client.D_UNASKED",
     "WLAST_LOST": "port.WLAST",
     "ANSWERED_EARLY": "word.PAYLOAD",
