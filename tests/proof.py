@@ -22,18 +22,20 @@ from waves import command
 TOP = Path(__file__).resolve().parent.parent
 PROOF, RTL, RULES = TOP / "examples/proof", TOP / "examples/testbench/rtl", TOP / "interfaces/systemverilog/zuldegei_rules.sv"
 FILES = [PROOF / "small_bridge.sv", PROOF / "word.sv", PROOF / "small_proof.sv", RULES]
-# The faults of the small bridge, and the assertion that fails first.
+# The faults of the small bridge, and the assertion that fails first: of a reply that nobody waits for it may be another of channel D, since the
+# source may have asked for something else.
+NOT_DUE = r"client\.D_(UNASKED|OPCODE|SIZE)"
 FAULTS = {
-    "LANE_SWAPPED": "word.PAYLOAD",
-    "STROBE_LOST": "word.PAYLOAD",
-    "WIDE_STROBES": "port.STROBE",
-    "OTHER_SOURCE": "client.D_OPCODE",
-    "REPLY_TWICE": "client.D_UNASKED",
-    "WLAST_LOST": "port.WLAST",
-    "ANSWERED_EARLY": "word.PAYLOAD",
-    "DENIED_CLEAN": "client.D_CORRUPT",
-    "REGION_UNASKED": "word.AR_PLACE",
-    "AW_WITHDRAWN": "port.AW_STAYS",
+    "LANE_SWAPPED": r"word\.PAYLOAD",
+    "STROBE_LOST": r"word\.PAYLOAD",
+    "WIDE_STROBES": r"port\.STROBE",
+    "OTHER_SOURCE": NOT_DUE,
+    "REPLY_TWICE": NOT_DUE,
+    "WLAST_LOST": r"port\.WLAST",
+    "ANSWERED_EARLY": r"word\.PAYLOAD",
+    "DENIED_CLEAN": r"client\.D_CORRUPT",
+    "REGION_UNASKED": r"word\.AR_PLACE",
+    "AW_WITHDRAWN": r"port\.AW_STAYS",
 }
 EDGE = 10  # the time of a clock in the dump
 Case = Tuple[str, Optional[str]]
@@ -54,16 +56,16 @@ def judged(score: str, folder: Path) -> List[str]:
 def of_fault(score: str, folder: Path, bug: str, label: str) -> Case:
     """A fault: the assertion, and what tlscore says of the dump."""
     done = proved("--define", f"BUG={bug}", "--out", folder / bug, *FILES)
-    found = re.fullmatch(r"= broken in clock (\d+): (.*)\n", done.stdout)
-    if done.returncode != 1 or not found or label not in found[2].split():
+    found = re.fullmatch(rf"= broken in clock (\d+): ({label})\n", done.stdout)
+    if done.returncode != 1 or not found:
         return bug, f"status {done.returncode}, {done.stdout + done.stderr[-300:]}, and not {label}"
     said = judged(score, folder / bug)
-    name, at = re.sub(r"^(D|AW|AR)_", "", label.partition(".")[2]), EDGE * (int(found[1]) - 1)
+    name, at = re.sub(r"^(D|AW|AR)_", "", found[2].partition(".")[2]), EDGE * (int(found[1]) - 1)
     wrong = [it for it in said if it.startswith("= wrong")]
     if name == "STAYS":
         return bug, f"tlscore finds {wrong}" if wrong or len(said) != 1 else None
     is_alike = len(wrong) == 1 and re.fullmatch(rf"= wrong \d+ \w+ \d+ {name}( .*)? at {at}", wrong[0])
-    return bug, None if is_alike else f"{label} in clock {found[1]}, and tlscore says {said}"
+    return bug, None if is_alike else f"{found[2]} in clock {found[1]}, and tlscore says {said}"
 
 
 def of_right(folder: Path, depth: int) -> Case:

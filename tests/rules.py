@@ -3,9 +3,10 @@ in a clock, some of which wait, and resets between. The rule that the assertions
 and each rule has to be broken so often. Lots are drawn beside plain models of the tables of docs/RULES.md, which go on behind a wrong beat
 as docs/SCOREBOARD.md says, and replies tell what the set-up's pages let them tell, so that nothing is wrong by the memory alone. AXI4
 ports of 128 bits and more, which tlscore doesn't take, are judged by the plain model. Then the wires: what is offered, waits and changes.
-The labels are compared with the proved names. Where Icarus or Verilator isn't installed that is said, and by yosys the file is read.
+The labels are compared with the proved names, and beside the testbench of examples/testbench/rtl the assertions tell what tlscore finds. One
+shape of the ports is played by Verilator too, and yosys reads the file. What isn't installed of these is named.
 
-    python3 tests/rules.py TLSCORE [--seed WORD] [--clocks N] [--cases N]
+    python3 tests/rules.py TLSCORE [--seed WORD] [--clocks N] [--rounds N]
 """
 
 import argparse
@@ -28,7 +29,7 @@ from client import ABeat, beats_of  # observed.py says where it stands
 from random_bench import GET, INTENT
 
 TOP = Path(__file__).resolve().parent.parent
-RULES = TOP / "interfaces/systemverilog/zuldegei_rules.sv"
+RULES, RTL = TOP / "interfaces/systemverilog/zuldegei_rules.sv", TOP / "examples/testbench/rtl"
 LEAST = 50
 REPLY_RULES = ("UNASKED", "INTERLEAVED", "OPCODE", "SIZE", "DENIED", "CORRUPT")
 RESPONSES = ("OKAY", "EXOKAY", "SLVERR", "DECERR")
@@ -477,12 +478,40 @@ def of_lots(rng: random.Random, score: str, simulator: Simulator, many: int, rou
             yield compared(f"{simulator.name}, round {number}, {shape}", clocks, due, simulator.played(shape, clocks))
 
 
+def by_verilator(given: argparse.Namespace, folder: Path) -> Iterator[Case]:
+    """Lots by one shape, which is compiled anew: that takes longer than to play them."""
+    shape, simulator = SHAPES[3], Simulator("verilator", folder)
+    clocks = clocks_of(random.Random(given.seed), shape, given.clocks)
+    yield compared(f"verilator, {shape}", clocks, by_score(given.score, shape, clocks), simulator.played(shape, clocks))
+
+
 def of_wide(rng: random.Random, simulator: Simulator, many: int) -> Iterator[Case]:
     """AXI4 ports of more than 64 bits, beside the plain model."""
     for shape in WIDE:
         clocks = clocks_of(rng, shape, many * 8 // shape.bus_bytes)
         found = [it for it in simulator.played(shape, clocks) if it[2].startswith("axi")]
         yield compared(f"{simulator.name}, {8 * shape.bus_bytes} bits", clocks, by_model(clocks), found)
+
+
+# Bridges of the example's testbench, which tell nothing or break a rule that isn't the memory's.
+BENCHES = ("-DBRIDGE=streaming_bridge", "-DBUG=NONE", "-DBUG=WLAST_EARLY", "-DBUG=PAGE_CROSSED", "-DBUG=CUT_SHORT", "-DBUG=REPLY_TWICE")
+
+
+def of_benches(score: str, folder: Path) -> Iterator[Case]:
+    """The assertions beside the testbench of examples/testbench/rtl: all that they tell, with its time, is what tlscore finds wrong of the lines that
+    the monitor prints."""
+    seen, bench = folder / "seen.lines", str(folder / "bench.vvp")
+    files = [*sorted(RTL.glob("*.sv")), RULES, RULES.with_name("example_rules.sv")]
+    for given in BENCHES:
+        made = ["iverilog", "-g2012", given, f"-I{RTL}", "-s", "testbench", "-s", "example_rules", "-o", bench, *map(str, files)]
+        subprocess.run(made, check=True, timeout=120)
+        text = subprocess.run(["vvp", "-n", bench, "+seed=3", f"+observed={seen}"], capture_output=True, text=True, timeout=120, check=True).stdout
+        found = sorted((int(at), f"{port} {number} {name}") for port, number, name, at, _ in TOLD.findall(text))
+        lines = (RTL / "setup.lines").read_text().replace("axi strict\n", "profile tilelink\nerrors any\n") + seen.read_text()
+        said = started([score], lines.encode()).text.decode()
+        due = sorted((int(at), rule) for rule, at in re.findall(r"(?m)^= wrong \d+ (\w+ \d+ \w+).* at (\d+)$", said))
+        is_broken = given.startswith("-DBUG=") and not given.endswith("NONE")
+        yield f"the testbench by {given}", None if found == due and bool(due) == is_broken else f"{found[:3]} and not {due[:3]}"
 
 
 # A right beat of each channel whose wires are asked to stay, behind those that it needs.
@@ -575,8 +604,13 @@ def cases(given: argparse.Namespace) -> Iterator[Case]:
             yield from often(counts)
             yield from of_wide(rng, simulator, given.clocks)
             yield from of_wires(simulator)
+            yield from of_benches(given.score, Path(folder))
         else:
             print("skipped: the assertions by Icarus, as iverilog isn't installed")
+        if shutil.which("verilator"):
+            yield from by_verilator(given, Path(folder))
+        else:
+            print("skipped: the assertions by Verilator, as it isn't installed")
     if shutil.which("yosys"):
         yield from by_yosys()
     else:
