@@ -37,7 +37,7 @@ FAULTS = {
     "REGION_UNASKED": r"word\.AR_PLACE",
     "AW_WITHDRAWN": r"port\.AW_STAYS",
 }
-EDGE = 10  # the time of a clock in the dump
+CLOCK = 10  # how long a clock is in the dump
 Case = Tuple[str, Optional[str]]
 
 
@@ -60,7 +60,7 @@ def of_fault(score: str, folder: Path, bug: str, label: str) -> Case:
     if done.returncode != 1 or not found:
         return bug, f"status {done.returncode}, {done.stdout + done.stderr[-300:]}, and not {label}"
     said = judged(score, folder / bug)
-    name, at = re.sub(r"^(D|AW|AR)_", "", found[2].partition(".")[2]), EDGE * (int(found[1]) - 1)
+    name, at = re.sub(r"^(D|AW|AR)_", "", found[2].partition(".")[2]), CLOCK * int(found[1])
     wrong = [it for it in said if it.startswith("= wrong")]
     if name == "STAYS":
         return bug, f"tlscore finds {wrong}" if wrong or len(said) != 1 else None
