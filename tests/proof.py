@@ -46,6 +46,11 @@ def proved(*words: object, environment: Optional[Dict[str, str]] = None) -> subp
     return subprocess.run(given, capture_output=True, text=True, timeout=900, env=environment, check=False)
 
 
+def timed(done: subprocess.CompletedProcess) -> str:
+    """How long it took, as prove.py says."""
+    return ", ".join(re.findall(r"(?m)^(?:elaborated|solved) in [\d.]+ s", done.stderr))
+
+
 def judged(score: str, folder: Path) -> List[str]:
     """What tlscore says of the dump."""
     seen = command("waves", PROOF / "small.map", folder / "broken.vcd")
@@ -59,6 +64,7 @@ def of_fault(score: str, folder: Path, bug: str, label: str) -> Case:
     found = re.fullmatch(rf"= broken in clock (\d+): ({label})\n", done.stdout)
     if done.returncode != 1 or not found:
         return bug, f"status {done.returncode}, {done.stdout + done.stderr[-300:]}, and not {label}"
+    print(f"{bug}: {found[2]} in clock {found[1]}, {timed(done)}", flush=True)
     said = judged(score, folder / bug)
     name, at = re.sub(r"^(D|AW|AR)_", "", found[2].partition(".")[2]), CLOCK * int(found[1])
     wrong = [it for it in said if it.startswith("= wrong")]
@@ -71,6 +77,7 @@ def of_fault(score: str, folder: Path, bug: str, label: str) -> Case:
 def of_right(folder: Path, depth: int) -> Case:
     done = proved("--depth", depth, "--out", folder / "right", *FILES)
     is_right = (done.returncode, done.stdout) == (0, f"= nothing is broken in {depth} clocks\n")
+    print(f"the right bridge: {depth} clocks, {timed(done)}", flush=True)
     return "the right bridge", None if is_right else f"status {done.returncode}: {done.stdout + done.stderr[-300:]}"
 
 
