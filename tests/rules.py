@@ -2,8 +2,8 @@
 in a clock, some of which wait, and resets between. The rule that the assertions tell of each beat has to be tlscore's, or none for both,
 and each rule has to be broken so often. Lots are drawn beside plain models of the tables of docs/RULES.md, which go on behind a wrong beat
 as docs/SCOREBOARD.md says, and replies tell what the set-up's pages let them tell, so that nothing is wrong by the memory alone. AXI4
-ports of 128 bits and more, which tlscore doesn't take, are judged by the plain model. Then the wires: what is offered, waits and changes.
-The labels are compared with the proved names, and beside the testbench of examples/testbench/rtl the assertions tell what tlscore finds. One
+ports of 128 bits and more, which tlscore doesn't take, are judged by the plain model. Then the wires: what is offered, waits and changes;
+and beats with x, which nothing is told of. The labels are compared with the proved names, and beside the testbench of examples/testbench/rtl the assertions tell what tlscore finds. One
 shape of the ports is played by Verilator too, and yosys reads the file. What isn't installed of these is named.
 
     python3 tests/rules.py TLSCORE [--seed WORD] [--clocks N] [--rounds N]
@@ -423,10 +423,14 @@ class Simulator(NamedTuple):
 
     def played(self, shape: Shape, clocks: List[Clock]) -> List[Tuple[int, str, str]]:
         """What the assertions tell, in order: the clock, the label, and what they say is broken."""
-        (self.folder / "played").write_text("".join(f"{packed(shape, it)}\n" for it in clocks))
+        return self.told(shape, [packed(shape, it) for it in clocks])
+
+    def told(self, shape: Shape, lines: List[str]) -> List[Tuple[int, str, str]]:
+        """The same of the clocks' words."""
+        (self.folder / "played").write_text("".join(f"{it}\n" for it in lines))
         runs = [*self.made(shape), f"+clocks={self.folder / 'played'}"]
         done = subprocess.run(runs, capture_output=True, text=True, timeout=600, check=False)
-        if f"played to {10 * len(clocks)}" not in done.stdout:
+        if f"played to {10 * len(lines)}" not in done.stdout:
             raise SystemExit(f"{self.name} ended with status {done.returncode}: {(done.stdout + done.stderr)[-2000:]}")
         return [(int(at) // 10, label, f"{port} {number} {name}") for port, number, name, at, label in TOLD.findall(done.stdout + done.stderr)]
 
@@ -491,6 +495,42 @@ def of_wide(rng: random.Random, simulator: Simulator, many: int) -> Iterator[Cas
         clocks = clocks_of(rng, shape, many * 8 // shape.bus_bytes)
         found = [it for it in simulator.played(shape, clocks) if it[2].startswith("axi")]
         yield compared(f"{simulator.name}, {8 * shape.bus_bytes} bits", clocks, by_model(clocks), found)
+
+
+def unknown(shape: Shape, clock: Clock, channel: str) -> str:
+    """The words of a clock, of which the digits that lie in the fields of a channel's beat are x."""
+    text, below = packed(shape, clock), 0
+    for name in reversed(FIELDS):
+        bits = sum(shape.widths(name))
+        if name == channel:
+            return "".join(it if it == " " or not below <= 4 * at < below + bits - 3 else "x" for at, it in places(text))
+        below += 2 + bits
+    raise SystemExit(f"there is no channel {channel}")
+
+
+def places(text: str) -> List[Tuple[int, str]]:
+    """The characters of words, with the places of their digits from the end of all, where a blank has the place of none."""
+    left = sum(it != " " for it in text)
+    found = []
+    for it in text:
+        left -= it != " "
+        found.append((left, it))
+    return found
+
+
+def of_unknown(simulator: Simulator) -> Iterator[Case]:
+    """Of a beat with x nothing is told, and it changes nothing: what is right behind it is right, and what is wrong there is told."""
+    shape = Shape(id_bits=8, source_bits=8)
+    put, ack = (0, 0, 3, 5, 8, 0xFF, 0), (0, 0, 3, 5, 0, 0, 0)
+    write, data, answer = (1, 0x10000, 0, 3, 1), (0, 0xFF, 1), (1, 0)
+    right: List[Dict[str, Wires]] = [{"A": put}, {"AW": write}, {"W": data}, {"B": answer}, {"D": ack}]
+    clocks = [Clock(reset=True), *map(Clock, right), Clock({"B": answer}), Clock({"D": ack}), Clock({"W": data})]
+    for channel, beat in (("A", put), ("AW", write), ("B", answer), ("AR", write), ("D", ack)):
+        text = "".join(f"{packed(shape, it)}\n" for it in clocks).splitlines()
+        text.insert(1, unknown(shape, Clock({channel: beat}), channel))
+        found = [(at, label) for at, label, _ in simulator.told(shape, text)]
+        due = [(7, "B_WITHOUT_WRITE"), (8, "D_UNASKED"), (9, "W_WITHOUT_AW")]
+        yield f"x on {channel}", None if found == due else f"{found} is told, and not {due}"
 
 
 # Bridges of the example's testbench, which are right or break a rule that isn't the memory's.
@@ -605,6 +645,7 @@ def cases(given: argparse.Namespace) -> Iterator[Case]:
             yield from often(counts)
             yield from of_wide(rng, simulator, given.clocks)
             yield from of_wires(simulator)
+            yield from of_unknown(simulator)
             yield from of_benches(given.score, Path(folder))
         else:
             print("skipped: the assertions by Icarus, as iverilog isn't installed")

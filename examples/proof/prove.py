@@ -89,7 +89,7 @@ def solve(given: argparse.Namespace, program: str) -> Found:
 def played(given: argparse.Namespace) -> List[str]:
     """Plays what ABC found, and a clock more, so that the last beats are in the dump; gives the labels that fail in the last clock."""
     witness = given.out / "broken.aiw"
-    lines = witness.read_text().splitlines()
+    lines = [it for it in (line.partition("#")[0] for line in witness.read_text().splitlines()) if it]
     witness.write_text("\n".join([*lines, lines[-1]]) + "\n")
     text = ran(["yosys", "-p", PLAY.format(clock=given.clock, top=given.top)], given.out)
     cycles = CYCLE.split(text)
