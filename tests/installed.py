@@ -23,9 +23,11 @@ from page_commands import BLOCK, SHOWN
 
 TOP = Path(__file__).resolve().parent.parent
 VERSION = (TOP / "VERSION").read_text().strip()
+PROOF = (TOP / "examples/proof/README.md").read_text()
 PAGE = (TOP / "docs/INSTALL.md").read_text().replace("VERSION", VERSION).replace(f"/{VERSION}`", "/VERSION`")
 BARE = {"PATH": "/usr/bin:/bin", "LANG": "C.UTF-8"}  # nothing of the toolchain is there
-NEEDED = ("verilator", "g++", "pkg-config")  # of Debian, where a block of the page names one
+# What a block needs of Debian, by what it names: prove.py runs yosys and ABC.
+NEEDED = {"verilator": "verilator", "g++": "g++", "pkg-config": "pkg-config", "iverilog": "iverilog", "prove.py": "berkeley-abc"}
 LIST = "share/zuldegei/installed.list"
 MODULES = ("waves", "fill", "explain", "wave-of", "times", "regress", "cover")
 # A stand-in for rt, which puts what was given where rt puts what it builds.
@@ -298,21 +300,24 @@ def as_readme(unpacked: Path) -> Iterator[Case]:
 
 
 def as_the_page(room: Path, archive: Path) -> Iterator[Case]:
-    """The commands of the page in an empty folder, in turn, as a new user calls them; what one exports the others have."""
+    """The commands of the page in an empty folder, in turn, as a new user calls them, and behind them those of the page of the assertions; what
+    one exports the others have."""
     shutil.copy(archive, room)
     shutil.copy(f"{archive}.sha256", room)
-    blocks, exported = BLOCK.findall(PAGE), ""
-    is_whole = len(blocks) == len(SHOWN.findall(PAGE)) == 3
-    yield "the commands of docs/INSTALL.md", None if is_whole else "a block isn't followed by what it prints"
-    for number, (block, status, due) in enumerate(blocks, 1):
-        lacking = [it for it in NEEDED if it in block and not shutil.which(it, path=BARE["PATH"])]
-        if lacking:
-            print(f"skipped: block {number} of docs/INSTALL.md, as {' and '.join(lacking)} isn't installed")
-            continue
-        done = ran(["sh", "-c", exported + block], room, {**BARE, "HOME": str(room)})
-        printed = None if done.stdout == due else f"it prints {done.stdout!r}"
-        yield f"block {number} of docs/INSTALL.md", why(done, int(status)) or printed
-        exported += "".join(f"{line}\n" for line in block.splitlines() if line.startswith("export "))
+    exported = ""
+    for page, text, many in (("docs/INSTALL.md", PAGE, 3), ("examples/proof/README.md", PROOF, 2)):
+        blocks = BLOCK.findall(text)
+        is_whole = len(blocks) == len(SHOWN.findall(text)) == many
+        yield f"the commands of {page}", None if is_whole else "a block isn't followed by what it prints"
+        for number, (block, status, due) in enumerate(blocks, 1):
+            lacking = [tool for name, tool in NEEDED.items() if name in block and not shutil.which(tool, path=BARE["PATH"])]
+            if lacking:
+                print(f"skipped: block {number} of {page}, as {' and '.join(lacking)} isn't installed")
+                continue
+            done = ran(["sh", "-c", exported + block], room, {**BARE, "HOME": str(room)})
+            printed = None if done.stdout == due else f"it prints {done.stdout!r}"
+            yield f"block {number} of {page}", why(done, int(status)) or printed
+            exported += "".join(f"{line}\n" for line in block.splitlines() if line.startswith("export "))
 
 
 def by_pip(room: Path) -> Iterator[Case]:
