@@ -9,7 +9,7 @@ ghost use Rattle.check_script.specs.ClientPorts.{check_text, table_after, verdic
 use crate::client_ports::{ClientPorts, Verdict};
 use crate::lines::{CheckCommand, check_command};
 use line_text::{Words, WriteFault, a_line, refused_line, write_text};
-use script_text::{Form, Kind, ScriptFault, ScriptSetup, StagedScript, read_script};
+use script_text::{Form, Kind, ScriptFault, StagedScript, read_script};
 use setups::{Setup, SetupFault};
 use std::alloc::Global;
 use std::io::{Read, Write};
@@ -50,6 +50,7 @@ fn judge<W: Write>(
 
 impl Kind for CheckScript {
     ghost use Rattle.std.specs.Prelude.{false};
+    ghost use Rattle.script_text.proofs.StageSteps.{says_itself};
     ghost use Rattle.setups.specs.Setups.{SetupLists, lists_of};
     ghost use Rattle.check_script.specs.Check.{check_kind};
     ghost use Rattle.check_script.specs.ClientPorts.{PortTable};
@@ -81,18 +82,6 @@ impl Kind for CheckScript {
 
     fn takes(form: Form) -> bool {
         matches!(form, Form::Config)
-    }
-
-    fn of_config(words: &Words<'_>) -> Result<Setup, u32> {
-        Setup::of_config(words)
-    }
-
-    fn has_no_room(setup: &Setup, form: Form, words: &Words<'_>) -> bool {
-        setup.has_no_room(form, words)
-    }
-
-    fn add(setup: &mut Setup, form: Form, words: &Words<'_>) -> Result<(), u32> {
-        setup.add(form, words)
     }
 
     fn own_opening() {}
@@ -151,6 +140,8 @@ impl Kind for CheckScript {
     }
 
     ghost gives_text = { check_gives };
+
+    ghost adds_up = { says_itself _ _ };
 }
 
 /// Judges the beats of a script and writes its trace, each command's text before the next line is read. The answer is true

@@ -12,7 +12,7 @@ use line_text::{
     Words, WriteFault, a_line, burst_lines, drained_line, mem_line, offer_line, reply_lines,
     work_line,
 };
-use script_text::{Form, Kind, ScriptFault, ScriptSetup, StagedScript, read_script};
+use script_text::{Form, Kind, ScriptFault, StagedScript, read_script};
 use std::alloc::Global;
 use std::io::{Read, Write};
 use tl_messages::ReplyBox;
@@ -126,6 +126,7 @@ fn line<W: Write>(
 
 impl Kind for RunScript {
     ghost use Rattle.std.specs.Prelude.{false};
+    ghost use Rattle.script_text.proofs.StageSteps.{says_itself};
     ghost use Rattle.setups.specs.Setups.{SetupLists, lists_of};
     ghost use Rattle.run_script.specs.CommandTexts.{run_gives};
     ghost use Rattle.run_script.specs.Run.{run_kind};
@@ -157,18 +158,6 @@ impl Kind for RunScript {
 
     fn takes(_form: Form) -> bool {
         true
-    }
-
-    fn of_config(words: &Words<'_>) -> Result<Setup, u32> {
-        Setup::of_config(words)
-    }
-
-    fn has_no_room(setup: &Setup, form: Form, words: &Words<'_>) -> bool {
-        setup.has_no_room(form, words)
-    }
-
-    fn add(setup: &mut Setup, form: Form, words: &Words<'_>) -> Result<(), u32> {
-        setup.add(form, words)
     }
 
     fn own_opening() {}
@@ -234,6 +223,8 @@ impl Kind for RunScript {
     }
 
     ghost gives_text = { run_gives };
+
+    ghost adds_up = { says_itself _ _ };
 }
 
 /// Carries out a script and writes its trace, each command's text before the next line is read.

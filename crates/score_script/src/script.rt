@@ -10,7 +10,7 @@ use crate::score::{Command, Score, wrong_at_first};
 use line_text::Words;
 use score_setup::{ScoreSetup, score_setup_fault};
 use script_text::{
-    Form, Kind, ScriptFault, ScriptSetup, StagedScript, StoppedLine, read_script, read_script_with,
+    Form, Kind, ScriptFault, StagedScript, StoppedLine, read_script, read_script_with,
 };
 use setups::SetupFault;
 use std::alloc::Global;
@@ -23,6 +23,7 @@ pub(crate) struct ScoreScript;
 impl Kind for ScoreScript {
     ghost use Rattle.std.specs.Prelude.{true};
     ghost use Rattle.score_setup.specs.ScoreSetups.{RangeLists, ranges_of};
+    ghost use Rattle.script_text.proofs.StageSteps.{says_itself};
     ghost use Rattle.score_script.specs.CommandTexts.{score_gives};
     ghost use Rattle.score_script.specs.ScoreStates.{score_of};
     ghost use Rattle.score_script.specs.Scores.{Score, score_kind};
@@ -54,18 +55,6 @@ impl Kind for ScoreScript {
 
     fn takes(_form: Form) -> bool {
         true
-    }
-
-    fn of_config(words: &Words<'_>) -> Result<ScoreSetup, u32> {
-        ScoreSetup::of_config(words)
-    }
-
-    fn has_no_room(setup: &ScoreSetup, form: Form, words: &Words<'_>) -> bool {
-        setup.has_no_room(form, words)
-    }
-
-    fn add(setup: &mut ScoreSetup, form: Form, words: &Words<'_>) -> Result<(), u32> {
-        setup.add(form, words)
     }
 
     fn own_opening() -> Asked {
@@ -144,6 +133,8 @@ impl Kind for ScoreScript {
     }
 
     ghost gives_text = { score_gives };
+
+    ghost adds_up = { says_itself _ _ };
 }
 
 /// Judges what was observed at the ports of a bridge, and writes a line for each beat that can't be right, for each question, and

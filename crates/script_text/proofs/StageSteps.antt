@@ -6,7 +6,8 @@ use Rattle.burst_plan.specs.PageMap.{region_fault}
 use Rattle.config.specs.Configs.{is_valid}
 use Rattle.script_text.specs.Forms.{told_as}
 use Rattle.script_text.specs.Scripts.{LineStep}
-use Rattle.script_text.specs.Stages.{GivesSome, Kind, OpensAs, OpensStage, Opening, Running, SettingUp, Stage, Writes, command_step, commanded_step, is_misplaced, line_commanded, nothing_written, reading_of, set_up_as, set_up_with, setup_step, stage_as, stage_of, stage_step, stage_wants, told_step, unless_refused, wants_where, world_at, wrong_first, wrong_opened, wrong_word}
+use Rattle.script_text.specs.SetupRules.{SetupRules}
+use Rattle.script_text.specs.Stages.{GivesSome, Kind, OpensAs, OpensStage, Opening, Running, SaysAlike, SettingUp, Stage, Writes, command_step, commanded_step, is_misplaced, line_commanded, nothing_written, reading_of, set_up_as, set_up_with, setup_step, stage_as, stage_of, stage_step, stage_wants, told_step, unless_refused, wants_where, world_at, wrong_first, wrong_opened, wrong_word}
 use Rattle.script_text.specs.Steps.{GivesText, Stands, TakesStep}
 use Rattle.script_text.specs.declared.faults.ScriptFault.{ScriptFault}
 use Rattle.script_text.specs.declared.faults.ScriptFault.TheVariants.{Script, Setup, Read, Write, NoMemory}
@@ -47,6 +48,11 @@ opens_as said opening setup result = opens_unless said opening (setup_fault setu
 -- it was made before
 pub OpensStage-running : {Z S W C : Type 0} (kind : Kind Z S W C) (stage : Stage Z S W) (world : W) (number : ℕ) → stage ≡ Running world → (found : W) × (world_at kind stage number ≡ Ok found) × (stage ≡ Running found)
 OpensStage-running kind stage world number there = (world, ap (λ s. world_at kind s number) there, there)
+
+-- the same lists by the same rules
+pub says_itself : {H Z : Type 0} (lists : H → Z) (rules : SetupRules Z) → SaysAlike lists rules lists rules
+says_itself lists rules =
+    record { of_config = λ words told is. is; has_no_room = λ setup f words. refl; with_line = λ old new f words told takes. takes }
 
 -- ---- commands
 

@@ -269,6 +269,14 @@ abbrev pub TakesLine : {X : Type 0} → Result X ℕ → X → Result (Unit {0})
 TakesLine told new (Ok done) = told ≡ Ok new
 TakesLine told new (Err word) = told ≡ Err word
 
+-- rules that speak of a set-up by its lists say what others say by other lists: what a `config` line gives, where there is no room for a line, and
+-- what a line adds
+pub record SaysAlike {H Y Z : Type 0} (others : H → Y) (other_rules : SetupRules Y) (lists : H → Z) (rules : SetupRules Z) : Type 0 where
+  pub of_config : (words : List (List ℕ)) (told : Result H ℕ) → told_as others told ≡ other_rules.of_config words → told_as lists told ≡ rules.of_config words
+  pub has_no_room : (setup : H) (form : Form) (words : List (List ℕ)) → other_rules.has_no_room (others setup) form words ≡ rules.has_no_room (lists setup) form words
+  pub with_line : (old new : H) (form : Form) (words : List (List ℕ)) (told : Result (Unit {0}) ℕ) → TakesLine (other_rules.with_line (others old) form words) (others new) told
+      → TakesLine (rules.with_line (lists old) form words) (lists new) told
+
 -- what a script's commands work on was made where there was none, or why it wasn't; memory is asked for only where it may be made and nothing
 -- was written
 abbrev pub OpensStage : {Z S W : Type 0} → Result W ScriptFault → Bool → Stage Z S W → Result (Unit {0}) ScriptFault → Type 0

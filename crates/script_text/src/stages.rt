@@ -7,7 +7,7 @@ ghost use Rattle.script_text.specs.Steps.{TakesRest, TakesStep};
 use crate::driver::Script;
 use crate::faults::ScriptFault;
 use crate::keywords::Form;
-use crate::setup_lines::is_setup_form;
+use crate::setup_lines::{ScriptSetup, is_setup_form};
 use line_text::Words;
 use setups::SetupFault;
 use std::alloc::Global;
@@ -17,10 +17,10 @@ use std::marker::Model;
 /// A kind of script: the lines that it has, and what its commands do.
 pub trait Kind {
     ghost use Rattle.std.specs.Prelude.{Bool, ◌&&◌};
-    ghost use Rattle.script_text.specs.Stages.{GivesSome, Kind as Rules, line_commanded, told_wants, wrong_opened};
+    ghost use Rattle.script_text.specs.Stages.{GivesSome, Kind as Rules, SaysAlike, line_commanded, told_wants, wrong_opened};
 
     /// What its set-up lines add up to.
-    type Setup: Drop;
+    type Setup: ScriptSetup + Drop;
 
     /// What its own set-up lines have said.
     type Own: Drop;
@@ -57,19 +57,6 @@ pub trait Kind {
     /// Whether it has set-up lines of this form.
     fn takes(form: Form) -> bool
         ensures { result ≡ rules.takes form };
-
-    /// The set-up of a `config` line alone, or that line's first wrong word.
-    fn of_config(words: &Words<'_>) -> Result<Self::Setup, u32>
-        ensures { told_as lists result ≡ rules.set_up.of_config words.now };
-
-    /// Whether a set-up has no room for one line more of this form.
-    fn has_no_room(setup: &Self::Setup, form: Form, words: &Words<'_>) -> bool
-        ensures { result ≡ rules.set_up.has_no_room (lists setup.now) form words.now };
-
-    /// Adds a line of a form that isn't `config` to a set-up that has room for it, or answers its first wrong word.
-    fn add(setup: &mut Self::Setup, form: Form, words: &Words<'_>) -> Result<(), u32>
-        requires { rules.set_up.has_no_room (lists setup.old) form words.now ≡ false }
-        ensures { TakesLine (rules.set_up.with_line (lists setup.old) form words.now) (lists setup.new) result };
 
     /// What its own set-up lines have said before the first of them.
     fn own_opening() -> Self::Own
@@ -147,6 +134,9 @@ pub trait Kind {
 
     /// A command has text, or a script that ends after it.
     ghost gives_text: { GivesSome rules };
+
+    /// Its rules say of a set-up what that says of itself.
+    ghost adds_up: { SaysAlike Self.Setup.lists Self.Setup.rules lists rules.set_up };
 }
 
 /// How far a script has come.
@@ -192,7 +182,7 @@ impl<K: Kind> StagedScript<K> {
     {
         match &self.stage {
             Stage::Opening => !matches!(form, Form::Config),
-            Stage::SettingUp(setup, _) => K::has_no_room(setup, form, words),
+            Stage::SettingUp(setup, _) => setup.has_no_room(form, words),
             Stage::Running(_) => true,
         }
     }
@@ -203,14 +193,14 @@ impl<K: Kind> StagedScript<K> {
         ensures { TakesLine (set_up_with K.rules (stage_as K.lists K.said self.old) words.now form) (stage_as K.lists K.said self.new) result }
     {
         if matches!(form, Form::Config) {
-            let setup = K::of_config(words)?;
+            let setup = K::Setup::of_config(words)?;
             self.stage = Stage::SettingUp(setup, K::own_opening());
             return Ok(());
         }
         let Stage::SettingUp(setup, _) = &mut self.stage else {
             return Err(1);
         };
-        K::add(setup, form, words)
+        setup.add(form, words)
     }
 
     /// Takes a line of a set-up form.
