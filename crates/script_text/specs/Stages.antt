@@ -113,22 +113,6 @@ abbrev pub command_step : {Z S W C : Type 0} → Kind Z S W C → Result W Scrip
 command_step kind (Err fault) number command = Err fault
 command_step kind (Ok world) number command = commanded_step number (kind.commanded world number command)
 
--- the wrong word of a command's line, if it has one
-abbrev pub wrong_word : {W : Type 0} → Result (List ℕ × W) ℕ → Option ℕ
-wrong_word (Ok given) = None
-wrong_word (Err word) = Some word
-
--- the same of the first command, by what was made for it; none where the set-up is refused
-abbrev pub wrong_opened : {Z S W C : Type 0} → Kind Z S W C → Result W SetupFault → ℕ → C → Option ℕ
-wrong_opened kind (Ok world) number command = wrong_word (kind.commanded world number command)
-wrong_opened kind (Err fault) number command = None
-
--- by how far the script has come: none where a command is no first one
-abbrev pub wrong_first : {Z S W C : Type 0} → Kind Z S W C → Stage Z S W → ℕ → C → Option ℕ
-wrong_first kind Opening number command = None
-wrong_first kind (SettingUp setup own) number command = wrong_opened kind (kind.opened own setup) number command
-wrong_first kind (Running world) number command = None
-
 -- a line that says a command, or its first wrong word
 abbrev pub told_step : {Z S W C : Type 0} → Kind Z S W C → Stage Z S W → ℕ → Result C ℕ → LineStep (Stage Z S W)
 told_step kind stage number (Ok command) = command_step kind (world_at kind stage number) number command
@@ -138,6 +122,16 @@ told_step kind stage number (Err word) = Err (Script number word)
 abbrev pub line_commanded : {Z S W C : Type 0} → Kind Z S W C → W → ℕ → Result C ℕ → Result (List ℕ × W) ℕ
 line_commanded kind world number (Ok command) = kind.commanded world number command
 line_commanded kind world number (Err word) = Err word
+
+-- a line's wrong word, if it has one
+abbrev pub wrong_word : {X : Type 0} → Result X ℕ → Option ℕ
+wrong_word (Ok given) = None
+wrong_word (Err word) = Some word
+
+-- that of a line that would be the first command, by what would be made for it; where the set-up is refused, that of one that says no command
+abbrev pub wrong_opened : {Z S W C : Type 0} → Kind Z S W C → Result W SetupFault → ℕ → Result C ℕ → Option ℕ
+wrong_opened kind (Ok world) number told = wrong_word (line_commanded kind world number told)
+wrong_opened kind (Err fault) number told = wrong_word told
 
 -- what the words of a command's line say by the form that the first of them names, if it names one, or the first wrong word
 abbrev pub command_by_form : {C : Type 0} → (Form → List (List ℕ) → Result C ℕ) → List (List ℕ) → Option Form → Result C ℕ

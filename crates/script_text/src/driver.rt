@@ -107,10 +107,7 @@ pub fn take_line<S: Script, W: Write>(
 {
     let text = without_return(line);
     if !may_stand(text) {
-        return Err(ScriptFault::Script {
-            line: number,
-            word: 0,
-        });
+        return Err(ScriptFault::at(number, 0));
     }
     take_plain(script, alloc, number, text, writer)
 }
@@ -209,10 +206,7 @@ pub fn read_script_with<S: Script + Drop, R: Read, W: Write>(
             }
             Ending::Room => {
                 stopped.hold(block.line());
-                return Err(ScriptFault::Script {
-                    line: number,
-                    word: 0,
-                });
+                return Err(ScriptFault::at(number, 0));
             }
         }
         if take_held(&mut script, alloc, number, &block, writer, stopped)? {
@@ -221,10 +215,7 @@ pub fn read_script_with<S: Script + Drop, R: Read, W: Write>(
     }
     stopped.clear();
     if let Some(_) = block.next_byte(reader, writer)? {
-        return Err(ScriptFault::Script {
-            line: late,
-            word: 0,
-        });
+        return Err(ScriptFault::at(late, 0));
     }
     script.end(alloc, late, writer)
 }

@@ -1,7 +1,7 @@
 //! What every kind of script has in common: a `config` line, other set-up lines, and then commands.
-ghost use Rattle.std.specs.Prelude.{◌≡◌, ◌<◌, ◌&&◌, [], false, true, Ok};
+ghost use Rattle.std.specs.Prelude.{◌≡◌, ◌<◌, ◌&&◌, [], false, true};
 ghost use Rattle.script_text.specs.Forms.{told_as};
-ghost use Rattle.script_text.specs.Stages.{GivesWorld, OpensAs, Opening, OpensStage, TakesLine, Writes, WritesEnd, command_step, early_step, is_misplaced, nothing_written, other_step, reading_of, set_up_with, setup_step, stage_as, stage_ending, stage_wants, stage_wants_at_end, told_step, world_at, wrong_first};
+ghost use Rattle.script_text.specs.Stages.{GivesWorld, OpensAs, Opening, OpensStage, TakesLine, Writes, WritesEnd, early_step, is_misplaced, nothing_written, other_step, reading_of, set_up_with, setup_step, stage_as, stage_ending, stage_wants, stage_wants_at_end, world_at};
 ghost use Rattle.script_text.specs.Steps.{TakesRest, TakesStep};
 
 use crate::driver::Script;
@@ -16,7 +16,7 @@ use std::marker::Model;
 
 /// A kind of script: the lines that it has, and what its commands do.
 pub trait Kind {
-    ghost use Rattle.std.specs.Prelude.{Bool, ◌&&◌};
+    ghost use Rattle.std.specs.Prelude.{ℕ, Bool, ◌&&◌};
     ghost use Rattle.script_text.specs.Stages.{GivesSome, Kind as Rules, SaysAlike, line_commanded, told_wants, wrong_opened};
 
     /// What its set-up lines add up to.
@@ -27,9 +27,6 @@ pub trait Kind {
 
     /// What its commands work on.
     type World: Drop;
-
-    /// What a line says that is a command.
-    type Command: Drop;
 
     /// What its rules say of a set-up.
     ghost Lists: { Type 0 };
@@ -43,8 +40,11 @@ pub trait Kind {
     /// What commands work on, as the rules say it.
     ghost said: { Self.World → State };
 
+    /// What a line says that is a command.
+    ghost Command: { Type 0 };
+
     /// What its lines do.
-    ghost rules: { Rules Lists Self.Own State Self.Command };
+    ghost rules: { Rules Lists Self.Own State Command };
 
     /// Whether what commands work on may ask for memory in mid-run, at the commands that the rules say and at the input's end.
     ghost grows: { Bool };
@@ -70,10 +70,6 @@ pub trait Kind {
     fn passes(words: &Words<'_>) -> bool
         ensures { result ≡ rules.passes words.now };
 
-    /// What a command's line says, or its first wrong word: word 1, where no command begins so.
-    fn command_of(words: &Words<'_>) -> Result<Self::Command, u32>
-        ensures { result ≡ rules.command_of words.now };
-
     /// Makes what commands work on.
     fn open(
         &mut self,
@@ -83,28 +79,13 @@ pub trait Kind {
     ) -> Result<Self::World, SetupFault>
         ensures { OpensAs (rules.opened own.now (lists setup.now)) (told_as said result) };
 
-    /// The wrong word of a line whose command would be the first, by what would be made for it; none where the set-up is refused.
-    fn wrong_first(
-        own: &Self::Own,
-        setup: &Self::Setup,
-        number: u32,
-        command: &Self::Command,
-    ) -> Option<u32>
-        ensures { result ≡ wrong_opened rules (rules.opened own.now (lists setup.now)) number command.now };
+    /// The wrong word of a line that would be the first command, by what would be made for it: word 1, where no command begins so.
+    /// Where the set-up is refused, the line only has to say a command.
+    fn wrong_first(own: &Self::Own, setup: &Self::Setup, words: &Words<'_>) -> Option<u32>
+        ensures { (number : ℕ) → result ≡ wrong_opened rules (rules.opened own.now (lists setup.now)) number (rules.command_of words.now) };
 
-    /// Carries out a command, by the number of its line, and writes its text. The answer is whether there was any. A fault is
-    /// the line's wrong word, that of the writer, or that memory was refused.
-    fn carry_out<W: Write>(
-        &mut self,
-        world: &mut Self::World,
-        number: u32,
-        command: &Self::Command,
-        writer: &mut W,
-    ) -> Result<bool, ScriptFault>
-        ensures { Writes (grows && rules.wants (said world.old) command.now) number (rules.commanded (said world.old) number command.now) (said world.new) (W.contents writer.old) (W.contents writer.new) result };
-
-    /// Carries out the command that a line behind the first command says, and writes its text: `command_of` and `carry_out` in one,
-    /// where no value has to hold whatever command there is. Answer and fault are those of both.
+    /// Carries out the command that a line says, by the line's number, and writes its text. The answer is whether there was any.
+    /// A fault is the line's first wrong word, that of the writer, or that memory was refused.
     fn carry_line<W: Write>(
         &mut self,
         world: &mut Self::World,
@@ -112,17 +93,7 @@ pub trait Kind {
         words: &Words<'_>,
         writer: &mut W,
     ) -> Result<bool, ScriptFault>
-        ensures { Writes (grows && told_wants rules (said world.old) (rules.command_of words.now)) number (line_commanded rules (said world.old) number (rules.command_of words.now)) (said world.new) (W.contents writer.old) (W.contents writer.new) result }
-    {
-        let read = Self::command_of(words);
-        match &read {
-            Err(word) => Err(ScriptFault::Script {
-                line: number,
-                word: *word,
-            }),
-            Ok(command) => self.carry_out(world, number, command, writer),
-        }
-    }
+        ensures { Writes (grows && told_wants rules (said world.old) (rules.command_of words.now)) number (line_commanded rules (said world.old) number (rules.command_of words.now)) (said world.new) (W.contents writer.old) (W.contents writer.new) result };
 
     /// Writes the text of the input's end. The answer is what the script answers; a fault is as above.
     fn end<W: Write>(
@@ -214,18 +185,16 @@ impl<K: Kind> StagedScript<K> {
         ensures { TakesStep (reading_of K.rules) (K.grows && stage_wants K.rules (stage_as K.lists K.said self.old) (K.rules.command_of words.now)) (setup_step K.rules (stage_as K.lists K.said self.old) number words.now form) nothing_written (stage_as K.lists K.said self.old) (stage_as K.lists K.said self.new) (W.contents _writer.old) (W.contents _writer.new) result }
     {
         if !K::takes(form) || self.is_misplaced(form, words) {
-            return Err(ScriptFault::Script {
-                line: number,
-                word: 1,
-            });
+            return Err(ScriptFault::at(number, 1));
         }
         match self.set_up(form, words) {
-            Err(word) => Err(ScriptFault::Script { line: number, word }),
+            Err(word) => Err(ScriptFault::at(number, word)),
             Ok(()) => Ok(false),
         }
     }
 
-    /// Takes a line of no set-up form: one of the kind's own, or the first command.
+    /// Takes a line of no set-up form: one of the kind's own, or the first command. That is checked before what it works on is made,
+    /// so that want of memory hides no fault.
     fn take_other_line<W: Write>(
         &mut self,
         alloc: Global,
@@ -235,20 +204,25 @@ impl<K: Kind> StagedScript<K> {
     ) -> Result<bool, ScriptFault>
         ensures { TakesStep (reading_of K.rules) (K.grows && stage_wants K.rules (stage_as K.lists K.said self.old) (K.rules.command_of words.now)) (other_step K.rules (stage_as K.lists K.said self.old) number words.now) nothing_written (stage_as K.lists K.said self.old) (stage_as K.lists K.said self.new) (W.contents writer.old) (W.contents writer.new) result }
     {
-        let Stage::SettingUp(_, own) = &mut self.stage else {
-            return Err(ScriptFault::Script {
-                line: number,
-                word: 1,
-            });
+        let Stage::SettingUp(setup, own) = &mut self.stage else {
+            return Err(ScriptFault::at(number, 1));
         };
         match K::own_line(own, words) {
-            None => self.take_command(alloc, number, words, writer),
-            Some(Err(word)) => Err(ScriptFault::Script { line: number, word }),
+            Some(Err(word)) => return Err(ScriptFault::at(number, word)),
             Some(Ok(said)) => {
                 *own = said;
-                Ok(false)
+                return Ok(false);
             }
+            None => {}
         }
+        if let Some(word) = K::wrong_first(own, setup, words) {
+            return Err(ScriptFault::at(number, word));
+        }
+        self.open(alloc, number)?;
+        let Stage::Running(world) = &mut self.stage else {
+            unreachable!();
+        };
+        self.kind.carry_line(world, number, words, writer)
     }
 
     /// Takes a line before the first command. It is apart, since a function clears the room for its values at its entry.
@@ -293,10 +267,7 @@ impl<K: Kind> StagedScript<K> {
     {
         let (setup, own) = match &self.stage {
             Stage::Opening => {
-                return Err(ScriptFault::Script {
-                    line: number,
-                    word: 1,
-                });
+                return Err(ScriptFault::at(number, 1));
             }
             Stage::Running(_) => return Ok(()),
             Stage::SettingUp(setup, own) => (setup, own),
@@ -309,59 +280,6 @@ impl<K: Kind> StagedScript<K> {
             Err(SetupFault::NoMemory) => Err(ScriptFault::NoMemory),
             Err(fault) => Err(ScriptFault::Setup(fault)),
         }
-    }
-
-    /// The wrong word of a line whose command would be the first; none of another.
-    #[inline]
-    fn wrong_first(&self, number: u32, command: &K::Command) -> Option<u32>
-        ensures { result ≡ wrong_first K.rules (stage_as K.lists K.said self.now) number command.now }
-    {
-        match &self.stage {
-            Stage::SettingUp(setup, own) => K::wrong_first(own, setup, number, command),
-            _ => None,
-        }
-    }
-
-    fn carry_out<W: Write>(
-        &mut self,
-        alloc: Global,
-        number: u32,
-        command: &K::Command,
-        writer: &mut W,
-    ) -> Result<bool, ScriptFault>
-        ensures { TakesStep (reading_of K.rules) (K.grows && stage_wants K.rules (stage_as K.lists K.said self.old) (Ok command.now)) (command_step K.rules (world_at K.rules (stage_as K.lists K.said self.old) number) number command.now) nothing_written (stage_as K.lists K.said self.old) (stage_as K.lists K.said self.new) (W.contents writer.old) (W.contents writer.new) result }
-    {
-        if let Some(word) = self.wrong_first(number, command) {
-            return Err(ScriptFault::Script { line: number, word });
-        }
-        self.open(alloc, number)?;
-        let Stage::Running(world) = &mut self.stage else {
-            unreachable!();
-        };
-        self.kind.carry_out(world, number, command, writer)
-    }
-
-    /// Takes a line that says a command.
-    fn take_command<W: Write>(
-        &mut self,
-        alloc: Global,
-        number: u32,
-        words: &Words<'_>,
-        writer: &mut W,
-    ) -> Result<bool, ScriptFault>
-        ensures { TakesStep (reading_of K.rules) (K.grows && stage_wants K.rules (stage_as K.lists K.said self.old) (K.rules.command_of words.now)) (told_step K.rules (stage_as K.lists K.said self.old) number (K.rules.command_of words.now)) nothing_written (stage_as K.lists K.said self.old) (stage_as K.lists K.said self.new) (W.contents writer.old) (W.contents writer.new) result }
-    {
-        let read = K::command_of(words);
-        let command = match &read {
-            Err(word) => {
-                return Err(ScriptFault::Script {
-                    line: number,
-                    word: *word,
-                });
-            }
-            Ok(command) => command,
-        };
-        self.carry_out(alloc, number, command, writer)
     }
 
     /// Ends the script, for whose commands all is made where none came.
