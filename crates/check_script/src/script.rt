@@ -55,14 +55,13 @@ impl Kind for CheckScript {
     ghost use Rattle.check_script.specs.Check.{check_kind};
     ghost use Rattle.check_script.specs.ClientPorts.{PortTable};
     ghost use Rattle.check_script.specs.CommandTexts.{check_gives};
+    ghost use Rattle.check_script.specs.declared.lines.CheckCommand.{CheckCommand};
 
     type Setup = Setup;
 
     type Own = ();
 
     type World = ClientPorts;
-
-    type Command = CheckCommand;
 
     ghost Lists = { SetupLists };
 
@@ -71,6 +70,8 @@ impl Kind for CheckScript {
     ghost State = { PortTable };
 
     ghost said = { λ ports. ports };
+
+    ghost Command = { CheckCommand };
 
     ghost rules = { check_kind };
 
@@ -94,14 +95,7 @@ impl Kind for CheckScript {
         false
     }
 
-    fn command_of(words: &Words<'_>) -> Result<CheckCommand, u32> {
-        match Form::named(words.at(1)) {
-            Some(form) => check_command(form, words),
-            None => Err(1),
-        }
-    }
-
-    fn open(&mut self, alloc: Global, _own: &(), setup: &Setup) -> Result<ClientPorts, SetupFault> {
+    fn open(alloc: Global, _own: &(), setup: &Setup) -> Result<ClientPorts, SetupFault> {
         if !setup.config.is_valid() {
             return Err(SetupFault::BadConfig);
         }
@@ -111,31 +105,27 @@ impl Kind for CheckScript {
         }
     }
 
-    fn wrong_first(
-        _own: &(),
-        _setup: &Setup,
-        _number: u32,
-        _command: &CheckCommand,
-    ) -> Option<u32> {
-        None
+    fn wrong_first(_own: &(), _setup: &Setup, words: &Words<'_>) -> Option<u32> {
+        check_command(words).err()
     }
 
-    fn carry_out<W: Write>(
+    fn carry_line<W: Write>(
         &mut self,
         ports: &mut ClientPorts,
-        _number: u32,
-        command: &CheckCommand,
+        number: u32,
+        words: &Words<'_>,
         writer: &mut W,
     ) -> Result<bool, ScriptFault> {
-        judge(ports, command, writer)?;
-        Ok(true)
+        match check_command(words) {
+            Err(word) => Err(ScriptFault::at(number, word)),
+            Ok(command) => {
+                judge(ports, &command, writer)?;
+                Ok(true)
+            }
+        }
     }
 
-    fn end<W: Write>(
-        &mut self,
-        ports: &mut ClientPorts,
-        _writer: &mut W,
-    ) -> Result<bool, ScriptFault> {
+    fn end<W: Write>(ports: &mut ClientPorts, _writer: &mut W) -> Result<bool, ScriptFault> {
         Ok(ports.refused())
     }
 

@@ -116,7 +116,7 @@ impl SetUp {
         ensures { SetUpTold self.old line.now self.new result }
     {
         let at = next_number(self.number);
-        let fault = ScriptFault::Script { line: at, word: 1 };
+        let fault = ScriptFault::at(at, 1);
         if self.number >= MOST {
             return Err(fault);
         }
@@ -227,10 +227,7 @@ impl Observation {
         let number = next_number(self.number);
         let text = without_return(line);
         if !may_stand(text) {
-            return Err(ScriptFault::Script {
-                line: number,
-                word: 0,
-            });
+            return Err(ScriptFault::at(number, 0));
         }
         let mut words = Words::new();
         words.read(text);
@@ -238,7 +235,7 @@ impl Observation {
             return Ok(self.note(number, Findings::none(), false));
         }
         match command_of(&words) {
-            Err(word) => Err(ScriptFault::Script { line: number, word }),
+            Err(word) => Err(ScriptFault::at(number, word)),
             Ok(command) => self.take(number, &command),
         }
     }

@@ -6,7 +6,7 @@ ghost use Rattle.score_script.specs.Scores.{opening_state, score_reading};
 
 use crate::lines::{command_of, known_beat, only_settles};
 use crate::profiles::Asked;
-use crate::score::{Command, Score, wrong_at_first};
+use crate::score::{Score, wrong_at_first};
 use line_text::Words;
 use score_setup::{ScoreSetup, score_setup_fault};
 use script_text::{
@@ -27,14 +27,13 @@ impl Kind for ScoreScript {
     ghost use Rattle.score_script.specs.CommandTexts.{score_gives};
     ghost use Rattle.score_script.specs.ScoreStates.{score_of};
     ghost use Rattle.score_script.specs.Scores.{Score, score_kind};
+    ghost use Rattle.score_script.specs.declared.score.Command.{Command};
 
     type Setup = ScoreSetup;
 
     type Own = Asked;
 
     type World = Score;
-
-    type Command = Command;
 
     ghost Lists = { RangeLists };
 
@@ -43,6 +42,8 @@ impl Kind for ScoreScript {
     ghost State = { Score };
 
     ghost said = { score_of };
+
+    ghost Command = { Command };
 
     ghost rules = { score_kind };
 
@@ -69,41 +70,23 @@ impl Kind for ScoreScript {
         only_settles(words)
     }
 
-    fn command_of(words: &Words<'_>) -> Result<Command, u32> {
-        command_of(words)
-    }
-
-    fn open(
-        &mut self,
-        alloc: Global,
-        asked: &Asked,
-        setup: &ScoreSetup,
-    ) -> Result<Score, SetupFault> {
+    fn open(alloc: Global, asked: &Asked, setup: &ScoreSetup) -> Result<Score, SetupFault> {
         Score::new(alloc, *asked, setup)
     }
 
-    fn wrong_first(
-        _asked: &Asked,
-        setup: &ScoreSetup,
-        _number: u32,
-        command: &Command,
-    ) -> Option<u32> {
+    fn wrong_first(_asked: &Asked, setup: &ScoreSetup, words: &Words<'_>) -> Option<u32> {
+        let read = command_of(words);
+        let command = match &read {
+            Err(word) => return Some(*word),
+            Ok(command) => command,
+        };
         if score_setup_fault(setup).is_some() {
             return None;
         }
         wrong_at_first(setup, command)
     }
 
-    fn carry_out<W: Write>(
-        &mut self,
-        score: &mut Score,
-        number: u32,
-        command: &Command,
-        writer: &mut W,
-    ) -> Result<bool, ScriptFault> {
-        score.carry_out(number, command, writer)
-    }
-
+    #[inline(always)]
     fn carry_line<W: Write>(
         &mut self,
         score: &mut Score,
@@ -120,15 +103,12 @@ impl Kind for ScoreScript {
         }
         let read = command_of(words);
         match &read {
-            Err(word) => Err(ScriptFault::Script {
-                line: number,
-                word: *word,
-            }),
+            Err(word) => Err(ScriptFault::at(number, *word)),
             Ok(command) => score.carry_out(number, command, writer),
         }
     }
 
-    fn end<W: Write>(&mut self, score: &mut Score, writer: &mut W) -> Result<bool, ScriptFault> {
+    fn end<W: Write>(score: &mut Score, writer: &mut W) -> Result<bool, ScriptFault> {
         score.close(writer)
     }
 

@@ -1,5 +1,6 @@
 -- What a command makes of a script, and what a refused opening does.
 use Rattle.std.specs.Prelude.{◌&&◌}
+use Rattle.std.specs.Result.{result_err}
 use Rattle.std.proofs.Common.{◌≡◌, ◌≢◌, ◌++◌, ◌⊎◌, inl, inr, ℕ, List, [], Bool, true, false, Option, Some, None, IfSome, IfOk, IfErr, Result, Ok, Err, IsOk, refl, subst, sym, ap, ◌∙◌, rules}
 use Rattle.std.proofs.KnownBytes.{Appends-nil, Keeps-refl}
 use Rattle.burst_plan.specs.PageMap.{region_fault}
@@ -7,7 +8,7 @@ use Rattle.config.specs.Configs.{is_valid}
 use Rattle.script_text.specs.Forms.{told_as}
 use Rattle.script_text.specs.Scripts.{LineStep}
 use Rattle.script_text.specs.SetupRules.{SetupRules}
-use Rattle.script_text.specs.Stages.{GivesSome, Kind, OpensAs, OpensStage, Opening, Running, SaysAlike, SettingUp, Stage, Writes, command_step, commanded_step, is_misplaced, line_commanded, nothing_written, reading_of, set_up_as, set_up_with, setup_step, stage_as, stage_of, stage_step, stage_wants, told_step, told_wants, unless_refused, wants_where, world_at, wrong_opened, wrong_word}
+use Rattle.script_text.specs.Stages.{GivesSome, GivesWorld, Kind, OpensAs, Opening, Running, SaysAlike, SettingUp, Stage, Writes, command_step, commanded_step, is_misplaced, line_commanded, nothing_written, reading_of, set_up_as, set_up_with, setup_step, stage_as, stage_of, stage_wants, told_step, told_wants, unless_refused, wants_where, world_at, wrong_opened}
 use Rattle.script_text.specs.Steps.{GivesText, Stands, TakesStep}
 use Rattle.script_text.specs.declared.faults.ScriptFault.{ScriptFault}
 use Rattle.script_text.specs.declared.faults.ScriptFault.TheVariants.{Script, Setup, Read, Write, NoMemory}
@@ -45,10 +46,6 @@ pub opens_as : {V W : Type 0} (said : V → W) (opening : W) (setup : SetupLists
     → IfErr result (λ fault. (setup_fault setup ≡ Some fault) ⊎ (fault ≡ refused.NoMemory)) → IfOk result (λ world. said world ≡ opening) → OpensAs (unless_refused opening (setup_fault setup)) (told_as said result)
 opens_as said opening setup result = opens_unless said opening (setup_fault setup) result (memory_never (is_valid setup.config) (region_fault setup.regions) (device_fault setup.pages setup.bad_words))
 
--- it was made before
-pub OpensStage-running : {Z S W C : Type 0} (kind : Kind Z S W C) (stage : Stage Z S W) (world : W) (number : ℕ) → stage ≡ Running world → (found : W) × (world_at kind stage number ≡ Ok found) × (stage ≡ Running found)
-OpensStage-running kind stage world number there = (world, ap (λ s. world_at kind s number) there, there)
-
 -- the same lists by the same rules
 pub says_itself : {H Z : Type 0} (lists : H → Z) (rules : SetupRules Z) → SaysAlike lists rules lists rules
 says_itself lists rules =
@@ -61,14 +58,14 @@ abbrev stands_so : {Z S W C : Type 0} (kind : Kind Z S W C) (step : LineStep (St
 stands_so kind step given is = record { text = given.0; next = Running given.1; step_is = is; may_end = λ n. refl }
 
 -- a command of what was made, by what it gives
-given_by : {Z S W C : Type 0} (kind : Kind Z S W C) (world : W) (number : ℕ) (command : C) → GivesSome kind → (r : Result (List ℕ × W) ℕ) → kind.commanded world number command ≡ r → wrong_word r ≡ None
+given_by : {Z S W C : Type 0} (kind : Kind Z S W C) (world : W) (number : ℕ) (command : C) → GivesSome kind → (r : Result (List ℕ × W) ℕ) → kind.commanded world number command ≡ r → result_err r ≡ None
     → GivesText (reading_of kind) (command_step kind (Ok world) number command)
 given_by kind world number command some (Ok given) is right =
     (stands_so kind (command_step kind (Ok world) number command) given (ap (commanded_step number) is), λ n. some world number command given is)
 given_by kind world number command some (Err word) is right = search rules
 
 -- a line that says none is wrong whatever would be made for it
-wrong_told : {Z S W C : Type 0} (kind : Kind Z S W C) (opened : Result W SetupFault) (number word : ℕ) → wrong_opened kind opened number (Err word) ≡ Some word
+pub wrong_told : {Z S W C : Type 0} (kind : Kind Z S W C) (opened : Result W SetupFault) (number word : ℕ) → wrong_opened kind opened number (Err word) ≡ Some word
 wrong_told kind (Ok world) number word = refl
 wrong_told kind (Err fault) number word = refl
 
@@ -83,7 +80,7 @@ abbrev option_or_word : ℕ → Option ℕ → ℕ
 option_or_word other None = other
 option_or_word other (Some word) = word
 
-wrong_by : {Z S W : Type 0} (number word : ℕ) (r : Result (List ℕ × W) ℕ) → wrong_word r ≡ Some word → commanded_step {Z = Z} {S = S} {W = W} number r ≡ Err (Script number word)
+wrong_by : {Z S W : Type 0} (number word : ℕ) (r : Result (List ℕ × W) ℕ) → result_err r ≡ Some word → commanded_step {Z = Z} {S = S} {W = W} number r ≡ Err (Script number word)
 wrong_by number word (Ok given) is = search rules
 wrong_by number word (Err other) is = ap (λ (o : Option ℕ). Err (Script number (option_or_word other o))) is
 
@@ -99,16 +96,16 @@ wrong_step kind setup own number word (Err other) is =
     ap (λ (o : Option ℕ). Err (Script number (option_or_word other o))) (sym (wrong_told kind (kind.opened own setup) number other) ∙ is)
 
 -- what the first works on wasn't made
-pub TakesStep-unopened : {Z S W C : Type 0} (kind : Kind Z S W C) (grows : Bool) (setup : Z) (own : S) (next : Stage Z S W) (number : ℕ) (told : Result C ℕ) (writer : Option (List ℕ)) (fault : ScriptFault) → GivesSome kind
-    → wrong_opened kind (kind.opened own setup) number told ≡ None → OpensStage (set_up_as (kind.opened own setup)) true next (Err fault)
+pub TakesStep-unopened : {V Z S W C : Type 0} (kind : Kind Z S W C) (said : V → W) (grows : Bool) (setup : Z) (own : S) (next : Stage Z S W) (number : ℕ) (told : Result C ℕ) (writer : Option (List ℕ)) (fault : ScriptFault) → GivesSome kind
+    → wrong_opened kind (kind.opened own setup) number told ≡ None → GivesWorld said (set_up_as (kind.opened own setup)) (Err fault)
     → TakesStep (reading_of kind) grows (told_step kind (SettingUp setup own) number told) nothing_written (SettingUp setup own) next writer writer (Err fault)
-TakesStep-unopened kind grows setup own next number (Err word) writer fault some right refused = absurd (search (rules, wrong_told kind (kind.opened own setup) number word, right))
-TakesStep-unopened kind grows setup own next number (Ok command) writer (Script line word) some right refused = (ap (λ found. command_step kind found number command) refused, Keeps-refl writer)
-TakesStep-unopened kind grows setup own next number (Ok command) writer (Setup fault) some right refused = (ap (λ found. command_step kind found number command) refused, Keeps-refl writer)
-TakesStep-unopened kind grows setup own next number (Ok command) writer Read some right refused = refused
-TakesStep-unopened kind grows setup own next number (Ok command) writer Write some right refused = absurd refused
-TakesStep-unopened kind grows setup own next number (Ok command) writer NoMemory some right (silent, ok) =
-    (inl (silent, gives_first kind (kind.opened own setup) number command some right ok), Keeps-refl writer)
+TakesStep-unopened kind said grows setup own next number (Err word) writer fault some right refused = absurd (search (rules, wrong_told kind (kind.opened own setup) number word, right))
+TakesStep-unopened kind said grows setup own next number (Ok command) writer (Script line word) some right refused = (ap (λ found. command_step kind found number command) refused, Keeps-refl writer)
+TakesStep-unopened kind said grows setup own next number (Ok command) writer (Setup fault) some right refused = (ap (λ found. command_step kind found number command) refused, Keeps-refl writer)
+TakesStep-unopened kind said grows setup own next number (Ok command) writer Read some right refused = refused
+TakesStep-unopened kind said grows setup own next number (Ok command) writer Write some right refused = absurd refused
+TakesStep-unopened kind said grows setup own next number (Ok command) writer NoMemory some right ok =
+    (inl (refl, gives_first kind (kind.opened own setup) number command some right ok), Keeps-refl writer)
 
 -- a line's text was written, or it wasn't carried out, by what it gives
 carried_by : {Z S W C : Type 0} (kind : Kind Z S W C) (grows : Bool) (stage : Stage Z S W) (step : LineStep (Stage Z S W)) (number : ℕ) (next : W) (before after : Option (List ℕ)) (r : Result (List ℕ × W) ℕ) (result : Result Bool ScriptFault)
@@ -157,20 +154,11 @@ early_where lists said held.Opening never = refl
 early_where lists said (held.SettingUp setup own) never = refl
 early_where lists said (held.Running world) never = absurd (never world refl)
 
-abbrev world_in : {Z S W : Type 0} → W → Stage Z S W → W
-world_in other Opening = other
-world_in other (SettingUp setup own) = other
-world_in other (Running world) = world
-
--- what was made is what a command works on
-pub opened_as : {Z S W : Type 0} (opened : Result W ScriptFault) (next : Stage Z S W) (world : W) → (made : W) × (opened ≡ Ok made) × (next ≡ Running made) → next ≡ Running world → opened ≡ Ok world
-opened_as opened next world (made, is, here) there = is ∙ ap (λ w. Ok (world_in made w)) (sym here ∙ there)
-
 -- ---- kinds whose commands may stand anywhere
 
 -- none is wrong as the first one, but where its line is
-pub never_wrong : {Z S W C : Type 0} (kind : Kind Z S W C) (opened : Result W SetupFault) (number : ℕ) (told : Result C ℕ) → ((world : W) (command : C) → wrong_word (kind.commanded world number command) ≡ None)
-    → wrong_word told ≡ wrong_opened kind opened number told
+pub never_wrong : {Z S W C : Type 0} (kind : Kind Z S W C) (opened : Result W SetupFault) (number : ℕ) (told : Result C ℕ) → ((world : W) (command : C) → result_err (kind.commanded world number command) ≡ None)
+    → result_err told ≡ wrong_opened kind opened number told
 never_wrong kind (Ok world) number (Ok command) right = sym (right world command)
 never_wrong kind (Ok world) number (Err word) right = refl
 never_wrong kind (Err fault) number told right = refl

@@ -1,6 +1,7 @@
 -- What every kind of script has in common: a `config` line, other set-up lines, and then commands (this project's profile).
 use Rattle.std.specs.Prelude.{◌≡◌, ◌≢◌, ℕ, Bool, true, false, not, ◌||◌, List, [], ◌++◌, Option, Some, None, Result, Ok, Err, IsOk, if◌then◌else◌}
 use Rattle.std.specs.Io.KnownBytes.{Appends, Keeps}
+use Rattle.std.specs.Result.{result_err}
 use Rattle.setups.specs.declared.SetupFault.{SetupFault}
 use Rattle.setups.specs.declared.SetupFault.TheVariants as refused
 use Rattle.script_text.specs.Forms.{told_as, form_of}
@@ -123,15 +124,10 @@ abbrev pub line_commanded : {Z S W C : Type 0} → Kind Z S W C → W → ℕ �
 line_commanded kind world number (Ok command) = kind.commanded world number command
 line_commanded kind world number (Err word) = Err word
 
--- a line's wrong word, if it has one
-abbrev pub wrong_word : {X : Type 0} → Result X ℕ → Option ℕ
-wrong_word (Ok given) = None
-wrong_word (Err word) = Some word
-
--- that of a line that would be the first command, by what would be made for it; where the set-up is refused, that of one that says no command
+-- the wrong word of a line that would be the first command, by what would be made for it; where the set-up is refused, that of one that says no command
 abbrev pub wrong_opened : {Z S W C : Type 0} → Kind Z S W C → Result W SetupFault → ℕ → Result C ℕ → Option ℕ
-wrong_opened kind (Ok world) number told = wrong_word (line_commanded kind world number told)
-wrong_opened kind (Err fault) number told = wrong_word told
+wrong_opened kind (Ok world) number told = result_err (line_commanded kind world number told)
+wrong_opened kind (Err fault) number told = result_err told
 
 -- what the words of a command's line say by the form that the first of them names, if it names one, or the first wrong word
 abbrev pub command_by_form : {C : Type 0} → (Form → List (List ℕ) → Result C ℕ) → List (List ℕ) → Option Form → Result C ℕ
@@ -270,16 +266,6 @@ pub record SaysAlike {H Y Z : Type 0} (others : H → Y) (other_rules : SetupRul
   pub has_no_room : (setup : H) (form : Form) (words : List (List ℕ)) → other_rules.has_no_room (others setup) form words ≡ rules.has_no_room (lists setup) form words
   pub with_line : (old new : H) (form : Form) (words : List (List ℕ)) (told : Result (Unit {0}) ℕ) → TakesLine (other_rules.with_line (others old) form words) (others new) told
       → TakesLine (rules.with_line (lists old) form words) (lists new) told
-
--- what a script's commands work on was made where there was none, or why it wasn't; memory is asked for only where it may be made and nothing
--- was written
-abbrev pub OpensStage : {Z S W : Type 0} → Result W ScriptFault → Bool → Stage Z S W → Result (Unit {0}) ScriptFault → Type 0
-OpensStage {Z} {S} {W} opened silent new (Ok done) = (world : W) × (opened ≡ Ok world) × (new ≡ Running world)
-OpensStage opened silent new (Err (Script line word)) = opened ≡ Err (Script line word)
-OpensStage opened silent new (Err (SetupRefused fault)) = opened ≡ Err (SetupRefused fault)
-OpensStage opened silent new (Err Read) = ⊥
-OpensStage opened silent new (Err Write) = ⊥
-OpensStage opened silent new (Err NoMemory) = (silent ≡ true) × IsOk opened
 
 -- what a script's commands work on was given, as `said` says it, or why it wasn't made
 abbrev pub GivesWorld : {V W : Type 0} → (V → W) → Result W ScriptFault → Result V ScriptFault → Type 0

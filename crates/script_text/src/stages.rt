@@ -1,8 +1,9 @@
 //! What every kind of script has in common: a `config` line, other set-up lines, and then commands.
-ghost use Rattle.std.specs.Prelude.{◌≡◌, ◌<◌, ◌&&◌, [], false, true};
+ghost use Rattle.std.specs.Prelude.{◌≡◌, ◌<◌, ◌&&◌, false, true, Err};
 ghost use Rattle.script_text.specs.Forms.{told_as};
-ghost use Rattle.script_text.specs.Stages.{GivesWorld, OpensAs, Opening, OpensStage, TakesLine, Writes, WritesEnd, early_step, is_misplaced, nothing_written, other_step, reading_of, set_up_with, setup_step, stage_as, stage_ending, stage_wants, stage_wants_at_end, world_at};
-ghost use Rattle.script_text.specs.Steps.{TakesRest, TakesStep};
+ghost use Rattle.script_text.specs.Stages.{GivesWorld, OpensAs, Opening, TakesLine, Writes, WritesEnd, early_step, is_misplaced, nothing_written, other_step, reading_of, set_up_as, set_up_with, setup_step, stage_as, stage_wants, world_at};
+ghost use Rattle.script_text.specs.Steps.{TakesStep};
+ghost use Rattle.script_text.specs.declared.faults.ScriptFault.TheVariants.{NoMemory};
 
 use crate::driver::Script;
 use crate::faults::ScriptFault;
@@ -71,12 +72,7 @@ pub trait Kind {
         ensures { result ≡ rules.passes words.now };
 
     /// Makes what commands work on.
-    fn open(
-        &mut self,
-        alloc: Global,
-        own: &Self::Own,
-        setup: &Self::Setup,
-    ) -> Result<Self::World, SetupFault>
+    fn open(alloc: Global, own: &Self::Own, setup: &Self::Setup) -> Result<Self::World, SetupFault>
         ensures { OpensAs (rules.opened own.now (lists setup.now)) (told_as said result) };
 
     /// The wrong word of a line that would be the first command, by what would be made for it: word 1, where no command begins so.
@@ -96,11 +92,7 @@ pub trait Kind {
         ensures { Writes (grows && told_wants rules (said world.old) (rules.command_of words.now)) number (line_commanded rules (said world.old) number (rules.command_of words.now)) (said world.new) (W.contents writer.old) (W.contents writer.new) result };
 
     /// Writes the text of the input's end. The answer is what the script answers; a fault is as above.
-    fn end<W: Write>(
-        &mut self,
-        world: &mut Self::World,
-        writer: &mut W,
-    ) -> Result<bool, ScriptFault>
+    fn end<W: Write>(world: &mut Self::World, writer: &mut W) -> Result<bool, ScriptFault>
         ensures { WritesEnd (grows && rules.wants_at_end (said world.old)) (rules.ending (said world.old)) (W.contents writer.old) (W.contents writer.new) result };
 
     /// A command has text, or a script that ends after it.
@@ -193,6 +185,17 @@ impl<K: Kind> StagedScript<K> {
         }
     }
 
+    /// Makes what commands work on.
+    fn opened(alloc: Global, own: &K::Own, setup: &K::Setup) -> Result<K::World, ScriptFault>
+        ensures { GivesWorld K.said (set_up_as (K.rules.opened own.now (K.lists setup.now))) result }
+    {
+        match K::open(alloc, own, setup) {
+            Ok(world) => Ok(world),
+            Err(SetupFault::NoMemory) => Err(ScriptFault::NoMemory),
+            Err(fault) => Err(ScriptFault::Setup(fault)),
+        }
+    }
+
     /// Takes a line of no set-up form: one of the kind's own, or the first command. That is checked before what it works on is made,
     /// so that want of memory hides no fault.
     fn take_other_line<W: Write>(
@@ -218,11 +221,10 @@ impl<K: Kind> StagedScript<K> {
         if let Some(word) = K::wrong_first(own, setup, words) {
             return Err(ScriptFault::at(number, word));
         }
-        self.open(alloc, number)?;
-        let Stage::Running(world) = &mut self.stage else {
-            unreachable!();
-        };
-        self.kind.carry_line(world, number, words, writer)
+        let mut world = Self::opened(alloc, own, setup)?;
+        let wrote = self.kind.carry_line(&mut world, number, words, writer);
+        self.stage = Stage::Running(world);
+        wrote
     }
 
     /// Takes a line before the first command. It is apart, since a function clears the room for its values at its entry.
@@ -248,70 +250,21 @@ impl<K: Kind> StagedScript<K> {
         }
         self.take_other_line(alloc, number, words, writer)
     }
-
-    /// Makes what commands work on where there is none yet.
-    #[inline]
-    fn open(&mut self, alloc: Global, number: u32) -> Result<(), ScriptFault>
-        ensures { OpensStage (world_at K.rules (stage_as K.lists K.said self.old) number) (nothing_written (stage_as K.lists K.said self.old)) (stage_as K.lists K.said self.new) result }
-    {
-        if let Stage::Running(_) = &self.stage {
-            return Ok(());
-        }
-        self.make(alloc, number)
-    }
-
-    /// Makes what commands work on. It is apart, since a function clears the room for its values at its entry.
-    #[inline(never)]
-    fn make(&mut self, alloc: Global, number: u32) -> Result<(), ScriptFault>
-        ensures { OpensStage (world_at K.rules (stage_as K.lists K.said self.old) number) (nothing_written (stage_as K.lists K.said self.old)) (stage_as K.lists K.said self.new) result }
-    {
-        let (setup, own) = match &self.stage {
-            Stage::Opening => {
-                return Err(ScriptFault::at(number, 1));
-            }
-            Stage::Running(_) => return Ok(()),
-            Stage::SettingUp(setup, own) => (setup, own),
-        };
-        match self.kind.open(alloc, own, setup) {
-            Ok(world) => {
-                self.stage = Stage::Running(world);
-                Ok(())
-            }
-            Err(SetupFault::NoMemory) => Err(ScriptFault::NoMemory),
-            Err(fault) => Err(ScriptFault::Setup(fault)),
-        }
-    }
-
-    /// Ends the script, for whose commands all is made where none came.
-    fn end_stage<W: Write>(
-        &mut self,
-        alloc: Global,
-        number: u32,
-        writer: &mut W,
-    ) -> Result<bool, ScriptFault>
-        ensures { TakesRest (stage_ending K.rules (stage_as K.lists K.said self.old) number) [] (K.grows && stage_wants_at_end K.rules (stage_as K.lists K.said self.old)) (nothing_written (stage_as K.lists K.said self.old)) (W.contents writer.old) (W.contents writer.new) result }
-    {
-        self.open(alloc, number)?;
-        let Stage::Running(world) = &mut self.stage else {
-            unreachable!();
-        };
-        self.kind.end(world, writer)
-    }
 }
 
 impl<K: Kind + Drop> StagedScript<K> {
     /// What the commands of a script work on, for one who carries them out himself, by the number of the line that is next. Where
-    /// no command came it is made.
+    /// no command came it is made, and memory is asked for there alone.
     pub fn into_world(self, alloc: Global, number: u32) -> Result<K::World, ScriptFault>
-        ensures { GivesWorld K.said (world_at K.rules (stage_as K.lists K.said self) number) result }
+        ensures world { GivesWorld K.said (world_at K.rules (stage_as K.lists K.said self) number) result }
+        ensures silent { result ≡ Err NoMemory → nothing_written (stage_as K.lists K.said self) ≡ true }
     {
-        let mut script = self;
-        script.open(alloc, number)?;
-        let StagedScript { kind: _, stage } = script;
-        let Stage::Running(world) = stage else {
-            unreachable!();
-        };
-        Ok(world)
+        let StagedScript { kind: _, stage } = self;
+        match stage {
+            Stage::Opening => Err(ScriptFault::at(number, 1)),
+            Stage::SettingUp(setup, own) => Self::opened(alloc, &own, &setup),
+            Stage::Running(world) => Ok(world),
+        }
     }
 }
 
@@ -355,7 +308,7 @@ impl<K: Kind + Drop> Script for StagedScript<K> {
         number: u32,
         writer: &mut W,
     ) -> Result<bool, ScriptFault> {
-        let mut script = self;
-        script.end_stage(alloc, number, writer)
+        let mut world = self.into_world(alloc, number)?;
+        K::end(&mut world, writer)
     }
 }
