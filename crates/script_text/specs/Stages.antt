@@ -9,7 +9,7 @@ use Rattle.script_text.specs.Scripts.{LineStep, Reading, TextResult, ended}
 use Rattle.script_text.specs.SetupRules.{SetupRules}
 use Rattle.line_text.specs.Words.{word_at}
 use Rattle.script_text.specs.declared.faults.ScriptFault.{ScriptFault}
-use Rattle.script_text.specs.declared.faults.ScriptFault.TheVariants.{Script, Setup as SetupRefused, Read, Write, NoMemory}
+use Rattle.script_text.specs.declared.faults.ScriptFault.TheVariants.{Script, Setup as SetupRefused, Write, NoMemory}
 use Rattle.script_text.specs.declared.keywords.Form.{Form}
 use Rattle.script_text.specs.declared.keywords.Form.TheVariants as form
 use Rattle.script_text.specs.declared.stages.Stage.{Stage as StageHeld}
@@ -216,11 +216,9 @@ OpensAs opened (Err (refused.Device fault)) = opened ≡ Err (refused.Device fau
 
 -- why a text wasn't written: the writer failed, which it does only where there is some; or, of a kind that `grows`, memory was refused before that
 abbrev pub FailsAt : Bool → List ℕ → Option (List ℕ) → Option (List ℕ) → ScriptFault → Type 0
-FailsAt grows text before after (Script line word) = ⊥
-FailsAt grows text before after (SetupRefused fault) = ⊥
-FailsAt grows text before after Read = ⊥
 FailsAt grows text before after Write = text ≢ []
 FailsAt grows text before after NoMemory = (grows ≡ true) × Keeps before after
+FailsAt grows text before after _ = ⊥
 
 -- a command's text was written, and `wrote` tells whether there is any; or its line has a wrong word, and that is told
 abbrev pub Writes : {W : Type 0} → Bool → ℕ → Result (List ℕ × W) ℕ → W → Option (List ℕ) → Option (List ℕ) → Result Bool ScriptFault → Type 0
@@ -272,6 +270,5 @@ abbrev pub GivesWorld : {V W : Type 0} → (V → W) → Result W ScriptFault �
 GivesWorld said opened (Ok world) = opened ≡ Ok (said world)
 GivesWorld said opened (Err (Script line word)) = opened ≡ Err (Script line word)
 GivesWorld said opened (Err (SetupRefused fault)) = opened ≡ Err (SetupRefused fault)
-GivesWorld said opened (Err Read) = ⊥
-GivesWorld said opened (Err Write) = ⊥
 GivesWorld said opened (Err NoMemory) = IsOk opened
+GivesWorld said opened _ = ⊥

@@ -64,7 +64,7 @@ pub trait Script {
 }
 
 /// A line without the carriage return at its end, if it has one.
-fn without_return(line: &[u8]) -> &[u8]
+pub fn without_return(line: &[u8]) -> &[u8]
     ensures { result.now ≡ strip_carriage_return line.now }
 {
     line.strip_suffix(b"\r").unwrap_or(line)
