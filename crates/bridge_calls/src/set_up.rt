@@ -6,11 +6,11 @@ ghost use Rattle.bridge_calls.specs.SetUps.{OpensInOrder, SetUpTold, set_up_kind
 
 use crate::bridge::Bridge;
 use line_text::Words;
-use script_text::{Form, Kind, ScriptFault, ScriptSetup, StagedScript, take_line};
+use script_text::{Form, Kind, ScriptFault, StagedScript, take_line};
 use std::alloc::Global;
 use std::io::{Write, sink};
 use std::marker::Model;
-use world_run::{Setup, SetupFault, setup_fault};
+use world_run::{Setup, SetupFault};
 
 /// The most lines.
 const MOST: u32 = 65_536;
@@ -21,6 +21,7 @@ pub(crate) struct SetUpAlone;
 
 impl Kind for SetUpAlone {
     ghost use Rattle.std.specs.Prelude.{false};
+    ghost use Rattle.script_text.proofs.StageSteps.{says_itself};
     ghost use Rattle.setups.specs.Setups.{SetupLists, lists_of};
     ghost use Rattle.bridge_calls.specs.Bridges.{BridgeState};
     ghost use Rattle.bridge_calls.specs.CommandTexts.{set_up_gives};
@@ -32,8 +33,6 @@ impl Kind for SetUpAlone {
 
     type World = Bridge;
 
-    type Command = ();
-
     ghost Lists = { SetupLists };
 
     ghost lists = { lists_of };
@@ -41,6 +40,8 @@ impl Kind for SetUpAlone {
     ghost State = { BridgeState };
 
     ghost said = { λ bridge. bridge };
+
+    ghost Command = { Unit {0} };
 
     ghost rules = { set_up_kind };
 
@@ -54,18 +55,6 @@ impl Kind for SetUpAlone {
         true
     }
 
-    fn of_config(words: &Words<'_>) -> Result<Setup, u32> {
-        Setup::of_config(words)
-    }
-
-    fn has_no_room(setup: &Setup, form: Form, words: &Words<'_>) -> bool {
-        setup.has_no_room(form, words)
-    }
-
-    fn add(setup: &mut Setup, form: Form, words: &Words<'_>) -> Result<(), u32> {
-        setup.add(form, words)
-    }
-
     fn own_opening() {}
 
     fn own_line(_own: &(), _words: &Words<'_>) -> Option<Result<(), u32>> {
@@ -76,43 +65,31 @@ impl Kind for SetUpAlone {
         false
     }
 
-    fn command_of(_words: &Words<'_>) -> Result<(), u32> {
-        Err(1)
-    }
-
-    fn open(&mut self, alloc: Global, _own: &(), setup: &Setup) -> Result<Bridge, SetupFault> {
+    fn open(alloc: Global, _own: &(), setup: &Setup) -> Result<Bridge, SetupFault> {
         Bridge::new(alloc, setup)
     }
 
-    fn wrong_first(_own: &(), setup: &Setup, _number: u32, _command: &()) -> Option<u32> {
-        match setup_fault(setup) {
-            Some(_) => None,
-            None => Some(1),
-        }
+    fn wrong_first(_own: &(), _setup: &Setup, _words: &Words<'_>) -> Option<u32> {
+        Some(1)
     }
 
-    fn carry_out<W: Write>(
+    fn carry_line<W: Write>(
         &mut self,
         _bridge: &mut Bridge,
         number: u32,
-        _command: &(),
+        _words: &Words<'_>,
         _writer: &mut W,
     ) -> Result<bool, ScriptFault> {
-        Err(ScriptFault::Script {
-            line: number,
-            word: 1,
-        })
+        Err(ScriptFault::at(number, 1))
     }
 
-    fn end<W: Write>(
-        &mut self,
-        _bridge: &mut Bridge,
-        _writer: &mut W,
-    ) -> Result<bool, ScriptFault> {
+    fn end<W: Write>(_bridge: &mut Bridge, _writer: &mut W) -> Result<bool, ScriptFault> {
         Ok(false)
     }
 
     ghost gives_text = { set_up_gives };
+
+    ghost adds_up = { says_itself _ _ };
 }
 
 /// The lines of a set-up.
@@ -151,7 +128,7 @@ impl SetUp {
     {
         let at = self.number + 1;
         if at > MOST {
-            return Err(ScriptFault::Script { line: at, word: 0 });
+            return Err(ScriptFault::at(at, 0));
         }
         take_line(&mut self.script, alloc, at, line, &mut sink())?;
         self.number = at;

@@ -1,6 +1,6 @@
 //! The lines of `tlbridge check`.
 ghost use Rattle.std.specs.Prelude.{◌≡◌};
-ghost use Rattle.check_script.specs.Check.{check_command, free_line};
+ghost use Rattle.check_script.specs.Check.{check_kind, free_line};
 
 use line_text::{Words, offer_line};
 use script_text::Form;
@@ -25,16 +25,16 @@ fn free_line(words: &Words<'_>) -> Result<CheckCommand, u32>
     Ok(CheckCommand::Free(client, source))
 }
 
-/// What a command's line of this form says, or its first wrong word.
-pub(crate) fn check_command(form: Form, words: &Words<'_>) -> Result<CheckCommand, u32>
-    ensures { result ≡ check_command form words.now }
+/// What a command's line says, or its first wrong word.
+pub(crate) fn check_command(words: &Words<'_>) -> Result<CheckCommand, u32>
+    ensures { result ≡ check_kind.command_of words.now }
 {
-    match form {
-        Form::Offer => {
+    match Form::named(words.at(1)) {
+        Some(Form::Offer) => {
             let (client, beat) = offer_line(words)?;
             Ok(CheckCommand::Offer(client, beat))
         }
-        Form::Free => free_line(words),
+        Some(Form::Free) => free_line(words),
         _ => Err(1),
     }
 }

@@ -9,7 +9,7 @@ ghost use Rattle.check_script.specs.ClientPorts.{check_text, table_after, verdic
 use crate::client_ports::{ClientPorts, Verdict};
 use crate::lines::{CheckCommand, check_command};
 use line_text::{Words, WriteFault, a_line, refused_line, write_text};
-use script_text::{Form, Kind, ScriptFault, ScriptSetup, StagedScript, read_script};
+use script_text::{Form, Kind, ScriptFault, StagedScript, read_script};
 use setups::{Setup, SetupFault};
 use std::alloc::Global;
 use std::io::{Read, Write};
@@ -50,18 +50,18 @@ fn judge<W: Write>(
 
 impl Kind for CheckScript {
     ghost use Rattle.std.specs.Prelude.{false};
+    ghost use Rattle.script_text.proofs.StageSteps.{says_itself};
     ghost use Rattle.setups.specs.Setups.{SetupLists, lists_of};
     ghost use Rattle.check_script.specs.Check.{check_kind};
     ghost use Rattle.check_script.specs.ClientPorts.{PortTable};
     ghost use Rattle.check_script.specs.CommandTexts.{check_gives};
+    ghost use Rattle.check_script.specs.declared.lines.CheckCommand.{CheckCommand};
 
     type Setup = Setup;
 
     type Own = ();
 
     type World = ClientPorts;
-
-    type Command = CheckCommand;
 
     ghost Lists = { SetupLists };
 
@@ -70,6 +70,8 @@ impl Kind for CheckScript {
     ghost State = { PortTable };
 
     ghost said = { λ ports. ports };
+
+    ghost Command = { CheckCommand };
 
     ghost rules = { check_kind };
 
@@ -83,18 +85,6 @@ impl Kind for CheckScript {
         matches!(form, Form::Config)
     }
 
-    fn of_config(words: &Words<'_>) -> Result<Setup, u32> {
-        Setup::of_config(words)
-    }
-
-    fn has_no_room(setup: &Setup, form: Form, words: &Words<'_>) -> bool {
-        setup.has_no_room(form, words)
-    }
-
-    fn add(setup: &mut Setup, form: Form, words: &Words<'_>) -> Result<(), u32> {
-        setup.add(form, words)
-    }
-
     fn own_opening() {}
 
     fn own_line(_own: &(), _words: &Words<'_>) -> Option<Result<(), u32>> {
@@ -105,14 +95,7 @@ impl Kind for CheckScript {
         false
     }
 
-    fn command_of(words: &Words<'_>) -> Result<CheckCommand, u32> {
-        match Form::named(words.at(1)) {
-            Some(form) => check_command(form, words),
-            None => Err(1),
-        }
-    }
-
-    fn open(&mut self, alloc: Global, _own: &(), setup: &Setup) -> Result<ClientPorts, SetupFault> {
+    fn open(alloc: Global, _own: &(), setup: &Setup) -> Result<ClientPorts, SetupFault> {
         if !setup.config.is_valid() {
             return Err(SetupFault::BadConfig);
         }
@@ -122,35 +105,33 @@ impl Kind for CheckScript {
         }
     }
 
-    fn wrong_first(
-        _own: &(),
-        _setup: &Setup,
-        _number: u32,
-        _command: &CheckCommand,
-    ) -> Option<u32> {
-        None
+    fn wrong_first(_own: &(), _setup: &Setup, words: &Words<'_>) -> Option<u32> {
+        check_command(words).err()
     }
 
-    fn carry_out<W: Write>(
+    fn carry_line<W: Write>(
         &mut self,
         ports: &mut ClientPorts,
-        _number: u32,
-        command: &CheckCommand,
+        number: u32,
+        words: &Words<'_>,
         writer: &mut W,
     ) -> Result<bool, ScriptFault> {
-        judge(ports, command, writer)?;
-        Ok(true)
+        match check_command(words) {
+            Err(word) => Err(ScriptFault::at(number, word)),
+            Ok(command) => {
+                judge(ports, &command, writer)?;
+                Ok(true)
+            }
+        }
     }
 
-    fn end<W: Write>(
-        &mut self,
-        ports: &mut ClientPorts,
-        _writer: &mut W,
-    ) -> Result<bool, ScriptFault> {
+    fn end<W: Write>(ports: &mut ClientPorts, _writer: &mut W) -> Result<bool, ScriptFault> {
         Ok(ports.refused())
     }
 
     ghost gives_text = { check_gives };
+
+    ghost adds_up = { says_itself _ _ };
 }
 
 /// Judges the beats of a script and writes its trace, each command's text before the next line is read. The answer is true

@@ -8,9 +8,7 @@ use Rattle.line_text.proofs.TraceTexts.{some_after, some_before}
 use Rattle.run_script.specs.Answers.{answer_text}
 use Rattle.script_text.specs.Stages.{GivesSome}
 use Rattle.script_text.proofs.StageSteps.{some_given}
-use Rattle.run_script.specs.Run.{after_answer, before_answer, commanded, run_kind}
-use Rattle.run_script.specs.declared.lines.Command.{Command}
-use Rattle.run_script.specs.declared.lines.Command.TheVariants.{Event, Drain, Mem, Work}
+use Rattle.run_script.specs.Run.{Command, Event, Drain, Mem, Work, after_answer, before_answer, commanded, run_kind}
 
 answer_text-some : (a : Answer) → answer_text a ≢ []
 answer_text-some answer.More none = search rules

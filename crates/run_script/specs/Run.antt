@@ -17,8 +17,15 @@ use Rattle.script_text.specs.Stages.{Kind, Stage, command_by_form, reading_of, u
 use Rattle.line_text.specs.Words.{is_dec_to, dec_at, hex_at, word_at}
 use Rattle.script_text.specs.declared.keywords.Form.{Form}
 use Rattle.script_text.specs.declared.keywords.Form.TheVariants as form
-use Rattle.run_script.specs.declared.lines.Command.{Command}
-use Rattle.run_script.specs.declared.lines.Command.TheVariants.{Event, Drain, Mem, Work}
+
+-- ---- commands
+
+-- one event of the world; all that can happen without the clients; the byte at an address is shown; or the work that is left
+pub data Command : Type 0 where
+  Event : Step → Command
+  Drain : Command
+  Mem : ℕ → Command
+  Work : Command
 
 -- ---- reading a line
 
@@ -46,6 +53,10 @@ command_of form.Drain words = read_as [] words Drain
 command_of form.Mem words = told_as Mem (mem_command words)
 command_of form.Work words = read_as [] words Work
 command_of _ words = Err 1
+
+-- by the form that its first word names
+abbrev pub line_says : List (List ℕ) → Result Command ℕ
+line_says words = command_by_form command_of words (form_of (word_at words 1))
 
 -- ---- carrying a line out
 
@@ -89,7 +100,7 @@ run_kind =
       own_opening = tt;
       own_line = λ own words. None;
       passes = λ words. false;
-      command_of = λ words. command_by_form command_of words (form_of (word_at words 1));
+      command_of = line_says;
       opened = λ own setup. unless_refused (opening_world setup) (setup_fault setup);
       commanded = λ world number command. Ok (commanded world command);
       ending = λ world. ([], false);

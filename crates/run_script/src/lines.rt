@@ -1,33 +1,11 @@
 //! The lines of `tlbridge run`.
-ghost use Rattle.std.specs.Prelude.{◌≡◌, []};
-ghost use Rattle.line_text.specs.Fields.{read_as};
-ghost use Rattle.script_text.specs.declared.keywords.Form.TheVariants as forms;
-ghost use Rattle.run_script.specs.Run.{byte_line, command_of, mem_command, perform_line};
+ghost use Rattle.std.specs.Prelude.{◌≡◌};
+ghost use Rattle.script_text.specs.Forms.{told_as};
+ghost use Rattle.run_script.specs.Run.{byte_line, line_says, mem_command, perform_line};
 
 use line_text::{Words, offer_line};
 use script_text::Form;
 use world::Step;
-
-/// A command.
-#[derive(Clone, Copy)]
-pub(crate) enum Command {
-    /// One event of the world.
-    Event(Step),
-    /// All that can happen without the clients happens.
-    Drain,
-    /// Show the byte at an address.
-    Mem(u32),
-    /// Show the work that is left.
-    Work,
-}
-
-/// `a CLIENT OPCODE PARAM SIZE SOURCE ADDRESS MASK PAYLOAD CORRUPT`.
-fn offer(words: &Words<'_>) -> Result<Command, u32>
-    ensures { result ≡ command_of forms.Offer words.now }
-{
-    let (client, beat) = offer_line(words)?;
-    Ok(Command::Event(Step::Offer(client, beat)))
-}
 
 /// `do SERIAL BEAT`.
 #[inline(always)]
@@ -60,28 +38,25 @@ pub(crate) fn mem(words: &Words<'_>) -> Result<u32, u32>
     Ok(address)
 }
 
-/// A line without fields: `pump`, `drain` or `work`.
-fn bare(words: &Words<'_>, command: Command) -> Result<Command, u32>
-    ensures { result ≡ read_as [] words.now command }
+/// That a line says a command, or its first wrong word.
+pub(crate) fn check(words: &Words<'_>) -> Result<(), u32>
+    ensures { result ≡ told_as (λ command. tt) (line_says words.now) }
 {
-    words.end(1)?;
-    Ok(command)
-}
-
-/// What a command's line of this form says, or its first wrong word.
-pub(crate) fn command_of(form: Form, words: &Words<'_>) -> Result<Command, u32>
-    ensures { result ≡ command_of form words.now }
-{
-    match form {
-        Form::Offer => offer(words),
-        Form::Pump => bare(words, Command::Event(Step::Pump)),
-        Form::Perform => Ok(Command::Event(perform(words)?)),
-        Form::AnswerB => Ok(Command::Event(Step::AnswerB(one_byte(words)?))),
-        Form::AnswerR => Ok(Command::Event(Step::AnswerR(one_byte(words)?))),
-        Form::Take => Ok(Command::Event(Step::Take(one_byte(words)?))),
-        Form::Drain => bare(words, Command::Drain),
-        Form::Mem => Ok(Command::Mem(mem(words)?)),
-        Form::Work => bare(words, Command::Work),
-        _ => Err(1),
+    match Form::named(words.at(1)) {
+        Some(Form::Offer) => {
+            offer_line(words)?;
+        }
+        Some(Form::Perform) => {
+            perform(words)?;
+        }
+        Some(Form::AnswerB | Form::AnswerR | Form::Take) => {
+            one_byte(words)?;
+        }
+        Some(Form::Mem) => {
+            mem(words)?;
+        }
+        Some(Form::Pump | Form::Drain | Form::Work) => words.end(1)?,
+        _ => return Err(1),
     }
+    Ok(())
 }

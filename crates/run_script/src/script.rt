@@ -4,15 +4,15 @@ ghost use Rattle.std.specs.Io.KnownBytes.{Appends};
 ghost use Rattle.world.specs.World.{is_reply, next};
 ghost use Rattle.script_text.specs.Scripts.{EndsAs, text_of, text_before_failure};
 ghost use Rattle.script_text.specs.Stages.{Opening};
-ghost use Rattle.run_script.specs.Run.{before_answer, TellsLine, command_of, commanded, event_text, run_reading};
+ghost use Rattle.run_script.specs.Run.{before_answer, TellsLine, command_of, event_text, run_reading};
 
 use crate::answer_writer::answer_line;
-use crate::lines::{Command, command_of, mem, one_byte, perform};
+use crate::lines::{check, mem, one_byte, perform};
 use line_text::{
     Words, WriteFault, a_line, burst_lines, drained_line, mem_line, offer_line, reply_lines,
     work_line,
 };
-use script_text::{Form, Kind, ScriptFault, ScriptSetup, StagedScript, read_script};
+use script_text::{Form, Kind, ScriptFault, StagedScript, read_script};
 use std::alloc::Global;
 use std::io::{Read, Write};
 use tl_messages::ReplyBox;
@@ -67,24 +67,6 @@ fn event<W: Write>(
     }
 }
 
-/// Carries out a command and writes its text.
-fn command<W: Write>(
-    world: &mut World,
-    reply: &mut ReplyBox,
-    command: &Command,
-    writer: &mut W,
-) -> Result<(), WriteFault>
-    ensures text { OnOk result (Appends (W.contents writer.old) (W.contents writer.new) (commanded world.old command.now).0) }
-    ensures state { OnOk result (world.new ≡ (commanded world.old command.now).1) }
-{
-    match command {
-        Command::Event(step) => event(world, reply, step, writer),
-        Command::Drain => drained_line(world.drain(), writer),
-        Command::Mem(address) => mem_line(world.byte(*address), writer),
-        Command::Work => work_line(world.work_left(), writer),
-    }
-}
-
 /// Carries out the command that a line of this form says and writes its text, or answers the line's first wrong word. Each form has
 /// its own way from the line to the world, so that no value has to hold whatever command there is.
 #[inline(always)]
@@ -126,9 +108,10 @@ fn line<W: Write>(
 
 impl Kind for RunScript {
     ghost use Rattle.std.specs.Prelude.{false};
+    ghost use Rattle.script_text.proofs.StageSteps.{says_itself};
     ghost use Rattle.setups.specs.Setups.{SetupLists, lists_of};
     ghost use Rattle.run_script.specs.CommandTexts.{run_gives};
-    ghost use Rattle.run_script.specs.Run.{run_kind};
+    ghost use Rattle.run_script.specs.Run.{Command, run_kind};
     ghost use Rattle.world.specs.World.{WorldState};
 
     type Setup = Setup;
@@ -137,8 +120,6 @@ impl Kind for RunScript {
 
     type World = World;
 
-    type Command = Command;
-
     ghost Lists = { SetupLists };
 
     ghost lists = { lists_of };
@@ -146,6 +127,8 @@ impl Kind for RunScript {
     ghost State = { WorldState };
 
     ghost said = { λ world. world };
+
+    ghost Command = { Command };
 
     ghost rules = { run_kind };
 
@@ -159,18 +142,6 @@ impl Kind for RunScript {
         true
     }
 
-    fn of_config(words: &Words<'_>) -> Result<Setup, u32> {
-        Setup::of_config(words)
-    }
-
-    fn has_no_room(setup: &Setup, form: Form, words: &Words<'_>) -> bool {
-        setup.has_no_room(form, words)
-    }
-
-    fn add(setup: &mut Setup, form: Form, words: &Words<'_>) -> Result<(), u32> {
-        setup.add(form, words)
-    }
-
     fn own_opening() {}
 
     fn own_line(_own: &(), _words: &Words<'_>) -> Option<Result<(), u32>> {
@@ -181,32 +152,15 @@ impl Kind for RunScript {
         false
     }
 
-    fn command_of(words: &Words<'_>) -> Result<Command, u32> {
-        match Form::named(words.at(1)) {
-            Some(form) => command_of(form, words),
-            None => Err(1),
-        }
-    }
-
-    fn open(&mut self, alloc: Global, _own: &(), setup: &Setup) -> Result<World, SetupFault> {
+    fn open(alloc: Global, _own: &(), setup: &Setup) -> Result<World, SetupFault> {
         World::new(alloc, setup)
     }
 
-    fn wrong_first(_own: &(), _setup: &Setup, _number: u32, _command: &Command) -> Option<u32> {
-        None
+    fn wrong_first(_own: &(), _setup: &Setup, words: &Words<'_>) -> Option<u32> {
+        check(words).err()
     }
 
-    fn carry_out<W: Write>(
-        &mut self,
-        world: &mut World,
-        _number: u32,
-        asked: &Command,
-        writer: &mut W,
-    ) -> Result<bool, ScriptFault> {
-        command(world, &mut self.reply, asked, writer)?;
-        Ok(true)
-    }
-
+    #[inline(always)]
     fn carry_line<W: Write>(
         &mut self,
         world: &mut World,
@@ -215,25 +169,24 @@ impl Kind for RunScript {
         writer: &mut W,
     ) -> Result<bool, ScriptFault> {
         let Some(form) = Form::named(words.at(1)) else {
-            return Err(ScriptFault::Script {
-                line: number,
-                word: 1,
-            });
+            return Err(ScriptFault::at(number, 1));
         };
         match line(world, &mut self.reply, form, words, writer) {
             Ok(written) => {
                 written?;
                 Ok(true)
             }
-            Err(word) => Err(ScriptFault::Script { line: number, word }),
+            Err(word) => Err(ScriptFault::at(number, word)),
         }
     }
 
-    fn end<W: Write>(&mut self, _world: &mut World, _writer: &mut W) -> Result<bool, ScriptFault> {
+    fn end<W: Write>(_world: &mut World, _writer: &mut W) -> Result<bool, ScriptFault> {
         Ok(false)
     }
 
     ghost gives_text = { run_gives };
+
+    ghost adds_up = { says_itself _ _ };
 }
 
 /// Carries out a script and writes its trace, each command's text before the next line is read.

@@ -1,20 +1,21 @@
 -- What a filling may be wrong by, and that a score that begins takes one where its set-up has good pages.
-use Rattle.std.proofs.Common.{◌≡◌, ◌+◌, ◌-◌, ◌<◌, ◌++◌, ◌∷◌, [], suc, length, arith, ℕ, List, true, false, Option, None, Some, is_some, refl, rules}
+use Rattle.std.proofs.Common.{◌≡◌, ◌+◌, ◌-◌, ◌<◌, ◌++◌, ◌∷◌, [], suc, length, arith, ℕ, List, true, false, Option, None, Some, Ok, is_some, refl, rules}
 use Rattle.line_text.specs.Fields.{first_wrong, unless_wrong}
 use Rattle.line_text.specs.Words.{hex_at, word_at}
 use Rattle.std.proofs.lemmas.List.FromFn.{length-map-range_with_len}
 use Rattle.script_text.proofs.PageLists.{map_range-suc}
 use Rattle.score_script.specs.FillLines.{fill_byte_field, fill_byte_fields, fill_bytes_in}
-use Rattle.script_text.specs.Stages.{Kind, unless_refused, wrong_opened, wrong_word}
+use Rattle.std.specs.Result.{result_err}
+use Rattle.script_text.specs.Stages.{Kind, unless_refused, wrong_opened}
 use Rattle.setups.specs.declared.SetupFault.{SetupFault}
 
 -- the wrong word that is told is the one that there is
-pub word_told : {W : Type 0} (given : List ℕ × W) (word : Option ℕ) → wrong_word (unless_wrong given word) ≡ word
+pub word_told : {W : Type 0} (given : List ℕ × W) (word : Option ℕ) → result_err (unless_wrong given word) ≡ word
 word_told given None = refl
 word_told given (Some word) = refl
 
 -- a set-up that is refused has no first command that is wrong
-pub refused_none : {Z S W C : Type 0} (kind : Kind Z S W C) (world : W) (fault : Option SetupFault) (number : ℕ) (command : C) → is_some fault ≡ true → None ≡ wrong_opened kind (unless_refused world fault) number command
+pub refused_none : {Z S W C : Type 0} (kind : Kind Z S W C) (world : W) (fault : Option SetupFault) (number : ℕ) (command : C) → is_some fault ≡ true → None ≡ wrong_opened kind (unless_refused world fault) number (Ok command)
 refused_none kind world None number command refused = search rules
 refused_none kind world (Some fault) number command refused = refl
 

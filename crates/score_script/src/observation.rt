@@ -1,7 +1,6 @@
 //! An observation that is judged call by call: by lines, or by commands that are called, and not read.
 ghost use Rattle.std.specs.Prelude.{◌≡◌, IfOk, None, OnOk};
 ghost use Rattle.std.specs.Io.KnownBytes.{Appends};
-ghost use Rattle.std.specs.Str.Lines.{strip_carriage_return};
 ghost use Rattle.script_text.specs.Stages.{GivesWorld, Opening, world_at};
 ghost use Rattle.score_script.specs.Observations.{CallTold, LineTold, SetUpTold, TakeTold, finding_code, first_code, found_left, next_number, nothing_found, observing_code, observing_of, observing_text, stage_in, wrong_code};
 ghost use Rattle.score_script.specs.Profiles.{byte_in};
@@ -14,7 +13,7 @@ use crate::score::{Command, Counts, Score};
 use crate::script::ScoreScript;
 use line_text::{Words, WriteFault, may_stand};
 use scoreboard::Wrong;
-use script_text::{ScriptFault, StagedScript, take_line};
+use script_text::{ScriptFault, StagedScript, take_line, without_return};
 use std::alloc::Global;
 use std::io::{Write, sink};
 use std::marker::Model;
@@ -56,13 +55,6 @@ fn first_code(code: u32, next: u32) -> u32
         return code;
     }
     next
-}
-
-/// A line without the carriage return at its end, if it has one.
-fn without_return(line: &[u8]) -> &[u8]
-    ensures { result.now ≡ strip_carriage_return line.now }
-{
-    line.strip_suffix(b"\r").unwrap_or(line)
 }
 
 /// The number of the line or call behind one of this number: the last stays.
@@ -116,7 +108,7 @@ impl SetUp {
         ensures { SetUpTold self.old line.now self.new result }
     {
         let at = next_number(self.number);
-        let fault = ScriptFault::Script { line: at, word: 1 };
+        let fault = ScriptFault::at(at, 1);
         if self.number >= MOST {
             return Err(fault);
         }
@@ -227,10 +219,7 @@ impl Observation {
         let number = next_number(self.number);
         let text = without_return(line);
         if !may_stand(text) {
-            return Err(ScriptFault::Script {
-                line: number,
-                word: 0,
-            });
+            return Err(ScriptFault::at(number, 0));
         }
         let mut words = Words::new();
         words.read(text);
@@ -238,7 +227,7 @@ impl Observation {
             return Ok(self.note(number, Findings::none(), false));
         }
         match command_of(&words) {
-            Err(word) => Err(ScriptFault::Script { line: number, word }),
+            Err(word) => Err(ScriptFault::at(number, word)),
             Ok(command) => self.take(number, &command),
         }
     }

@@ -6,11 +6,11 @@ ghost use Rattle.score_script.specs.Scores.{opening_state, score_reading};
 
 use crate::lines::{command_of, known_beat, only_settles};
 use crate::profiles::Asked;
-use crate::score::{Command, Score, wrong_at_first};
+use crate::score::{Score, wrong_at_first};
 use line_text::Words;
 use score_setup::{ScoreSetup, score_setup_fault};
 use script_text::{
-    Form, Kind, ScriptFault, ScriptSetup, StagedScript, StoppedLine, read_script, read_script_with,
+    Form, Kind, ScriptFault, StagedScript, StoppedLine, read_script, read_script_with,
 };
 use setups::SetupFault;
 use std::alloc::Global;
@@ -23,17 +23,17 @@ pub(crate) struct ScoreScript;
 impl Kind for ScoreScript {
     ghost use Rattle.std.specs.Prelude.{true};
     ghost use Rattle.score_setup.specs.ScoreSetups.{RangeLists, ranges_of};
+    ghost use Rattle.script_text.proofs.StageSteps.{says_itself};
     ghost use Rattle.score_script.specs.CommandTexts.{score_gives};
     ghost use Rattle.score_script.specs.ScoreStates.{score_of};
     ghost use Rattle.score_script.specs.Scores.{Score, score_kind};
+    ghost use Rattle.score_script.specs.declared.score.Command.{Command};
 
     type Setup = ScoreSetup;
 
     type Own = Asked;
 
     type World = Score;
-
-    type Command = Command;
 
     ghost Lists = { RangeLists };
 
@@ -42,6 +42,8 @@ impl Kind for ScoreScript {
     ghost State = { Score };
 
     ghost said = { score_of };
+
+    ghost Command = { Command };
 
     ghost rules = { score_kind };
 
@@ -56,18 +58,6 @@ impl Kind for ScoreScript {
         true
     }
 
-    fn of_config(words: &Words<'_>) -> Result<ScoreSetup, u32> {
-        ScoreSetup::of_config(words)
-    }
-
-    fn has_no_room(setup: &ScoreSetup, form: Form, words: &Words<'_>) -> bool {
-        setup.has_no_room(form, words)
-    }
-
-    fn add(setup: &mut ScoreSetup, form: Form, words: &Words<'_>) -> Result<(), u32> {
-        setup.add(form, words)
-    }
-
     fn own_opening() -> Asked {
         Asked::nothing()
     }
@@ -80,41 +70,23 @@ impl Kind for ScoreScript {
         only_settles(words)
     }
 
-    fn command_of(words: &Words<'_>) -> Result<Command, u32> {
-        command_of(words)
-    }
-
-    fn open(
-        &mut self,
-        alloc: Global,
-        asked: &Asked,
-        setup: &ScoreSetup,
-    ) -> Result<Score, SetupFault> {
+    fn open(alloc: Global, asked: &Asked, setup: &ScoreSetup) -> Result<Score, SetupFault> {
         Score::new(alloc, *asked, setup)
     }
 
-    fn wrong_first(
-        _asked: &Asked,
-        setup: &ScoreSetup,
-        _number: u32,
-        command: &Command,
-    ) -> Option<u32> {
+    fn wrong_first(_asked: &Asked, setup: &ScoreSetup, words: &Words<'_>) -> Option<u32> {
+        let read = command_of(words);
+        let command = match &read {
+            Err(word) => return Some(*word),
+            Ok(command) => command,
+        };
         if score_setup_fault(setup).is_some() {
             return None;
         }
         wrong_at_first(setup, command)
     }
 
-    fn carry_out<W: Write>(
-        &mut self,
-        score: &mut Score,
-        number: u32,
-        command: &Command,
-        writer: &mut W,
-    ) -> Result<bool, ScriptFault> {
-        score.carry_out(number, command, writer)
-    }
-
+    #[inline(always)]
     fn carry_line<W: Write>(
         &mut self,
         score: &mut Score,
@@ -131,19 +103,18 @@ impl Kind for ScoreScript {
         }
         let read = command_of(words);
         match &read {
-            Err(word) => Err(ScriptFault::Script {
-                line: number,
-                word: *word,
-            }),
+            Err(word) => Err(ScriptFault::at(number, *word)),
             Ok(command) => score.carry_out(number, command, writer),
         }
     }
 
-    fn end<W: Write>(&mut self, score: &mut Score, writer: &mut W) -> Result<bool, ScriptFault> {
+    fn end<W: Write>(score: &mut Score, writer: &mut W) -> Result<bool, ScriptFault> {
         score.close(writer)
     }
 
     ghost gives_text = { score_gives };
+
+    ghost adds_up = { says_itself _ _ };
 }
 
 /// Judges what was observed at the ports of a bridge, and writes a line for each beat that can't be right, for each question, and

@@ -1,12 +1,14 @@
 -- What a command makes of a script, and what a refused opening does.
 use Rattle.std.specs.Prelude.{◌&&◌}
+use Rattle.std.specs.Result.{result_err}
 use Rattle.std.proofs.Common.{◌≡◌, ◌≢◌, ◌++◌, ◌⊎◌, inl, inr, ℕ, List, [], Bool, true, false, Option, Some, None, IfSome, IfOk, IfErr, Result, Ok, Err, IsOk, refl, subst, sym, ap, ◌∙◌, rules}
 use Rattle.std.proofs.KnownBytes.{Appends-nil, Keeps-refl}
 use Rattle.burst_plan.specs.PageMap.{region_fault}
 use Rattle.config.specs.Configs.{is_valid}
 use Rattle.script_text.specs.Forms.{told_as}
 use Rattle.script_text.specs.Scripts.{LineStep}
-use Rattle.script_text.specs.Stages.{GivesSome, Kind, OpensAs, OpensStage, Opening, Running, SettingUp, Stage, Writes, command_step, commanded_step, is_misplaced, line_commanded, nothing_written, reading_of, set_up_as, set_up_with, setup_step, stage_as, stage_of, stage_step, stage_wants, told_step, unless_refused, wants_where, world_at, wrong_first, wrong_opened, wrong_word}
+use Rattle.script_text.specs.SetupRules.{SetupRules}
+use Rattle.script_text.specs.Stages.{GivesSome, GivesWorld, Kind, OpensAs, Opening, Running, SaysAlike, SettingUp, Stage, Writes, command_step, commanded_step, is_misplaced, line_commanded, nothing_written, reading_of, set_up_as, set_up_with, setup_step, stage_as, stage_of, stage_wants, told_step, told_wants, unless_refused, wants_where, world_at, wrong_opened}
 use Rattle.script_text.specs.Steps.{GivesText, Stands, TakesStep}
 use Rattle.script_text.specs.declared.faults.ScriptFault.{ScriptFault}
 use Rattle.script_text.specs.declared.faults.ScriptFault.TheVariants.{Script, Setup, Read, Write, NoMemory}
@@ -44,9 +46,10 @@ pub opens_as : {V W : Type 0} (said : V → W) (opening : W) (setup : SetupLists
     → IfErr result (λ fault. (setup_fault setup ≡ Some fault) ⊎ (fault ≡ refused.NoMemory)) → IfOk result (λ world. said world ≡ opening) → OpensAs (unless_refused opening (setup_fault setup)) (told_as said result)
 opens_as said opening setup result = opens_unless said opening (setup_fault setup) result (memory_never (is_valid setup.config) (region_fault setup.regions) (device_fault setup.pages setup.bad_words))
 
--- it was made before
-pub OpensStage-running : {Z S W C : Type 0} (kind : Kind Z S W C) (stage : Stage Z S W) (world : W) (number : ℕ) → stage ≡ Running world → (found : W) × (world_at kind stage number ≡ Ok found) × (stage ≡ Running found)
-OpensStage-running kind stage world number there = (world, ap (λ s. world_at kind s number) there, there)
+-- the same lists by the same rules
+pub says_itself : {H Z : Type 0} (lists : H → Z) (rules : SetupRules Z) → SaysAlike lists rules lists rules
+says_itself lists rules =
+    record { of_config = λ words told is. is; has_no_room = λ setup f words. refl; with_line = λ old new f words told takes. takes }
 
 -- ---- commands
 
@@ -55,53 +58,54 @@ abbrev stands_so : {Z S W C : Type 0} (kind : Kind Z S W C) (step : LineStep (St
 stands_so kind step given is = record { text = given.0; next = Running given.1; step_is = is; may_end = λ n. refl }
 
 -- a command of what was made, by what it gives
-given_by : {Z S W C : Type 0} (kind : Kind Z S W C) (world : W) (number : ℕ) (command : C) → GivesSome kind → (r : Result (List ℕ × W) ℕ) → kind.commanded world number command ≡ r → wrong_word r ≡ None
+given_by : {Z S W C : Type 0} (kind : Kind Z S W C) (world : W) (number : ℕ) (command : C) → GivesSome kind → (r : Result (List ℕ × W) ℕ) → kind.commanded world number command ≡ r → result_err r ≡ None
     → GivesText (reading_of kind) (command_step kind (Ok world) number command)
 given_by kind world number command some (Ok given) is right =
     (stands_so kind (command_step kind (Ok world) number command) given (ap (commanded_step number) is), λ n. some world number command given is)
 given_by kind world number command some (Err word) is right = search rules
 
+-- a line that says none is wrong whatever would be made for it
+pub wrong_told : {Z S W C : Type 0} (kind : Kind Z S W C) (opened : Result W SetupFault) (number word : ℕ) → wrong_opened kind opened number (Err word) ≡ Some word
+wrong_told kind (Ok world) number word = refl
+wrong_told kind (Err fault) number word = refl
+
 -- the first that may stand gives text
-gives_first : {Z S W C : Type 0} (kind : Kind Z S W C) (opened : Result W SetupFault) (number : ℕ) (command : C) → GivesSome kind → wrong_opened kind opened number command ≡ None → IsOk (set_up_as opened)
+gives_first : {Z S W C : Type 0} (kind : Kind Z S W C) (opened : Result W SetupFault) (number : ℕ) (command : C) → GivesSome kind → wrong_opened kind opened number (Ok command) ≡ None → IsOk (set_up_as opened)
     → GivesText (reading_of kind) (command_step kind (set_up_as opened) number command)
 gives_first kind (Ok world) number command some right ok = given_by kind world number command some (kind.commanded world number command) refl right
 gives_first kind (Err fault) number command some right ok = search rules
-
-gives : {Z S W C : Type 0} (kind : Kind Z S W C) (stage : Stage Z S W) (number : ℕ) (command : C) → GivesSome kind → wrong_first kind stage number command ≡ None → nothing_written stage ≡ true → IsOk (world_at kind stage number)
-    → GivesText (reading_of kind) (command_step kind (world_at kind stage number) number command)
-gives kind Opening number command some right silent ok = search rules
-gives kind (SettingUp setup own) number command some right silent ok = gives_first kind (kind.opened own setup) number command some right ok
-gives kind (Running world) number command some right silent ok = search rules
 
 -- the first that may not stand is at fault
 abbrev option_or_word : ℕ → Option ℕ → ℕ
 option_or_word other None = other
 option_or_word other (Some word) = word
 
-wrong_by : {Z S W : Type 0} (number word : ℕ) (r : Result (List ℕ × W) ℕ) → wrong_word r ≡ Some word → commanded_step {Z = Z} {S = S} {W = W} number r ≡ Err (Script number word)
+wrong_by : {Z S W : Type 0} (number word : ℕ) (r : Result (List ℕ × W) ℕ) → result_err r ≡ Some word → commanded_step {Z = Z} {S = S} {W = W} number r ≡ Err (Script number word)
 wrong_by number word (Ok given) is = search rules
 wrong_by number word (Err other) is = ap (λ (o : Option ℕ). Err (Script number (option_or_word other o))) is
 
-wrong_as_opened : {Z S W C : Type 0} (kind : Kind Z S W C) (opened : Result W SetupFault) (number word : ℕ) (command : C) → wrong_opened kind opened number command ≡ Some word
+wrong_as_opened : {Z S W C : Type 0} (kind : Kind Z S W C) (opened : Result W SetupFault) (number word : ℕ) (command : C) → wrong_opened kind opened number (Ok command) ≡ Some word
     → command_step kind (set_up_as opened) number command ≡ Err (Script number word)
 wrong_as_opened kind (Ok world) number word command is = wrong_by number word (kind.commanded world number command) is
 wrong_as_opened kind (Err fault) number word command is = search rules
 
-pub wrong_step : {Z S W C : Type 0} (kind : Kind Z S W C) (stage : Stage Z S W) (number word : ℕ) (command : C) → wrong_first kind stage number command ≡ Some word
-    → command_step kind (world_at kind stage number) number command ≡ Err (Script number word)
-wrong_step kind Opening number word command is = search rules
-wrong_step kind (SettingUp setup own) number word command is = wrong_as_opened kind (kind.opened own setup) number word command is
-wrong_step kind (Running world) number word command is = search rules
+pub wrong_step : {Z S W C : Type 0} (kind : Kind Z S W C) (setup : Z) (own : S) (number word : ℕ) (told : Result C ℕ) → wrong_opened kind (kind.opened own setup) number told ≡ Some word
+    → told_step kind (SettingUp setup own) number told ≡ Err (Script number word)
+wrong_step kind setup own number word (Ok command) is = wrong_as_opened kind (kind.opened own setup) number word command is
+wrong_step kind setup own number word (Err other) is =
+    ap (λ (o : Option ℕ). Err (Script number (option_or_word other o))) (sym (wrong_told kind (kind.opened own setup) number other) ∙ is)
 
--- what a command works on wasn't made
-pub TakesStep-unopened : {Z S W C : Type 0} (kind : Kind Z S W C) (grows : Bool) (stage next : Stage Z S W) (number : ℕ) (command : C) (writer : Option (List ℕ)) (fault : ScriptFault) → GivesSome kind → wrong_first kind stage number command ≡ None
-    → OpensStage (world_at kind stage number) (nothing_written stage) next (Err fault)
-    → TakesStep (reading_of kind) grows (command_step kind (world_at kind stage number) number command) nothing_written stage next writer writer (Err fault)
-TakesStep-unopened kind grows stage next number command writer (Script line word) some right refused = (ap (λ found. command_step kind found number command) refused, Keeps-refl writer)
-TakesStep-unopened kind grows stage next number command writer (Setup fault) some right refused = (ap (λ found. command_step kind found number command) refused, Keeps-refl writer)
-TakesStep-unopened kind grows stage next number command writer Read some right refused = refused
-TakesStep-unopened kind grows stage next number command writer Write some right refused = absurd refused
-TakesStep-unopened kind grows stage next number command writer NoMemory some right (silent, ok) = (inl (silent, gives kind stage number command some right silent ok), Keeps-refl writer)
+-- what the first works on wasn't made
+pub TakesStep-unopened : {V Z S W C : Type 0} (kind : Kind Z S W C) (said : V → W) (grows : Bool) (setup : Z) (own : S) (next : Stage Z S W) (number : ℕ) (told : Result C ℕ) (writer : Option (List ℕ)) (fault : ScriptFault) → GivesSome kind
+    → wrong_opened kind (kind.opened own setup) number told ≡ None → GivesWorld said (set_up_as (kind.opened own setup)) (Err fault)
+    → TakesStep (reading_of kind) grows (told_step kind (SettingUp setup own) number told) nothing_written (SettingUp setup own) next writer writer (Err fault)
+TakesStep-unopened kind said grows setup own next number (Err word) writer fault some right refused = absurd (search (rules, wrong_told kind (kind.opened own setup) number word, right))
+TakesStep-unopened kind said grows setup own next number (Ok command) writer (Script line word) some right refused = (ap (λ found. command_step kind found number command) refused, Keeps-refl writer)
+TakesStep-unopened kind said grows setup own next number (Ok command) writer (Setup fault) some right refused = (ap (λ found. command_step kind found number command) refused, Keeps-refl writer)
+TakesStep-unopened kind said grows setup own next number (Ok command) writer Read some right refused = refused
+TakesStep-unopened kind said grows setup own next number (Ok command) writer Write some right refused = absurd refused
+TakesStep-unopened kind said grows setup own next number (Ok command) writer NoMemory some right ok =
+    (inl (refl, gives_first kind (kind.opened own setup) number command some right ok), Keeps-refl writer)
 
 -- a line's text was written, or it wasn't carried out, by what it gives
 carried_by : {Z S W C : Type 0} (kind : Kind Z S W C) (grows : Bool) (stage : Stage Z S W) (step : LineStep (Stage Z S W)) (number : ℕ) (next : W) (before after : Option (List ℕ)) (r : Result (List ℕ × W) ℕ) (result : Result Bool ScriptFault)
@@ -130,19 +134,19 @@ found_at kind Opening number world found = search rules
 found_at kind (SettingUp setup own) number world found = found
 found_at kind (Running other) number world found = found
 
-pub TakesStep-carried : {Z S W C : Type 0} (kind : Kind Z S W C) (grows : Bool) (stage : Stage Z S W) (number : ℕ) (world next : W) (command : C) (before after : Option (List ℕ)) (result : Result Bool ScriptFault) → world_at kind stage number ≡ Ok world
-    → Writes (grows && kind.wants world command) number (kind.commanded world number command) next before after result
-    → TakesStep (reading_of kind) (grows && stage_wants kind stage (Ok command)) (command_step kind (world_at kind stage number) number command) nothing_written stage (Running next) before after result
-TakesStep-carried kind grows stage number world next command before after result found wrote =
-    subst (λ (asks : Bool). TakesStep (reading_of kind) (grows && asks) (command_step kind (world_at kind stage number) number command) nothing_written stage (Running next) before after result)
-    (sym (ap (wants_where (λ w. kind.wants w command)) (found_at kind stage number world found)))
-    (carried_by kind (grows && kind.wants world command) stage (command_step kind (world_at kind stage number) number command) number next before after (kind.commanded world number command) result
-    (ap (λ w. command_step kind w number command) found) wrote)
+-- what a line does, by what it says
+told_is : {Z S W C : Type 0} (kind : Kind Z S W C) (stage : Stage Z S W) (world : W) (number : ℕ) (told : Result C ℕ) → world_at kind stage number ≡ Ok world → told_step kind stage number told ≡ commanded_step number (line_commanded kind world number told)
+told_is kind stage world number (Ok command) found = ap (λ w. command_step kind w number command) found
+told_is kind stage world number (Err word) found = refl
 
--- a line behind the first command, by what it says
-told_is : {Z S W C : Type 0} (kind : Kind Z S W C) (world : W) (number : ℕ) (told : Result C ℕ) → told_step kind (Running world) number told ≡ commanded_step number (line_commanded kind world number told)
-told_is kind world number (Ok command) = refl
-told_is kind world number (Err word) = refl
+pub TakesStep-carried : {Z S W C : Type 0} (kind : Kind Z S W C) (grows : Bool) (stage : Stage Z S W) (number : ℕ) (world next : W) (told : Result C ℕ) (before after : Option (List ℕ)) (result : Result Bool ScriptFault) → world_at kind stage number ≡ Ok world
+    → Writes (grows && told_wants kind world told) number (line_commanded kind world number told) next before after result
+    → TakesStep (reading_of kind) (grows && stage_wants kind stage told) (told_step kind stage number told) nothing_written stage (Running next) before after result
+TakesStep-carried kind grows stage number world next told before after result found wrote =
+    subst (λ (asks : Bool). TakesStep (reading_of kind) (grows && asks) (told_step kind stage number told) nothing_written stage (Running next) before after result)
+    (sym (ap (wants_where (λ w. told_wants kind w told)) (found_at kind stage number world found)))
+    (carried_by kind (grows && told_wants kind world told) stage (told_step kind stage number told) number next before after (line_commanded kind world number told) result
+    (told_is kind stage world number told found) wrote)
 
 -- no command was carried out where there is nothing that commands work on
 pub early_where : {H Z S V W : Type 0} (lists : H → Z) (said : V → W) (stage : StageHeld H S V) → ((world : V) → stage ≡ held.Running world → ⊥) → nothing_written (stage_as lists said (stage_of stage)) ≡ true
@@ -150,29 +154,14 @@ early_where lists said held.Opening never = refl
 early_where lists said (held.SettingUp setup own) never = refl
 early_where lists said (held.Running world) never = absurd (never world refl)
 
-pub TakesStep-line : {Z S W C : Type 0} (kind : Kind Z S W C) (grows : Bool) (number : ℕ) (world next : W) (words : List (List ℕ)) (before after : Option (List ℕ)) (result : Result Bool ScriptFault)
-    → Writes grows number (line_commanded kind world number (kind.command_of words)) next before after result
-    → TakesStep (reading_of kind) grows (stage_step kind (Running world) number words) nothing_written (Running world) (Running next) before after result
-TakesStep-line kind grows number world next words before after result =
-    carried_by kind grows (Running world) (stage_step kind (Running world) number words) number next before after (line_commanded kind world number (kind.command_of words)) result
-    (told_is kind world number (kind.command_of words))
-
-abbrev world_in : {Z S W : Type 0} → W → Stage Z S W → W
-world_in other Opening = other
-world_in other (SettingUp setup own) = other
-world_in other (Running world) = world
-
--- what was made is what a command works on
-pub opened_as : {Z S W : Type 0} (opened : Result W ScriptFault) (next : Stage Z S W) (world : W) → (made : W) × (opened ≡ Ok made) × (next ≡ Running made) → next ≡ Running world → opened ≡ Ok world
-opened_as opened next world (made, is, here) there = is ∙ ap (λ w. Ok (world_in made w)) (sym here ∙ there)
-
 -- ---- kinds whose commands may stand anywhere
 
--- none is wrong as the first one
-pub never_wrong : {Z S W C : Type 0} (kind : Kind Z S W C) (opened : Result W SetupFault) (number : ℕ) (command : C) → ((world : W) → wrong_word (kind.commanded world number command) ≡ None)
-    → None ≡ wrong_opened kind opened number command
-never_wrong kind (Ok world) number command right = sym (right world)
-never_wrong kind (Err fault) number command right = refl
+-- none is wrong as the first one, but where its line is
+pub never_wrong : {Z S W C : Type 0} (kind : Kind Z S W C) (opened : Result W SetupFault) (number : ℕ) (told : Result C ℕ) → ((world : W) (command : C) → result_err (kind.commanded world number command) ≡ None)
+    → result_err told ≡ wrong_opened kind opened number told
+never_wrong kind (Ok world) number (Ok command) right = sym (right world command)
+never_wrong kind (Ok world) number (Err word) right = refl
+never_wrong kind (Err fault) number told right = refl
 
 abbrev given_or : {X : Type 0} → X → Result X ℕ → X
 given_or other (Ok given) = given

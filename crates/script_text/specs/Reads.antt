@@ -3,7 +3,7 @@ use Rattle.std.specs.Prelude.{◌≡◌, ◌≢◌, ◌<◌, ◌≤◌, ◌+◌,
 use Rattle.std.specs.Io.KnownBytes.{Consumes, IsAtEnd, prepend_known}
 use Rattle.line_text.specs.Words.{is_plain_line}
 use Rattle.script_text.specs.declared.faults.ScriptFault.{ScriptFault}
-use Rattle.script_text.specs.declared.faults.ScriptFault.TheVariants.{Script, Setup, Read, Write, NoMemory}
+use Rattle.script_text.specs.declared.faults.ScriptFault.TheVariants.{Read, Write}
 use Rattle.script_text.specs.declared.reader.Ending.{Ending}
 use Rattle.script_text.specs.declared.reader.Ending.TheVariants.{LineFeed, Input, Room}
 
@@ -30,33 +30,27 @@ pub record Takes (old new : BlockState) (input rest : Option (List ℕ)) (bytes 
   pub consumed : Consumes (left old input) (left new rest) bytes
   pub same_block : new.has_text ≡ true → (old.has_text ≡ true) × (new.taken ≡ old.taken + length bytes)
 
+-- why no more was read behind these bytes: the read failed, or the flush before it
+abbrev pub Stops : BlockState → BlockState → Option (List ℕ) → Option (List ℕ) → List ℕ → ScriptFault → Type 0
+Stops old new input rest bytes Read = Takes old new input rest bytes × (new.ahead ≡ [])
+Stops old new input rest bytes Write = Takes old new input rest bytes × (new.ahead ≡ []) × (new.has_text ≡ true)
+Stops old new input rest bytes _ = ⊥
+
 -- the next block was read after text was flushed; it has no bytes only at the input's end
 abbrev pub Fills : BlockState → BlockState → Option (List ℕ) → Option (List ℕ) → Result (Unit {0}) ScriptFault → Type 0
 Fills old new input rest (Ok done) = Takes old new input rest [] × (new.has_text ≡ false) × (new.taken ≡ 0) × (new.ahead ≡ [] → IsAtEnd rest)
-Fills old new input rest (Err Read) = Takes old new input rest [] × (new.ahead ≡ [])
-Fills old new input rest (Err Write) = Takes old new input rest [] × (new.ahead ≡ []) × (new.has_text ≡ true)
-Fills old new input rest (Err (Script line word)) = ⊥
-Fills old new input rest (Err (Setup fault)) = ⊥
-Fills old new input rest (Err NoMemory) = ⊥
+Fills old new input rest (Err fault) = Stops old new input rest [] fault
 
--- a byte was taken, none at the input's end, or the read or the flush before it failed
+-- a byte was taken, or none at the input's end
 abbrev pub TakesByte : BlockState → BlockState → Option (List ℕ) → Option (List ℕ) → Result (Option ℕ) ScriptFault → Type 0
 TakesByte old new input rest (Ok (Some byte)) = Takes old new input rest (byte ∷ [])
 TakesByte old new input rest (Ok None) = Takes old new input rest [] × (new.ahead ≡ []) × IsAtEnd rest
-TakesByte old new input rest (Err Read) = Takes old new input rest [] × (new.ahead ≡ [])
-TakesByte old new input rest (Err Write) = Takes old new input rest [] × (new.ahead ≡ []) × (new.has_text ≡ true)
-TakesByte old new input rest (Err (Script line word)) = ⊥
-TakesByte old new input rest (Err (Setup fault)) = ⊥
-TakesByte old new input rest (Err NoMemory) = ⊥
+TakesByte old new input rest (Err fault) = Stops old new input rest [] fault
 
 -- whether anything is left, once the next block was read where nothing was: nothing is at the input's end
 abbrev pub Refills : BlockState → BlockState → Option (List ℕ) → Option (List ℕ) → Result Bool ScriptFault → Type 0
 Refills old new input rest (Ok some) = Takes old new input rest [] × (some ≡ true → new.ahead ≢ []) × (some ≡ false → (new.ahead ≡ []) × IsAtEnd rest)
-Refills old new input rest (Err Read) = Takes old new input rest [] × (new.ahead ≡ [])
-Refills old new input rest (Err Write) = Takes old new input rest [] × (new.ahead ≡ []) × (new.has_text ≡ true)
-Refills old new input rest (Err (Script line word)) = ⊥
-Refills old new input rest (Err (Setup fault)) = ⊥
-Refills old new input rest (Err NoMemory) = ⊥
+Refills old new input rest (Err fault) = Stops old new input rest [] fault
 
 -- ---- lines
 
@@ -95,14 +89,6 @@ abbrev pub Ends : BlockState → BlockState → Option (List ℕ) → Option (Li
 Ends old new input rest line LineFeed = Takes old new input rest (line ++ 10 ∷ [])
 Ends old new input rest line Input = Takes old new input rest line × (new.ahead ≡ []) × IsAtEnd rest
 Ends old new input rest line Room = (byte : ℕ) × (byte ≢ 10) × (length line ≡ 129) × Takes old new input rest (line ++ byte ∷ [])
-
--- why a line wasn't read to its end
-abbrev pub Stops : BlockState → BlockState → Option (List ℕ) → Option (List ℕ) → List ℕ → ScriptFault → Type 0
-Stops old new input rest line Read = Takes old new input rest line × (new.ahead ≡ [])
-Stops old new input rest line Write = Takes old new input rest line × (new.ahead ≡ []) × (new.has_text ≡ true)
-Stops old new input rest line (Script number word) = ⊥
-Stops old new input rest line (Setup fault) = ⊥
-Stops old new input rest line NoMemory = ⊥
 
 -- what was taken and how: a line of at most 129 bytes and what ended it, or a part of one where the read or a flush failed
 abbrev pub ReadsLine : BlockState → BlockState → Option (List ℕ) → Option (List ℕ) → List ℕ → Result Ending ScriptFault → Type 0

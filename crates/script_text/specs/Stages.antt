@@ -1,6 +1,7 @@
 -- What every kind of script has in common: a `config` line, other set-up lines, and then commands (this project's profile).
 use Rattle.std.specs.Prelude.{◌≡◌, ◌≢◌, ℕ, Bool, true, false, not, ◌||◌, List, [], ◌++◌, Option, Some, None, Result, Ok, Err, IsOk, if◌then◌else◌}
 use Rattle.std.specs.Io.KnownBytes.{Appends, Keeps}
+use Rattle.std.specs.Result.{result_err}
 use Rattle.setups.specs.declared.SetupFault.{SetupFault}
 use Rattle.setups.specs.declared.SetupFault.TheVariants as refused
 use Rattle.script_text.specs.Forms.{told_as, form_of}
@@ -8,7 +9,7 @@ use Rattle.script_text.specs.Scripts.{LineStep, Reading, TextResult, ended}
 use Rattle.script_text.specs.SetupRules.{SetupRules}
 use Rattle.line_text.specs.Words.{word_at}
 use Rattle.script_text.specs.declared.faults.ScriptFault.{ScriptFault}
-use Rattle.script_text.specs.declared.faults.ScriptFault.TheVariants.{Script, Setup as SetupRefused, Read, Write, NoMemory}
+use Rattle.script_text.specs.declared.faults.ScriptFault.TheVariants.{Script, Setup as SetupRefused, Write, NoMemory}
 use Rattle.script_text.specs.declared.keywords.Form.{Form}
 use Rattle.script_text.specs.declared.keywords.Form.TheVariants as form
 use Rattle.script_text.specs.declared.stages.Stage.{Stage as StageHeld}
@@ -113,22 +114,6 @@ abbrev pub command_step : {Z S W C : Type 0} → Kind Z S W C → Result W Scrip
 command_step kind (Err fault) number command = Err fault
 command_step kind (Ok world) number command = commanded_step number (kind.commanded world number command)
 
--- the wrong word of a command's line, if it has one
-abbrev pub wrong_word : {W : Type 0} → Result (List ℕ × W) ℕ → Option ℕ
-wrong_word (Ok given) = None
-wrong_word (Err word) = Some word
-
--- the same of the first command, by what was made for it; none where the set-up is refused
-abbrev pub wrong_opened : {Z S W C : Type 0} → Kind Z S W C → Result W SetupFault → ℕ → C → Option ℕ
-wrong_opened kind (Ok world) number command = wrong_word (kind.commanded world number command)
-wrong_opened kind (Err fault) number command = None
-
--- by how far the script has come: none where a command is no first one
-abbrev pub wrong_first : {Z S W C : Type 0} → Kind Z S W C → Stage Z S W → ℕ → C → Option ℕ
-wrong_first kind Opening number command = None
-wrong_first kind (SettingUp setup own) number command = wrong_opened kind (kind.opened own setup) number command
-wrong_first kind (Running world) number command = None
-
 -- a line that says a command, or its first wrong word
 abbrev pub told_step : {Z S W C : Type 0} → Kind Z S W C → Stage Z S W → ℕ → Result C ℕ → LineStep (Stage Z S W)
 told_step kind stage number (Ok command) = command_step kind (world_at kind stage number) number command
@@ -138,6 +123,11 @@ told_step kind stage number (Err word) = Err (Script number word)
 abbrev pub line_commanded : {Z S W C : Type 0} → Kind Z S W C → W → ℕ → Result C ℕ → Result (List ℕ × W) ℕ
 line_commanded kind world number (Ok command) = kind.commanded world number command
 line_commanded kind world number (Err word) = Err word
+
+-- the wrong word of a line that would be the first command, by what would be made for it; where the set-up is refused, that of one that says no command
+abbrev pub wrong_opened : {Z S W C : Type 0} → Kind Z S W C → Result W SetupFault → ℕ → Result C ℕ → Option ℕ
+wrong_opened kind (Ok world) number told = result_err (line_commanded kind world number told)
+wrong_opened kind (Err fault) number told = result_err told
 
 -- what the words of a command's line say by the form that the first of them names, if it names one, or the first wrong word
 abbrev pub command_by_form : {C : Type 0} → (Form → List (List ℕ) → Result C ℕ) → List (List ℕ) → Option Form → Result C ℕ
@@ -226,11 +216,9 @@ OpensAs opened (Err (refused.Device fault)) = opened ≡ Err (refused.Device fau
 
 -- why a text wasn't written: the writer failed, which it does only where there is some; or, of a kind that `grows`, memory was refused before that
 abbrev pub FailsAt : Bool → List ℕ → Option (List ℕ) → Option (List ℕ) → ScriptFault → Type 0
-FailsAt grows text before after (Script line word) = ⊥
-FailsAt grows text before after (SetupRefused fault) = ⊥
-FailsAt grows text before after Read = ⊥
 FailsAt grows text before after Write = text ≢ []
 FailsAt grows text before after NoMemory = (grows ≡ true) × Keeps before after
+FailsAt grows text before after _ = ⊥
 
 -- a command's text was written, and `wrote` tells whether there is any; or its line has a wrong word, and that is told
 abbrev pub Writes : {W : Type 0} → Bool → ℕ → Result (List ℕ × W) ℕ → W → Option (List ℕ) → Option (List ℕ) → Result Bool ScriptFault → Type 0
@@ -269,21 +257,18 @@ abbrev pub TakesLine : {X : Type 0} → Result X ℕ → X → Result (Unit {0})
 TakesLine told new (Ok done) = told ≡ Ok new
 TakesLine told new (Err word) = told ≡ Err word
 
--- what a script's commands work on was made where there was none, or why it wasn't; memory is asked for only where it may be made and nothing
--- was written
-abbrev pub OpensStage : {Z S W : Type 0} → Result W ScriptFault → Bool → Stage Z S W → Result (Unit {0}) ScriptFault → Type 0
-OpensStage {Z} {S} {W} opened silent new (Ok done) = (world : W) × (opened ≡ Ok world) × (new ≡ Running world)
-OpensStage opened silent new (Err (Script line word)) = opened ≡ Err (Script line word)
-OpensStage opened silent new (Err (SetupRefused fault)) = opened ≡ Err (SetupRefused fault)
-OpensStage opened silent new (Err Read) = ⊥
-OpensStage opened silent new (Err Write) = ⊥
-OpensStage opened silent new (Err NoMemory) = (silent ≡ true) × IsOk opened
+-- rules that speak of a set-up by its lists say what others say by other lists: what a `config` line gives, where there is no room for a line, and
+-- what a line adds
+pub record SaysAlike {H Y Z : Type 0} (others : H → Y) (other_rules : SetupRules Y) (lists : H → Z) (rules : SetupRules Z) : Type 0 where
+  pub of_config : (words : List (List ℕ)) (told : Result H ℕ) → told_as others told ≡ other_rules.of_config words → told_as lists told ≡ rules.of_config words
+  pub has_no_room : (setup : H) (form : Form) (words : List (List ℕ)) → other_rules.has_no_room (others setup) form words ≡ rules.has_no_room (lists setup) form words
+  pub with_line : (old new : H) (form : Form) (words : List (List ℕ)) (told : Result (Unit {0}) ℕ) → TakesLine (other_rules.with_line (others old) form words) (others new) told
+      → TakesLine (rules.with_line (lists old) form words) (lists new) told
 
 -- what a script's commands work on was given, as `said` says it, or why it wasn't made
 abbrev pub GivesWorld : {V W : Type 0} → (V → W) → Result W ScriptFault → Result V ScriptFault → Type 0
 GivesWorld said opened (Ok world) = opened ≡ Ok (said world)
 GivesWorld said opened (Err (Script line word)) = opened ≡ Err (Script line word)
 GivesWorld said opened (Err (SetupRefused fault)) = opened ≡ Err (SetupRefused fault)
-GivesWorld said opened (Err Read) = ⊥
-GivesWorld said opened (Err Write) = ⊥
 GivesWorld said opened (Err NoMemory) = IsOk opened
+GivesWorld said opened _ = ⊥

@@ -3,7 +3,7 @@ use Rattle.std.specs.Prelude.{◌≡◌, ◌≤◌, ◌⊎◌, ⊤, ℕ, ◌+◌
 use Rattle.line_text.specs.Words.{lines_of}
 use Rattle.script_text.specs.Scripts.{EndsAs, LineStep, Reading, StopsForMemory, line_step, text_before_failure, text_of}
 use Rattle.script_text.specs.declared.faults.ScriptFault.{ScriptFault}
-use Rattle.script_text.specs.declared.faults.ScriptFault.TheVariants.{Script, Setup, Read, Write, NoMemory}
+use Rattle.script_text.specs.declared.faults.ScriptFault.TheVariants.{NoMemory, Script}
 
 -- ---- the state after lines
 
@@ -43,21 +43,13 @@ pub record StopsAt {S A : Type 0} (reading : Reading S A) (start : S) (first : �
 
 -- where a script ends with a script fault, the line is held at which it stopped
 abbrev pub StopsWithin : {S A : Type 0} → Reading S A → S → ℕ → List (List ℕ) → List ℕ → Result A ScriptFault → Type 0
-StopsWithin reading start first lines held (Ok answer) = ⊤
 StopsWithin reading start first lines held (Err (Script line word)) = StopsAt reading start first lines held (Script line word)
-StopsWithin reading start first lines held (Err (Setup fault)) = ⊤
-StopsWithin reading start first lines held (Err Read) = ⊤
-StopsWithin reading start first lines held (Err Write) = ⊤
-StopsWithin reading start first lines held (Err NoMemory) = ⊤
+StopsWithin reading start first lines held _ = ⊤
 
 -- the same of the bytes that were judged, but for a line more than a script may have, of which only a byte was read
 abbrev pub HoldsFaultLine : {S A : Type 0} → Reading S A → S → List ℕ → List ℕ → Result A ScriptFault → Type 0
-HoldsFaultLine reading start judged held (Ok answer) = ⊤
 HoldsFaultLine reading start judged held (Err (Script line word)) = line ≤ reading.most_lines → StopsAt reading start 1 (lines_of judged) held (Script line word)
-HoldsFaultLine reading start judged held (Err (Setup fault)) = ⊤
-HoldsFaultLine reading start judged held (Err Read) = ⊤
-HoldsFaultLine reading start judged held (Err Write) = ⊤
-HoldsFaultLine reading start judged held (Err NoMemory) = ⊤
+HoldsFaultLine reading start judged held _ = ⊤
 
 -- how a call ends that holds the line at which a script fault stopped it: as one that holds none, and it is the line of the bytes that were judged
 abbrev pub EndsHolding : {S A : Type 0} → Bool → Reading S A → S → List ℕ → Option (List ℕ) → Option (List ℕ) → Option (List ℕ) → Option (List ℕ) → Result A ScriptFault → Type 0

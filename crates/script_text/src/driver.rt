@@ -64,7 +64,7 @@ pub trait Script {
 }
 
 /// A line without the carriage return at its end, if it has one.
-fn without_return(line: &[u8]) -> &[u8]
+pub fn without_return(line: &[u8]) -> &[u8]
     ensures { result.now ≡ strip_carriage_return line.now }
 {
     line.strip_suffix(b"\r").unwrap_or(line)
@@ -107,10 +107,7 @@ pub fn take_line<S: Script, W: Write>(
 {
     let text = without_return(line);
     if !may_stand(text) {
-        return Err(ScriptFault::Script {
-            line: number,
-            word: 0,
-        });
+        return Err(ScriptFault::at(number, 0));
     }
     take_plain(script, alloc, number, text, writer)
 }
@@ -209,10 +206,7 @@ pub fn read_script_with<S: Script + Drop, R: Read, W: Write>(
             }
             Ending::Room => {
                 stopped.hold(block.line());
-                return Err(ScriptFault::Script {
-                    line: number,
-                    word: 0,
-                });
+                return Err(ScriptFault::at(number, 0));
             }
         }
         if take_held(&mut script, alloc, number, &block, writer, stopped)? {
@@ -221,10 +215,7 @@ pub fn read_script_with<S: Script + Drop, R: Read, W: Write>(
     }
     stopped.clear();
     if let Some(_) = block.next_byte(reader, writer)? {
-        return Err(ScriptFault::Script {
-            line: late,
-            word: 0,
-        });
+        return Err(ScriptFault::at(late, 0));
     }
     script.end(alloc, late, writer)
 }

@@ -1,4 +1,7 @@
 //! Why a script isn't carried out to its end.
+ghost use Rattle.std.specs.Prelude.{◌≡◌};
+ghost use Rattle.script_text.specs.declared.faults.ScriptFault.TheVariants as script_fault;
+
 use line_text::WriteFault;
 use setups::SetupFault;
 use std::alloc::AllocError;
@@ -29,10 +32,17 @@ pub enum ScriptFault {
     NoMemory,
 }
 
-impl From<WriteFault> for ScriptFault {
-    ghost use Rattle.std.specs.Prelude.{◌≡◌};
-    ghost use Rattle.script_text.specs.declared.faults.ScriptFault.TheVariants as script_fault;
+impl ScriptFault {
+    /// The fault of a line that may not stand as it is: its number, and its first wrong word. Both are counted from 1; word 0 is the line
+    /// as a whole.
+    pub fn at(line: u32, word: u32) -> ScriptFault
+        ensures { result ≡ script_fault.Script line word }
+    {
+        ScriptFault::Script { line, word }
+    }
+}
 
+impl From<WriteFault> for ScriptFault {
     ghost from_gives = { λ fault result. result ≡ script_fault.Write };
 
     fn from(_: WriteFault) -> ScriptFault {
@@ -41,9 +51,6 @@ impl From<WriteFault> for ScriptFault {
 }
 
 impl From<AllocError> for ScriptFault {
-    ghost use Rattle.std.specs.Prelude.{◌≡◌};
-    ghost use Rattle.script_text.specs.declared.faults.ScriptFault.TheVariants as script_fault;
-
     ghost from_gives = { λ fault result. result ≡ script_fault.NoMemory };
 
     fn from(_: AllocError) -> ScriptFault {

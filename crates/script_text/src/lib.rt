@@ -11,7 +11,7 @@ mod setup_parser;
 mod stages;
 mod stopped;
 
-pub use driver::{Script, read_script, read_script_with, take_line};
+pub use driver::{Script, read_script, read_script_with, take_line, without_return};
 pub use faults::ScriptFault;
 pub use keywords::Form;
 pub use setup_lines::{ScriptSetup, add_line, is_setup_form, setup_line};

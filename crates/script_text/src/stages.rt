@@ -1,13 +1,14 @@
 //! What every kind of script has in common: a `config` line, other set-up lines, and then commands.
-ghost use Rattle.std.specs.Prelude.{◌≡◌, ◌<◌, ◌&&◌, [], false, true, Ok};
+ghost use Rattle.std.specs.Prelude.{◌≡◌, ◌<◌, ◌&&◌, false, true, Err};
 ghost use Rattle.script_text.specs.Forms.{told_as};
-ghost use Rattle.script_text.specs.Stages.{GivesWorld, OpensAs, Opening, OpensStage, TakesLine, Writes, WritesEnd, command_step, early_step, is_misplaced, nothing_written, other_step, reading_of, set_up_with, setup_step, stage_as, stage_ending, stage_wants, stage_wants_at_end, told_step, world_at, wrong_first};
-ghost use Rattle.script_text.specs.Steps.{TakesRest, TakesStep};
+ghost use Rattle.script_text.specs.Stages.{GivesWorld, OpensAs, Opening, TakesLine, Writes, WritesEnd, early_step, is_misplaced, nothing_written, other_step, reading_of, set_up_as, set_up_with, setup_step, stage_as, stage_wants, world_at};
+ghost use Rattle.script_text.specs.Steps.{TakesStep};
+ghost use Rattle.script_text.specs.declared.faults.ScriptFault.TheVariants.{NoMemory};
 
 use crate::driver::Script;
 use crate::faults::ScriptFault;
 use crate::keywords::Form;
-use crate::setup_lines::is_setup_form;
+use crate::setup_lines::{ScriptSetup, is_setup_form};
 use line_text::Words;
 use setups::SetupFault;
 use std::alloc::Global;
@@ -16,20 +17,17 @@ use std::marker::Model;
 
 /// A kind of script: the lines that it has, and what its commands do.
 pub trait Kind {
-    ghost use Rattle.std.specs.Prelude.{Bool, ◌&&◌};
-    ghost use Rattle.script_text.specs.Stages.{GivesSome, Kind as Rules, line_commanded, told_wants, wrong_opened};
+    ghost use Rattle.std.specs.Prelude.{ℕ, Bool, ◌&&◌};
+    ghost use Rattle.script_text.specs.Stages.{GivesSome, Kind as Rules, SaysAlike, line_commanded, told_wants, wrong_opened};
 
     /// What its set-up lines add up to.
-    type Setup: Drop;
+    type Setup: ScriptSetup + Drop;
 
     /// What its own set-up lines have said.
     type Own: Drop;
 
     /// What its commands work on.
     type World: Drop;
-
-    /// What a line says that is a command.
-    type Command: Drop;
 
     /// What its rules say of a set-up.
     ghost Lists: { Type 0 };
@@ -43,8 +41,11 @@ pub trait Kind {
     /// What commands work on, as the rules say it.
     ghost said: { Self.World → State };
 
+    /// What a line says that is a command.
+    ghost Command: { Type 0 };
+
     /// What its lines do.
-    ghost rules: { Rules Lists Self.Own State Self.Command };
+    ghost rules: { Rules Lists Self.Own State Command };
 
     /// Whether what commands work on may ask for memory in mid-run, at the commands that the rules say and at the input's end.
     ghost grows: { Bool };
@@ -58,19 +59,6 @@ pub trait Kind {
     fn takes(form: Form) -> bool
         ensures { result ≡ rules.takes form };
 
-    /// The set-up of a `config` line alone, or that line's first wrong word.
-    fn of_config(words: &Words<'_>) -> Result<Self::Setup, u32>
-        ensures { told_as lists result ≡ rules.set_up.of_config words.now };
-
-    /// Whether a set-up has no room for one line more of this form.
-    fn has_no_room(setup: &Self::Setup, form: Form, words: &Words<'_>) -> bool
-        ensures { result ≡ rules.set_up.has_no_room (lists setup.now) form words.now };
-
-    /// Adds a line of a form that isn't `config` to a set-up that has room for it, or answers its first wrong word.
-    fn add(setup: &mut Self::Setup, form: Form, words: &Words<'_>) -> Result<(), u32>
-        requires { rules.set_up.has_no_room (lists setup.old) form words.now ≡ false }
-        ensures { TakesLine (rules.set_up.with_line (lists setup.old) form words.now) (lists setup.new) result };
-
     /// What its own set-up lines have said before the first of them.
     fn own_opening() -> Self::Own
         ensures { result ≡ rules.own_opening };
@@ -83,41 +71,17 @@ pub trait Kind {
     fn passes(words: &Words<'_>) -> bool
         ensures { result ≡ rules.passes words.now };
 
-    /// What a command's line says, or its first wrong word: word 1, where no command begins so.
-    fn command_of(words: &Words<'_>) -> Result<Self::Command, u32>
-        ensures { result ≡ rules.command_of words.now };
-
     /// Makes what commands work on.
-    fn open(
-        &mut self,
-        alloc: Global,
-        own: &Self::Own,
-        setup: &Self::Setup,
-    ) -> Result<Self::World, SetupFault>
+    fn open(alloc: Global, own: &Self::Own, setup: &Self::Setup) -> Result<Self::World, SetupFault>
         ensures { OpensAs (rules.opened own.now (lists setup.now)) (told_as said result) };
 
-    /// The wrong word of a line whose command would be the first, by what would be made for it; none where the set-up is refused.
-    fn wrong_first(
-        own: &Self::Own,
-        setup: &Self::Setup,
-        number: u32,
-        command: &Self::Command,
-    ) -> Option<u32>
-        ensures { result ≡ wrong_opened rules (rules.opened own.now (lists setup.now)) number command.now };
+    /// The wrong word of a line that would be the first command, by what would be made for it: word 1, where no command begins so.
+    /// Where the set-up is refused, the line only has to say a command.
+    fn wrong_first(own: &Self::Own, setup: &Self::Setup, words: &Words<'_>) -> Option<u32>
+        ensures { (number : ℕ) → result ≡ wrong_opened rules (rules.opened own.now (lists setup.now)) number (rules.command_of words.now) };
 
-    /// Carries out a command, by the number of its line, and writes its text. The answer is whether there was any. A fault is
-    /// the line's wrong word, that of the writer, or that memory was refused.
-    fn carry_out<W: Write>(
-        &mut self,
-        world: &mut Self::World,
-        number: u32,
-        command: &Self::Command,
-        writer: &mut W,
-    ) -> Result<bool, ScriptFault>
-        ensures { Writes (grows && rules.wants (said world.old) command.now) number (rules.commanded (said world.old) number command.now) (said world.new) (W.contents writer.old) (W.contents writer.new) result };
-
-    /// Carries out the command that a line behind the first command says, and writes its text: `command_of` and `carry_out` in one,
-    /// where no value has to hold whatever command there is. Answer and fault are those of both.
+    /// Carries out the command that a line says, by the line's number, and writes its text. The answer is whether there was any.
+    /// A fault is the line's first wrong word, that of the writer, or that memory was refused.
     fn carry_line<W: Write>(
         &mut self,
         world: &mut Self::World,
@@ -125,28 +89,17 @@ pub trait Kind {
         words: &Words<'_>,
         writer: &mut W,
     ) -> Result<bool, ScriptFault>
-        ensures { Writes (grows && told_wants rules (said world.old) (rules.command_of words.now)) number (line_commanded rules (said world.old) number (rules.command_of words.now)) (said world.new) (W.contents writer.old) (W.contents writer.new) result }
-    {
-        let read = Self::command_of(words);
-        match &read {
-            Err(word) => Err(ScriptFault::Script {
-                line: number,
-                word: *word,
-            }),
-            Ok(command) => self.carry_out(world, number, command, writer),
-        }
-    }
+        ensures { Writes (grows && told_wants rules (said world.old) (rules.command_of words.now)) number (line_commanded rules (said world.old) number (rules.command_of words.now)) (said world.new) (W.contents writer.old) (W.contents writer.new) result };
 
     /// Writes the text of the input's end. The answer is what the script answers; a fault is as above.
-    fn end<W: Write>(
-        &mut self,
-        world: &mut Self::World,
-        writer: &mut W,
-    ) -> Result<bool, ScriptFault>
+    fn end<W: Write>(world: &mut Self::World, writer: &mut W) -> Result<bool, ScriptFault>
         ensures { WritesEnd (grows && rules.wants_at_end (said world.old)) (rules.ending (said world.old)) (W.contents writer.old) (W.contents writer.new) result };
 
     /// A command has text, or a script that ends after it.
     ghost gives_text: { GivesSome rules };
+
+    /// Its rules say of a set-up what that says of itself.
+    ghost adds_up: { SaysAlike Self.Setup.lists Self.Setup.rules lists rules.set_up };
 }
 
 /// How far a script has come.
@@ -192,7 +145,7 @@ impl<K: Kind> StagedScript<K> {
     {
         match &self.stage {
             Stage::Opening => !matches!(form, Form::Config),
-            Stage::SettingUp(setup, _) => K::has_no_room(setup, form, words),
+            Stage::SettingUp(setup, _) => setup.has_no_room(form, words),
             Stage::Running(_) => true,
         }
     }
@@ -203,14 +156,14 @@ impl<K: Kind> StagedScript<K> {
         ensures { TakesLine (set_up_with K.rules (stage_as K.lists K.said self.old) words.now form) (stage_as K.lists K.said self.new) result }
     {
         if matches!(form, Form::Config) {
-            let setup = K::of_config(words)?;
+            let setup = K::Setup::of_config(words)?;
             self.stage = Stage::SettingUp(setup, K::own_opening());
             return Ok(());
         }
         let Stage::SettingUp(setup, _) = &mut self.stage else {
             return Err(1);
         };
-        K::add(setup, form, words)
+        setup.add(form, words)
     }
 
     /// Takes a line of a set-up form.
@@ -224,18 +177,27 @@ impl<K: Kind> StagedScript<K> {
         ensures { TakesStep (reading_of K.rules) (K.grows && stage_wants K.rules (stage_as K.lists K.said self.old) (K.rules.command_of words.now)) (setup_step K.rules (stage_as K.lists K.said self.old) number words.now form) nothing_written (stage_as K.lists K.said self.old) (stage_as K.lists K.said self.new) (W.contents _writer.old) (W.contents _writer.new) result }
     {
         if !K::takes(form) || self.is_misplaced(form, words) {
-            return Err(ScriptFault::Script {
-                line: number,
-                word: 1,
-            });
+            return Err(ScriptFault::at(number, 1));
         }
         match self.set_up(form, words) {
-            Err(word) => Err(ScriptFault::Script { line: number, word }),
+            Err(word) => Err(ScriptFault::at(number, word)),
             Ok(()) => Ok(false),
         }
     }
 
-    /// Takes a line of no set-up form: one of the kind's own, or the first command.
+    /// Makes what commands work on.
+    fn opened(alloc: Global, own: &K::Own, setup: &K::Setup) -> Result<K::World, ScriptFault>
+        ensures { GivesWorld K.said (set_up_as (K.rules.opened own.now (K.lists setup.now))) result }
+    {
+        match K::open(alloc, own, setup) {
+            Ok(world) => Ok(world),
+            Err(SetupFault::NoMemory) => Err(ScriptFault::NoMemory),
+            Err(fault) => Err(ScriptFault::Setup(fault)),
+        }
+    }
+
+    /// Takes a line of no set-up form: one of the kind's own, or the first command. That is checked before what it works on is made,
+    /// so that want of memory hides no fault.
     fn take_other_line<W: Write>(
         &mut self,
         alloc: Global,
@@ -245,20 +207,24 @@ impl<K: Kind> StagedScript<K> {
     ) -> Result<bool, ScriptFault>
         ensures { TakesStep (reading_of K.rules) (K.grows && stage_wants K.rules (stage_as K.lists K.said self.old) (K.rules.command_of words.now)) (other_step K.rules (stage_as K.lists K.said self.old) number words.now) nothing_written (stage_as K.lists K.said self.old) (stage_as K.lists K.said self.new) (W.contents writer.old) (W.contents writer.new) result }
     {
-        let Stage::SettingUp(_, own) = &mut self.stage else {
-            return Err(ScriptFault::Script {
-                line: number,
-                word: 1,
-            });
+        let Stage::SettingUp(setup, own) = &mut self.stage else {
+            return Err(ScriptFault::at(number, 1));
         };
         match K::own_line(own, words) {
-            None => self.take_command(alloc, number, words, writer),
-            Some(Err(word)) => Err(ScriptFault::Script { line: number, word }),
+            Some(Err(word)) => return Err(ScriptFault::at(number, word)),
             Some(Ok(said)) => {
                 *own = said;
-                Ok(false)
+                return Ok(false);
             }
+            None => {}
         }
+        if let Some(word) = K::wrong_first(own, setup, words) {
+            return Err(ScriptFault::at(number, word));
+        }
+        let mut world = Self::opened(alloc, own, setup)?;
+        let wrote = self.kind.carry_line(&mut world, number, words, writer);
+        self.stage = Stage::Running(world);
+        wrote
     }
 
     /// Takes a line before the first command. It is apart, since a function clears the room for its values at its entry.
@@ -284,126 +250,21 @@ impl<K: Kind> StagedScript<K> {
         }
         self.take_other_line(alloc, number, words, writer)
     }
-
-    /// Makes what commands work on where there is none yet.
-    #[inline]
-    fn open(&mut self, alloc: Global, number: u32) -> Result<(), ScriptFault>
-        ensures { OpensStage (world_at K.rules (stage_as K.lists K.said self.old) number) (nothing_written (stage_as K.lists K.said self.old)) (stage_as K.lists K.said self.new) result }
-    {
-        if let Stage::Running(_) = &self.stage {
-            return Ok(());
-        }
-        self.make(alloc, number)
-    }
-
-    /// Makes what commands work on. It is apart, since a function clears the room for its values at its entry.
-    #[inline(never)]
-    fn make(&mut self, alloc: Global, number: u32) -> Result<(), ScriptFault>
-        ensures { OpensStage (world_at K.rules (stage_as K.lists K.said self.old) number) (nothing_written (stage_as K.lists K.said self.old)) (stage_as K.lists K.said self.new) result }
-    {
-        let (setup, own) = match &self.stage {
-            Stage::Opening => {
-                return Err(ScriptFault::Script {
-                    line: number,
-                    word: 1,
-                });
-            }
-            Stage::Running(_) => return Ok(()),
-            Stage::SettingUp(setup, own) => (setup, own),
-        };
-        match self.kind.open(alloc, own, setup) {
-            Ok(world) => {
-                self.stage = Stage::Running(world);
-                Ok(())
-            }
-            Err(SetupFault::NoMemory) => Err(ScriptFault::NoMemory),
-            Err(fault) => Err(ScriptFault::Setup(fault)),
-        }
-    }
-
-    /// The wrong word of a line whose command would be the first; none of another.
-    #[inline]
-    fn wrong_first(&self, number: u32, command: &K::Command) -> Option<u32>
-        ensures { result ≡ wrong_first K.rules (stage_as K.lists K.said self.now) number command.now }
-    {
-        match &self.stage {
-            Stage::SettingUp(setup, own) => K::wrong_first(own, setup, number, command),
-            _ => None,
-        }
-    }
-
-    fn carry_out<W: Write>(
-        &mut self,
-        alloc: Global,
-        number: u32,
-        command: &K::Command,
-        writer: &mut W,
-    ) -> Result<bool, ScriptFault>
-        ensures { TakesStep (reading_of K.rules) (K.grows && stage_wants K.rules (stage_as K.lists K.said self.old) (Ok command.now)) (command_step K.rules (world_at K.rules (stage_as K.lists K.said self.old) number) number command.now) nothing_written (stage_as K.lists K.said self.old) (stage_as K.lists K.said self.new) (W.contents writer.old) (W.contents writer.new) result }
-    {
-        if let Some(word) = self.wrong_first(number, command) {
-            return Err(ScriptFault::Script { line: number, word });
-        }
-        self.open(alloc, number)?;
-        let Stage::Running(world) = &mut self.stage else {
-            unreachable!();
-        };
-        self.kind.carry_out(world, number, command, writer)
-    }
-
-    /// Takes a line that says a command.
-    fn take_command<W: Write>(
-        &mut self,
-        alloc: Global,
-        number: u32,
-        words: &Words<'_>,
-        writer: &mut W,
-    ) -> Result<bool, ScriptFault>
-        ensures { TakesStep (reading_of K.rules) (K.grows && stage_wants K.rules (stage_as K.lists K.said self.old) (K.rules.command_of words.now)) (told_step K.rules (stage_as K.lists K.said self.old) number (K.rules.command_of words.now)) nothing_written (stage_as K.lists K.said self.old) (stage_as K.lists K.said self.new) (W.contents writer.old) (W.contents writer.new) result }
-    {
-        let read = K::command_of(words);
-        let command = match &read {
-            Err(word) => {
-                return Err(ScriptFault::Script {
-                    line: number,
-                    word: *word,
-                });
-            }
-            Ok(command) => command,
-        };
-        self.carry_out(alloc, number, command, writer)
-    }
-
-    /// Ends the script, for whose commands all is made where none came.
-    fn end_stage<W: Write>(
-        &mut self,
-        alloc: Global,
-        number: u32,
-        writer: &mut W,
-    ) -> Result<bool, ScriptFault>
-        ensures { TakesRest (stage_ending K.rules (stage_as K.lists K.said self.old) number) [] (K.grows && stage_wants_at_end K.rules (stage_as K.lists K.said self.old)) (nothing_written (stage_as K.lists K.said self.old)) (W.contents writer.old) (W.contents writer.new) result }
-    {
-        self.open(alloc, number)?;
-        let Stage::Running(world) = &mut self.stage else {
-            unreachable!();
-        };
-        self.kind.end(world, writer)
-    }
 }
 
 impl<K: Kind + Drop> StagedScript<K> {
     /// What the commands of a script work on, for one who carries them out himself, by the number of the line that is next. Where
-    /// no command came it is made.
+    /// no command came it is made, and memory is asked for there alone.
     pub fn into_world(self, alloc: Global, number: u32) -> Result<K::World, ScriptFault>
-        ensures { GivesWorld K.said (world_at K.rules (stage_as K.lists K.said self) number) result }
+        ensures world { GivesWorld K.said (world_at K.rules (stage_as K.lists K.said self) number) result }
+        ensures silent { result ≡ Err NoMemory → nothing_written (stage_as K.lists K.said self) ≡ true }
     {
-        let mut script = self;
-        script.open(alloc, number)?;
-        let StagedScript { kind: _, stage } = script;
-        let Stage::Running(world) = stage else {
-            unreachable!();
-        };
-        Ok(world)
+        let StagedScript { kind: _, stage } = self;
+        match stage {
+            Stage::Opening => Err(ScriptFault::at(number, 1)),
+            Stage::SettingUp(setup, own) => Self::opened(alloc, &own, &setup),
+            Stage::Running(world) => Ok(world),
+        }
     }
 }
 
@@ -447,7 +308,7 @@ impl<K: Kind + Drop> Script for StagedScript<K> {
         number: u32,
         writer: &mut W,
     ) -> Result<bool, ScriptFault> {
-        let mut script = self;
-        script.end_stage(alloc, number, writer)
+        let mut world = self.into_world(alloc, number)?;
+        K::end(&mut world, writer)
     }
 }

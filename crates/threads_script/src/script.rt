@@ -36,7 +36,7 @@ impl Script for Asked {
     ) -> Result<bool, ScriptFault> {
         match self.take_line(words) {
             Ok(()) => Ok(false),
-            Err(word) => Err(ScriptFault::Script { line: number, word }),
+            Err(word) => Err(ScriptFault::at(number, word)),
         }
     }
 
@@ -47,10 +47,7 @@ impl Script for Asked {
         _writer: &mut W,
     ) -> Result<Asked, ScriptFault> {
         let Some(setup) = self.setup() else {
-            return Err(ScriptFault::Script {
-                line: number,
-                word: 1,
-            });
+            return Err(ScriptFault::at(number, 1));
         };
         if let Some(fault) = setup_fault(setup) {
             return Err(ScriptFault::Setup(fault));

@@ -1,7 +1,7 @@
 -- Each line says one command, which is carried out.
 use Rattle.std.proofs.Common.{rules}
 use Rattle.world.specs.declared.Step.TheVariants as step
-use Rattle.run_script.specs.declared.lines.Command.TheVariants.{Event, Mem}
+use Rattle.run_script.specs.Run.{Event, Mem}
 use Rattle.run_script.proofs.script.line.Goals as goal
 
 pub returns-in_ok-client-in-Offer : goal.returns-in_ok-client-in-Offer

@@ -42,9 +42,10 @@ returns-in-Input g c =
 pub returns-in-Room : goal.returns-in-Room
 returns-in-Room g c =
     let part = rw c.in-Room.is at c.in_ok-read_line.ensures.input in
-    inl
+    rw c.at.ensures
+    (inl
     (Ends-long g.S.Script.reading g.S.Script.is_silent (g.S.Script.state c.args.script) (g.S.Script.state c.loop-number.script) c.loop-number.number _ _ _ _ _ _ _ _ c.read_line.new.self.line c.hold.new.self part.2.0 c.loop-number.invariant
-    (omega (arith, c.loop-number-test.true)) part.0 part.2.1 part.2.2 part.2.3 c.read_line.ensures.small c.read_line.ensures.output (c.hold.ensures ∙ ap held_of c.line-in-Room.ensures))
+    (omega (arith, c.loop-number-test.true)) part.0 part.2.1 part.2.2 part.2.3 c.read_line.ensures.small c.read_line.ensures.output (c.hold.ensures ∙ ap held_of c.line-in-Room.ensures)))
 
 pub returns-in_err-take_held : goal.returns-in_err-take_held
 returns-in_err-take_held g c =
@@ -80,7 +81,7 @@ pub returns-in-Some : goal.returns-in-Some
 returns-in-Some g c =
     let next = rw c.in-Some.is at c.in_ok-next_byte.ensures.input in
     let last : c.loop-number.number ≡ g.S.Script.reading.most_lines + 1 = omega (arith, c.loop-number-test.false, c.loop-number.auto.number-end (omega arith), c.most_lines-late.ensures.most) in
-    rw (c.most_lines-late.ensures.most, ← last)
+    rw (c.at-in-Some.ensures, c.most_lines-late.ensures.most, ← last)
     (inl
     (Ends-late g.S.Script.reading g.S.Script.is_silent (g.S.Script.state c.args.script) (g.S.Script.state c.loop-number.script) c.loop-number.number _ _ _ _ _ _ _ _ _ c.in-Some.field-0 c.loop-number.invariant last next c.next_byte.ensures.small c.next_byte.ensures.output))
 

@@ -12,4 +12,4 @@ pub returns-clause-order : goal.returns-clause-order
 returns-clause-order c =
     let bridge = c.in_ok-bridge.bridge in
     subst (λ (s : Stage SetupLists (Unit {0}) BridgeState). OpensInOrder s (Ok bridge)) (ap stage_in c.self.view_is)
-    (opens_in_order (stage_in (the_view c.self.inside)) (c.self.inside.number + 1) (Ok bridge) c.in_ok-bridge.ensures)
+    (opens_in_order (stage_in (the_view c.self.inside)) (c.self.inside.number + 1) (Ok bridge) c.in_ok-bridge.ensures.world)
