@@ -57,7 +57,7 @@ pub(crate) fn line_end<W: Write>(time: Option<u64>, writer: &mut W) -> Result<()
 }
 
 /// Writes the beginning of a wrong reply's line, behind which the beat that was due stands.
-fn expected<W: Write>(line: u32, rule: ReplyRule, writer: &mut W) -> Result<(), WriteFault>
+fn reply_head<W: Write>(line: u32, rule: ReplyRule, writer: &mut W) -> Result<(), WriteFault>
     ensures { OnOk result (Appends (W.contents writer.old) (W.contents writer.new) (expected_text line rule)) }
 {
     let number = rule.number();
@@ -91,7 +91,7 @@ fn wrong_words<W: Write>(
             Ok(write!(writer, "= wrong {line} reply {number} {name}")?)
         }
         Wrong::Reply(rule, Some(due)) => {
-            expected(line, *rule, writer)?;
+            reply_head(line, *rule, writer)?;
             Ok(d_words(client, due, writer)?)
         }
         Wrong::Axi(rule) => {

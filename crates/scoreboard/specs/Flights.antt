@@ -77,6 +77,10 @@ abbrev pub due_after : Option InFlight → List InFlight → ℕ → List InFlig
 due_after None due source = without_first (is_of_source source) due
 due_after (Some flight) due source = due
 
+-- a client's where the reply that has its next beat in one of a source has begun
+abbrev pub begun_for : Flights → ℕ → Flights
+begun_for flights source = record { due = due_after flights.begun flights.due source; begun = next_reply flights source }
+
 -- a client's after a beat of a source on channel D
 abbrev pub flights_after : Flights → ℕ → Flights
 flights_after flights source = record { due = due_after flights.begun flights.due source; begun = begun_after (next_reply flights source) source }

@@ -263,10 +263,12 @@ impl Client {
     {
         let told = self.told();
         self.told = told.unwrap_or(beat.denied);
-        if !self.flights.has_next(beat.source) {
+        if !self.flights.begin(beat.source) {
             return self.judge_early(policy, told, beat);
         }
-        self.flights.judge(policy, told, beat)
+        let wrong = self.flights.wrong_begun(policy, told, beat);
+        self.flights.count(beat.source);
+        wrong
     }
 
     /// Judges a beat on channel D. Where the reply that has begun is over with it, as it is the first of another, that one begins.
@@ -362,8 +364,8 @@ impl Client {
     pub(crate) fn telling(&self, policy: Policy, source: u8) -> Telling
         ensures { result ≡ flight_telling policy (next_to policy (client_of self.now) source) }
     {
-        if self.flights.has_next(source) {
-            return self.flights.telling(policy, source);
+        if let Some(telling) = self.flights.telling(policy, source) {
+            return telling;
         }
         match (policy, self.early) {
             (Policy::RealTime, Some(due)) if due.source == source => {

@@ -6,12 +6,12 @@ ghost use Rattle.std.specs.Vec.{vec_capacity};
 ghost use Rattle.bus_words.specs.Places.{without_first};
 ghost use Rattle.scoreboard.specs.Boards.{wrong_reply};
 ghost use Rattle.scoreboard.specs.FailedBursts.{after_reached, hit_flight};
-ghost use Rattle.scoreboard.specs.Flights.{begun_after, due_to, each_flight, flights_after, in_flight, is_busy, is_of_source, is_over, next_reply, no_flights, replies_left};
+ghost use Rattle.scoreboard.specs.Flights.{begun_after, begun_for, due_to, each_flight, in_flight, is_busy, is_of_source, is_over, next_reply, no_flights, replies_left};
 ghost use Rattle.serial_memory.specs.SerialMemory.{doubts_of, rooms_of};
 ghost use Rattle.scoreboard.specs.InsideBoards.{HaveRoomToWrite, IsMarkedAlone, flights_of, footprint_of};
 ghost use Rattle.scoreboard.specs.Races.{beside_all, beside_dependent, flight_beside};
 ghost use Rattle.scoreboard.specs.Replies.{DuesHaveRoom, due_flights, due_footprint};
-ghost use Rattle.scoreboard.specs.Telling.{flight_telling};
+ghost use Rattle.scoreboard.specs.Telling.{left_telling};
 ghost use Rattle.tl_messages.specs.declared.DBeat.{DBeat};
 
 use crate::failed_bursts::{Reach, Span};
@@ -216,13 +216,6 @@ impl Flights {
         self.has_begun
     }
 
-    /// Whether the reply that has begun, or one that is due, has its next beat in one of a source.
-    pub(crate) fn has_next(&self, source: u8) -> bool
-        ensures { result ≡ is_some (next_reply (flights_of self.now) source) }
-    {
-        self.has_begun() || self.is_due(source)
-    }
-
     /// How many replies aren't whole.
     pub(crate) fn outstanding(&self) -> u16
         ensures count { result ≡ replies_left (flights_of self.now) }
@@ -268,24 +261,41 @@ impl Flights {
         self.due.push_reserved(due);
     }
 
-    /// The reply to a source's request begins, where none has begun.
-    fn begin(&mut self, source: u8)
+    /// The reply to a source's request begins, where none has begun. The answer is whether one is due to it.
+    fn begin_due(&mut self, source: u8) -> bool
         requires { self.old.begun ≡ None }
         ensures flights { flights_of self.new ≡ record { due = without_first (is_of_source source) (flights_of self.old).due; begun = due_to (flights_of self.old) source } }
+        ensures begun { result ≡ is_some (due_to (flights_of self.old) source) }
+        ensures none { result ≡ false → self.new ≡ self.old }
         ensures room { self.new.room ≡ self.old.room }
     {
         let Some(place) = place_of(&self.due, source) else {
-            return;
+            return false;
         };
         let mut due = self.due.remove(place);
         let reply = self.replies.beats(due.source);
         self.begun.begin(due.source, reply, &mut due.footprint);
         self.has_begun = true;
         self.spare.push_reserved(due);
+        true
+    }
+
+    /// The reply that has its next beat in one of a source begins, if it hadn't. The answer is whether there is one.
+    #[inline(always)]
+    pub(crate) fn begin(&mut self, source: u8) -> bool
+        ensures flights { flights_of self.new ≡ begun_for (flights_of self.old) source }
+        ensures begun { result ≡ is_some (next_reply (flights_of self.old) source) }
+        ensures none { result ≡ false → self.new ≡ self.old }
+        ensures room { self.new.room ≡ self.old.room }
+    {
+        if self.has_begun() {
+            return true;
+        }
+        self.begin_due(source)
     }
 
     /// A beat of a source has come of the reply that has begun.
-    fn count(&mut self, source: u8)
+    pub(crate) fn count(&mut self, source: u8)
         ensures flights { flights_of self.new ≡ record (flights_of self.old) { begun = begun_after (flights_of self.old).begun source } }
         ensures room { self.new.room ≡ self.old.room }
     {
@@ -311,6 +321,7 @@ impl Flights {
     }
 
     /// What is wrong with a beat by the reply that has begun.
+    #[inline(always)]
     pub(crate) fn wrong_begun(
         &self,
         policy: Policy,
@@ -331,30 +342,6 @@ impl Flights {
         ensures room { self.new.room ≡ self.old.room }
     {
         self.has_begun = false;
-    }
-
-    /// Judges a beat on channel D, by whether the reply that has begun was denied. It then has come of the reply whose next it may
-    /// be, if it is of its source.
-    #[inline(always)]
-    pub(crate) fn judge(
-        &mut self,
-        policy: Policy,
-        told: Option<bool>,
-        beat: &DBeat,
-    ) -> Option<Wrong>
-        ensures wrong { result ≡ wrong_reply policy told (next_reply (flights_of self.old) beat.now.source) beat.now }
-        ensures flights { flights_of self.new ≡ flights_after (flights_of self.old) beat.now.source }
-        ensures room { self.new.room ≡ self.old.room }
-    {
-        if !self.has_begun() {
-            self.begin(beat.source);
-        }
-        let Some(flight) = self.begun() else {
-            return Some(Wrong::Reply(ReplyRule::Unasked, None));
-        };
-        let wrong = flight.wrong_reply(policy, told, beat);
-        self.count(beat.source);
-        wrong
     }
 
     /// What any of them may write isn't determined of another request.
@@ -425,20 +412,17 @@ impl Flights {
         }
     }
 
-    /// How much a beat of a source tells.
+    /// How much a beat of a source tells, where a reply has its next beat there.
     #[inline(always)]
-    pub(crate) fn telling(&self, policy: Policy, source: u8) -> Telling
-        ensures { result ≡ flight_telling policy (next_reply (flights_of self.now) source) }
+    pub(crate) fn telling(&self, policy: Policy, source: u8) -> Option<Telling>
+        ensures { result ≡ option_map (λ flight. left_telling policy flight.footprint flight.beats) (next_reply (flights_of self.now) source) }
     {
         if let Some(flight) = self.begun() {
-            return flight.telling(policy);
+            return Some(flight.telling(policy));
         }
-        match place_of(&self.due, source) {
-            None => Telling::nothing(),
-            Some(place) => {
-                let due = &self.due[place];
-                left_telling(policy, &due.footprint, self.replies.beats(due.source))
-            }
-        }
+        let place = place_of(&self.due, source)?;
+        let due = &self.due[place];
+        let beats = self.replies.beats(due.source);
+        Some(left_telling(policy, &due.footprint, beats))
     }
 }

@@ -22,7 +22,7 @@ pub some_lane : (mask : ℕ) → mask < 256 → mask ≢ 0 → list_any (has_lan
 some_lane mask fits some = grind (arith, fits, some)
 
 -- tests that say the same of numbers from one on say the same of a range
-any_same : (f g : ℕ → Bool) (from n : ℕ) → ((k : ℕ) → k < n → f (from + k) ≡ g (from + k)) → list_any f (range_with_len from n) ≡ list_any g (range_with_len from n)
+pub any_same : (f g : ℕ → Bool) (from n : ℕ) → ((k : ℕ) → k < n → f (from + k) ≡ g (from + k)) → list_any f (range_with_len from n) ≡ list_any g (range_with_len from n)
 any_same f g from zero same = refl
 any_same f g from (suc n) same =
     ap₂ (λ (a b : Bool). a || b) (first (same zero (omega arith))) (any_same f g (from + 1) n (λ k below. next k (same (suc k) (omega (arith, below)))))

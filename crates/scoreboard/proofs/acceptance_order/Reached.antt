@@ -18,11 +18,12 @@ use Rattle.scoreboard.specs.declared.Policy.TheVariants.{AcceptanceOrder}
 use Rattle.scoreboard.specs.declared.ObservedBeat.{ObservedBeat}
 use Rattle.serial_memory.specs.SerialMemory.{Memory}
 use Rattle.scoreboard.specs.declared.ObservedBeat.TheVariants.{A, D, Axi as OnAxi, Drained}
+use Rattle.scoreboard.proofs.MappedLists.{all_parts}
 use Rattle.scoreboard.proofs.acceptance_order.BoardOf.{IsBoardOf, board_opens, right_opens}
 use Rattle.scoreboard.proofs.acceptance_order.KnownBytes.{all_well, known_after_all}
 use Rattle.scoreboard.proofs.acceptance_order.ReplySteps.{axi_right, next_contiguous, reply_right, step_axi, step_drained, step_reply}
 use Rattle.scoreboard.proofs.acceptance_order.RequestSteps.{request_right, step_request}
-use Rattle.scoreboard.proofs.acceptance_order.SeenLists.{all_parts, cut_of, observed-append}
+use Rattle.scoreboard.proofs.acceptance_order.SeenLists.{cut_of, observed-append}
 
 -- ---- one beat
 

@@ -28,12 +28,13 @@ use Rattle.scoreboard.specs.Observed.{Observed, is_complete, requests_in, with_b
 use Rattle.scoreboard.specs.Right.{IsFree, IsRightNow, IsTold, is_of, left_of, replies_to}
 use Rattle.scoreboard.specs.declared.Policy.TheVariants.{AcceptanceOrder}
 use Rattle.serial_memory.specs.SerialMemory.{Memory, meaning_in, place_in}
+use Rattle.scoreboard.proofs.MappedLists.{all_parts}
 use Rattle.scoreboard.proofs.acceptance_order.BoardOf.{IsBoardOf, IsClientOf, IsWith, dues_given, given_after, memory_left, memory_with, replies_to-other, replies_to-own, shown_some, shown_source, unknown_left, unknown_with}
 use Rattle.scoreboard.proofs.acceptance_order.DueLists.{IsDue}
 use Rattle.scoreboard.proofs.acceptance_order.Lasts.{IsWhere, last_request, last_with}
 use Rattle.scoreboard.proofs.acceptance_order.Owed.{eqb_same, flying_more, flying_of, flying_other, flying_own, free-left, left-free, none_flying, owed_other, owed_own, same_or_not}
 use Rattle.scoreboard.proofs.acceptance_order.RequestBeats.{EndsHere, GoesOn, IsFreeFor, ends_here, goes_on, may_end, may_go_on}
-use Rattle.scoreboard.proofs.acceptance_order.SeenLists.{all_parts, requests_of-append, zip-append}
+use Rattle.scoreboard.proofs.acceptance_order.SeenLists.{requests_of-append, zip-append}
 use Rattle.scoreboard.proofs.acceptance_order.Fixed.{dues_unless_fixed}
 use Rattle.scoreboard.proofs.acceptance_order.Told.{left-nothing, told-reply}
 

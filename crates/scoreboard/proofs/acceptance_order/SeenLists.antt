@@ -1,6 +1,5 @@
 -- Lists with one element more at their end: what was observed, the messages, requests and replies in it, and the beats of the AXI4 port.
 use Rattle.std.proofs.Common.{◌≡◌, ℕ, suc, Bool, List, [], ◌∷◌, ◌++◌, length, zip, Some, None, if◌then◌else◌, ◌⊎◌, inl, inr, refl, sym, ◌∙◌, ap, arith}
-use Rattle.std.specs.List.{AllByRecursion}
 use Rattle.std.proofs.lemmas.Grind.{flat_map-append}
 use Rattle.std.proofs.lemmas.List.{append-nil}
 use Rattle.tl_messages.specs.Requests.{WholeRequest}
@@ -29,10 +28,6 @@ cut_of xs [] after x is = inr (xs, refl, sym is)
 cut_of [] (b ∷ []) after x is = inl (cc, cc)
 cut_of [] (b ∷ c ∷ before) after x is = absurd (cc)
 cut_of (y ∷ ys) (b ∷ before) after x is = grind (arith, is, cut_of ys before after x (cc))
-
-pub all_parts : {X : Type 0} (P : X → Type 0) (xs ys : List X) → AllByRecursion P (xs ++ ys) → AllByRecursion P xs × AllByRecursion P ys
-all_parts P [] ys all = (tt, all)
-all_parts P (x ∷ xs) ys all = let parts = all_parts P xs ys all.1 in ((all.0, parts.0), parts.1)
 
 pub zip-append : {X Y : Type 0} (xs : List X) (ys : List Y) (x : X) (y : Y) → length ys ≡ length xs → zip (xs ++ x ∷ []) (ys ++ y ∷ []) ≡ zip xs ys ++ (x, y) ∷ []
 zip-append [] [] x y same = refl

@@ -14,6 +14,7 @@ use Rattle.scoreboard.specs.FailedBursts.{Span, hit, shares}
 use Rattle.scoreboard.specs.Flights.{Footprint, InFlight, begun_after, flights_after, in_flight, is_of_source, is_over, with_left}
 use Rattle.scoreboard.specs.InsideBoards.{HaveRoomToWrite, ClientState, HasRoomToWrite, client_changed, client_of, flight_changed}
 use Rattle.scoreboard.specs.Races.{beside, joining, unless_failed}
+use Rattle.scoreboard.proofs.MappedLists.{all_parts}
 
 -- one client more
 pub footprints_more : (clients : List ClientState) (i : ℕ) (client : ClientState) → i < length clients → client ≡ get_or clients i client
@@ -28,10 +29,6 @@ footprints_more clients i client below is =
 pub all_join : {X : Type 0} (P : X → Type 0) (xs ys : List X) → AllByRecursion P xs → AllByRecursion P ys → AllByRecursion P (xs ++ ys)
 all_join P [] ys first rest = rest
 all_join P (x ∷ xs) ys first rest = (first.0, all_join P xs ys first.1 rest)
-
-pub all_parts : {X : Type 0} (P : X → Type 0) (xs ys : List X) → AllByRecursion P (xs ++ ys) → AllByRecursion P xs × AllByRecursion P ys
-all_parts P [] ys all = (tt, all)
-all_parts P (x ∷ xs) ys all = let rest = all_parts P xs ys all.1 in ((all.0, rest.0), rest.1)
 
 mapped_all : {X Y : Type 0} (P : Y → Type 0) (f : X → Y) (xs : List X) → AllByRecursion (λ x. P (f x)) xs → AllByRecursion P (map f xs)
 mapped_all P f [] all = tt

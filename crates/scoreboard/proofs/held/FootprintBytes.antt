@@ -12,7 +12,7 @@ use Rattle.std.proofs.lemmas.Nat.Bits.{bit_at-lt, bit_at_not}
 use Rattle.tl_messages.specs.Lanes.{in_lanes}
 use Rattle.data_unit.proofs.AlignedLanes.{in_lanes-aligned, in_lanes_every}
 use Rattle.bus_words.specs.Lanes.{has_lane, word_address}
-use Rattle.bus_words.proofs.MaskLaws.{has_lane-mask_of, mask_of-has_lane, mask_of-same}
+use Rattle.bus_words.proofs.MaskLaws.{has_lane-mask_of, same_lanes}
 use Rattle.bus_words.proofs.Ranges.{all_pass, passes_at}
 use Rattle.meaning.proofs.SerialReplies.{in_page}
 use Rattle.serial_memory.specs.SerialMemory.{IsMemoryRange}
@@ -242,9 +242,6 @@ determined_anew old now told range rest each =
 
 -- ---- whether all of them are
 
-same_masks : (a b : ℕ) → a < 256 → b < 256 → ((lane : ℕ) → lane < 8 → has_lane a lane ≡ has_lane b lane) → a ≡ b
-same_masks a b first second each = sym (mask_of-has_lane a first) ∙ mask_of-same (has_lane a) (has_lane b) each ∙ mask_of-has_lane b second
-
 module _ (r : FootprintState) where
   abbrev every : Bool
   every = list_all (λ i. determined_in r (r.address + i)) (range_with_len 0 (2 ^ r.size))
@@ -265,7 +262,7 @@ module _ (r : FootprintState) where
     where
       by_test : (b : Bool) → every ≡ b → false ≡ (not r.reads || b)
       by_test false is = rw reads refl
-      by_test true is = absurd (differ (same_masks determined own first second (λ lane less. told lane less ∙ fixed_byte (word + lane) is ∙ sym (lanes lane less))))
+      by_test true is = absurd (differ (same_lanes determined own first second (λ lane less. told lane less ∙ fixed_byte (word + lane) is ∙ sym (lanes lane less))))
 
   pub all_fixed : IsMemoryRange r.address r.size
       → ((k lane : ℕ) → k < words_of r.size → lane < 8 → covers (footprint_of r) (word_address r.address + 8 * k + lane) ≡ true → determined_in r (word_address r.address + 8 * k + lane) ≡ true)

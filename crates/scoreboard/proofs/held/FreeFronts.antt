@@ -16,7 +16,7 @@ use Rattle.tl_checker.specs.declared.Progress.TheVariants.{More, Whole}
 use Rattle.tl_checker.specs.declared.TlRule.{TlRule}
 use Rattle.tl_checker.proofs.BeatRules.{first_none, later_none, later_parts, right_named}
 use Rattle.tl_checker.proofs.Taking.{answered_parts}
-use Rattle.scoreboard.specs.Flights.{Flights, Footprint, each_flight, flights_after, is_busy, is_of_source}
+use Rattle.scoreboard.specs.Flights.{Flights, Footprint, InFlight, begun_for, each_flight, is_busy, is_of_source}
 use Rattle.scoreboard.specs.InsideBoards.{IsAskedBy, IsFirstBeat, IsFrontFree, flight_changed, front_corrupt}
 use Rattle.scoreboard.specs.declared.Policy.{Policy}
 use Rattle.scoreboard.proofs.MappedLists.{any_map}
@@ -86,10 +86,14 @@ whole_joined port taken beat answer request becomes stands whole = grind (arith,
 
 -- ---- what is due gets less, or as it was
 
-pub front_after_reply : (front : Option HeldMessage) (flights : Flights) (source : ℕ) → IsFrontFree front flights → IsFrontFree front (flights_after flights source)
-front_after_reply None flights source free = tt
-front_after_reply (Some held) flights source free =
-    grind (arith, free, none_without_first (is_of_source held.source) (is_of_source source) flights.due free)
+pub front_begun : (front : Option HeldMessage) (flights : Flights) (source : ℕ) → IsFrontFree front flights → IsFrontFree front (begun_for flights source)
+front_begun None flights source free = tt
+front_begun (Some held) flights source free = grind (arith, free, none_without_first (is_of_source held.source) (is_of_source source) flights.due free)
+
+-- whatever has begun
+pub front_counted : (front : Option HeldMessage) (flights : Flights) (begun : Option InFlight) → IsFrontFree front flights → IsFrontFree front (record flights { begun = begun })
+front_counted None flights begun free = tt
+front_counted (Some held) flights begun free = free
 
 pub front_changed : (front : Option HeldMessage) (flights : Flights) (change : Footprint → Footprint) → IsFrontFree front flights
     → IsFrontFree front (each_flight (flight_changed change) flights)

@@ -1,5 +1,5 @@
 -- The sources of the requests to which a reply is due: no two are the same, so that they are as many as there are sources, or fewer.
-use Rattle.std.proofs.Common.{◌≡◌, ◌≢◌, ◌<◌, ◌≤◌, ◌==◌, ℕ, Bool, false, List, [], ◌∷◌, ◌++◌, map, length, drop, get_or, refl, take, sym, arith, ◌∙◌, ap}
+use Rattle.std.proofs.Common.{◌≡◌, ◌≢◌, ◌<◌, ◌≤◌, ◌==◌, ℕ, Bool, false, true, List, [], ◌∷◌, ◌++◌, map, length, drop, get_or, refl, take, sym, arith, ◌∙◌, ap}
 use Rattle.std.specs.Prelude.{Option, Some, None, is_some}
 use Rattle.std.specs.List.{AllByRecursion, find, list_any, position, remove}
 use Rattle.std.specs.Option.{option_map, option_or}
@@ -14,7 +14,7 @@ use Rattle.bus_words.proofs.FirstPlaces.{find-first, find-none, position_is_firs
 use Rattle.bus_words.proofs.MappedPlaces.{map-remove, position_map}
 use Rattle.bus_words.proofs.PlaceChanges.{all-append, all-remove}
 use Rattle.tl_messages.specs.declared.DBeat.{DBeat}
-use Rattle.scoreboard.specs.Flights.{Flights, Footprint, InFlight, flights_after, is_of_source}
+use Rattle.scoreboard.specs.Flights.{Flights, Footprint, InFlight, begun_for, flights_after, is_of_source}
 use Rattle.scoreboard.specs.InsideBoards.{FlightState, FlightsState, flight_changed, flight_of}
 use Rattle.scoreboard.specs.Replies.{AreDue, DuesHaveRoom, due_flight, due_flights}
 use Rattle.scoreboard.specs.declared.flights.Due.{Due}
@@ -129,15 +129,17 @@ module _ (source : ℕ) (replies : ℕ → List DBeat) (dues : List Due) where
 
 -- ---- the one whose reply has its next beat in one of a source
 
-any_found : {X : Type 0} (p : X → Bool) (xs : List X) → list_any p xs ≡ is_some (find p xs)
-any_found p [] = refl
-any_found p (x ∷ xs) = grind (arith, any_found p xs)
+-- where none had begun it is the one that is due
+pub begun_due : (due : List InFlight) (begun : Option FlightState) (source : ℕ) → is_some begun ≡ false
+    → flights_with (without_first (is_of_source source) due) (find (is_of_source source) due) ≡ begun_for (flights_with due (option_map flight_of begun)) source
+begun_due due None source none = refl
+begun_due due (Some flight) source none = absurd (cc (none))
 
--- where no reply has begun there is one if one is due
-pub next_due : (due : List InFlight) (begun : Option FlightState) (source : ℕ) → is_some begun ≡ false
-    → list_any (is_of_source source) due ≡ is_some (option_or (option_map flight_of begun) (find (is_of_source source) due))
-next_due due None source none = any_found (is_of_source source) due
-next_due due (Some flight) source none = absurd (cc (none))
+-- and one that had begun stays
+pub begun_still : (due : List InFlight) (begun : Option FlightState) (source : ℕ) → is_some begun ≡ true
+    → flights_with due (option_map flight_of begun) ≡ begun_for (flights_with due (option_map flight_of begun)) source
+begun_still due None source some = absurd (cc (some))
+begun_still due (Some flight) source some = refl
 
 not_found_out : {X : Type 0} (p : X → Bool) (xs : List X) → find p xs ≡ None → without_first p xs ≡ xs
 not_found_out p [] none = refl

@@ -76,10 +76,6 @@ module _ (faults : Faults) (regions : List Region) where
 
 -- ---- of all entries
 
-pub all_parts : (P : Entry → Type 0) (before after : Order) → AllByRecursion P (before ++ after) → AllByRecursion P before × AllByRecursion P after
-all_parts P [] after all = (tt, all)
-all_parts P (entry ∷ before) after all = let rest = all_parts P before after all.1 in ((all.0, rest.0), rest.1)
-
 -- one more in an order
 pub all_with : (P : Entry → Type 0) (before after : Order) (entry : Entry) → AllByRecursion P (before ++ after) → P entry
     → AllByRecursion P (before ++ entry ∷ after)

@@ -45,7 +45,8 @@ pub record IsRecorded (errors : Errors) (entry : Entry) : Type 0 where
 not_ended : (errors : Errors) (entry : Entry) → IsRecorded errors entry → entry.whole ≡ false → has_ended entry ≡ true → ⊥
 not_ended errors entry is unwhole ended = grind (arith, is, unwhole, ended)
 
-spoils_any : (errors : Errors) (q : WholeRequest) → is_spoiled errors q ≡ true → errors ≡ Any
+-- errors are told in any way where one is
+pub spoils_any : (errors : Errors) (q : WholeRequest) → is_spoiled errors q ≡ true → errors ≡ Any
 spoils_any errors q is = grind (arith, is)
 
 -- a change of an entry

@@ -24,6 +24,7 @@ use Rattle.scoreboard.proofs.real_time.Comings.{comes_other, comes_same, early_a
 use Rattle.scoreboard.proofs.real_time.Entries.{place_of}
 use Rattle.scoreboard.proofs.real_time.Explained.{Explains, sources_with}
 use Rattle.scoreboard.proofs.real_time.Failures.{failed_any}
+use Rattle.scoreboard.proofs.real_time.Fates.{spoils_any}
 use Rattle.scoreboard.proofs.real_time.FlightPlaces.{coming_other, coming_same}
 use Rattle.scoreboard.proofs.real_time.Follows.{ActsAs, Follows, IsFailing, IsFated, IsMarked, IsOpen, ahead_as, all_mapped, follows_as, replied_by, settle, settled}
 use Rattle.scoreboard.proofs.real_time.Places.{HaveSources, Place, coming_at, coming_in, due_at, flight_at, flight_in, flights_kept}
@@ -64,10 +65,6 @@ heard_not errors client q entry is = rw is refl
 
 pub settle_heard : (errors : Errors) (client : ℕ) (q : WholeRequest) (order : Order) → settle (map (heard errors client q) order) ≡ settle order
 settle_heard errors client q order = grind (arith, map-map settled (heard errors client q) order)
-
--- errors are told in any way where one is
-pub spoiled_any : (errors : Errors) (q : WholeRequest) → is_spoiled errors q ≡ true → errors ≡ Any
-spoiled_any errors q is = grind (arith, is)
 
 module _ {start : Bytes} (board : Board) (shadow : Shadow) (order : Order) (follows : Follows start board shadow order) (number : ℕ) (client : ClientBoard)
     (there : slice_get board.clients number ≡ Some client) where
@@ -215,7 +212,7 @@ module _ {start : Bytes} (board : Board) (shadow : Shadow) (order : Order) (foll
           ]
 
       any : board.errors ≡ Any
-      any = spoiled_any board.errors q is
+      any = spoils_any board.errors q is
 
       coming_kept : (c : ℕ) (entry : Entry) (b : Bool) → is_coming number entry ≡ b → is_coming c (heard board.errors number q entry) ≡ is_coming c entry
       coming_kept c entry true own = ap (is_coming c) (heard_is board.errors number q entry own)

@@ -13,10 +13,11 @@ use Rattle.meaning.specs.Meaning.{Bytes, meaning}
 use Rattle.scoreboard.specs.Orders.{Entry, Order, has_ended}
 use Rattle.scoreboard.specs.Flights.{Footprint, InFlight}
 use Rattle.scoreboard.specs.Races.{after_given, after_joining, covers, depends_on, flight_beside, is_fixed, may_write}
-use Rattle.scoreboard.proofs.real_time.Entries.{AreDistinct, Differ, Each, IsElsewhere, Stands, all_parts, carry, distinct_after, each_joined, each_parts, none_ended, place_of, run, run-append}
+use Rattle.scoreboard.proofs.real_time.Entries.{AreDistinct, Differ, Each, IsElsewhere, Stands, carry, distinct_after, each_joined, each_parts, none_ended, place_of, run, run-append}
 use Rattle.scoreboard.proofs.real_time.Places.{Place, footprint_in}
 use Rattle.scoreboard.proofs.real_time.RequestActs.{Acts, AreBytes, IsWell, acts, gives, own}
 use Rattle.scoreboard.specs.Resets.{AreUnended, left_in}
+use Rattle.scoreboard.proofs.MappedLists.{all_parts}
 use Rattle.scoreboard.proofs.real_time.Spared.{AreSpared, Leave, all_left, all_old, all_own, leaves_unwritten, left_append}
 use Rattle.scoreboard.proofs.real_time.Apart.{AreAll, AreApart, AreEither, AreJoined, IsJoining, fixed_determined, joined_apart, joined_either}
 

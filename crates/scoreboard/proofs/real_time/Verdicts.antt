@@ -1,6 +1,5 @@
 -- A beat that is blamed by a rule breaks the same rule against a beat that is alike.
-use Rattle.std.proofs.Common.{◌≡◌, ℕ, zero, suc, ◌+◌, ◌-◌, ◌<◌, ◌==◌, Bool, true, false, not, List, [], ◌∷◌, ◌++◌, length, map, take, Option, Some, None, refl, sym, ◌∙◌, ap, subst, arith}
-use Rattle.std.specs.List.{list_any, range_with_len}
+use Rattle.std.proofs.Common.{◌≡◌, ℕ, ◌+◌, ◌-◌, ◌==◌, Bool, true, false, not, List, [], ◌∷◌, ◌++◌, length, map, take, Option, Some, None, refl, sym, ◌∙◌, ap, subst, arith}
 use Rattle.tl_messages.specs.Operations.{beats_of}
 use Rattle.std.proofs.lemmas.Bool.Decides.{nat_tests}
 use Rattle.bus_words.specs.Tables.{first_broken}
@@ -12,6 +11,7 @@ use Rattle.scoreboard.specs.declared.Wrong.{Wrong}
 use Rattle.scoreboard.specs.declared.Wrong.TheVariants as wrong
 use Rattle.scoreboard.specs.Boards.{differs_in, due_beat, failed_beat, reply_rules, tells_otherwise, unless_indeterminate, wrong_beat, wrong_by, wrong_told}
 use Rattle.scoreboard.specs.Flights.{Footprint}
+use Rattle.scoreboard.proofs.acceptance_order.KnownLanes.{any_same}
 use Rattle.scoreboard.proofs.real_time.AlikeBeats.{Alike, LeftAlike, Same, Words}
 use Rattle.scoreboard.proofs.real_time.Failures.{shape_of}
 
@@ -56,14 +56,6 @@ same_rule footprint k due other beat broken told alike is =
     (kept_rule (take 5 (reply_rules due beat)) rule.Payload broken (not (beat.payload == due.payload)) (not (beat.payload == other.payload)) blamed.0 differs)
 
 -- ---- the same rule, blamed of the other beat too
-
--- a test of each number of a range
-any_same : (one other : ℕ → Bool) (from n : ℕ) → ((k : ℕ) → k < n → one (from + k) ≡ other (from + k)) → list_any one (range_with_len from n) ≡ list_any other (range_with_len from n)
-any_same one other from zero same = refl
-any_same one other from (suc n) same =
-    let here : one from ≡ other from = ap one (omega arith) ∙ same 0 (omega arith) ∙ ap other (omega arith) in
-    let rest = any_same one other (from + 1) n (λ k below. ap one (omega arith) ∙ same (k + 1) (omega (arith, below)) ∙ ap other (omega arith)) in
-    cc (here, rest)
 
 otherwise_same : (footprint : Footprint) (k : ℕ) (due other beat : DBeat) → Alike footprint k due other
     → tells_otherwise footprint k other beat ≡ tells_otherwise footprint k due beat

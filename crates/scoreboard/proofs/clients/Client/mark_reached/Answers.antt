@@ -5,7 +5,7 @@ use Rattle.scoreboard.specs.Boards.{client_footprints}
 use Rattle.scoreboard.specs.FailedBursts.{after_reached}
 use Rattle.scoreboard.specs.Flights.{Footprint, InFlight, in_flight}
 use Rattle.scoreboard.specs.InsideBoards.{HaveRoomToWrite, ClientState, FlightsState, FootprintState, HasRoomToWrite, client_of, flights_of, footprint_of}
-use Rattle.scoreboard.proofs.held.ClientFootprints.{all_parts}
+use Rattle.scoreboard.proofs.MappedLists.{all_parts}
 use Rattle.scoreboard.proofs.held.FailedResponses.{after_reached-last}
 use Rattle.scoreboard.proofs.clients.Client.mark_reached.Goals as goal
 

@@ -5,7 +5,7 @@ use Rattle.serial_memory.specs.SerialMemory.{doubts_of, rooms_of}
 use Rattle.scoreboard.specs.InsideBoards.{FlightsState, FootprintState, HasRoomToWrite, HaveRoomToWrite, footprint_of}
 use Rattle.scoreboard.specs.Races.{beside_dependent, covers, depends_on}
 use Rattle.scoreboard.specs.Replies.{due_footprint, reply_of}
-use Rattle.scoreboard.proofs.held.ClientFootprints.{all_parts}
+use Rattle.scoreboard.proofs.MappedLists.{all_parts}
 use Rattle.scoreboard.proofs.held.Others.{beside_dependent-last, footprints_due, footprints_held, footprints_in}
 use Rattle.scoreboard.proofs.flights.Flights.mark.Goals as goal
 

@@ -6,7 +6,7 @@ use Rattle.scoreboard.specs.FailedBursts.{after_reached, reaches}
 use Rattle.scoreboard.specs.InsideBoards.{FlightsState, FootprintState, HasRoomToWrite, HaveRoomToWrite, footprint_of}
 use Rattle.scoreboard.specs.Races.{may_write}
 use Rattle.scoreboard.specs.Replies.{due_footprint, reply_of}
-use Rattle.scoreboard.proofs.held.ClientFootprints.{all_parts}
+use Rattle.scoreboard.proofs.MappedLists.{all_parts}
 use Rattle.scoreboard.proofs.held.FailedResponses.{after_reached-last}
 use Rattle.scoreboard.proofs.held.Others.{footprints_due, footprints_held, footprints_in}
 use Rattle.scoreboard.proofs.flights.Flights.mark_reached.Goals as goal
