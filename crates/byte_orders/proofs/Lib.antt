@@ -1,1 +1,3 @@
+pub mod LastGivers
 pub mod Members
+pub mod ToldRightly

@@ -1,7 +1,7 @@
 -- What is one of a list: where a test finds one, and where it is one of a list that is made of another.
 use Rattle.std.proofs.Common.{◌≡◌, ℕ, Bool, true, false, ◌||◌, List, [], ◌∷◌, ◌++◌, map, ◌⊎◌, inl, inr, ⊎_elim, refl, sym, ◌∙◌, ap, subst, cond, true≢false, arith}
-use Rattle.std.specs.Prelude.{filter}
-use Rattle.std.specs.List.{AllByRecursion, list_any}
+use Rattle.std.specs.Prelude.{Option, None, Some, filter, filter_map}
+use Rattle.std.specs.List.{AllByRecursion, cons_option, list_any}
 use Rattle.std.proofs.lemmas.Bool.{cases_Bool, or_cases, or_left, or_right}
 use Rattle.byte_orders.specs.Accesses.{IsOneOf}
 
@@ -77,3 +77,27 @@ from_filter {X = X} p x (y ∷ ys) at = by_test (p y) refl at (λ now. from_filt
         → PassesThere p x (y ∷ ys)
     by_test true holds now deeper = ⊎_elim (λ same. record { there = inl same; passes = ap p same ∙ holds }) (λ later. later_on (deeper later)) now
     by_test false fails now deeper = later_on (deeper now)
+
+pub in_filter_map : {X Y : Type 0} (f : X → Option Y) (x : X) (y : Y) (xs : List X) → IsOneOf x xs → f x ≡ Some y → IsOneOf y (filter_map f xs)
+in_filter_map f x y [] at gives = absurd at
+in_filter_map {X = X} {Y = Y} f x y (z ∷ zs) at gives = ⊎_elim here (λ later. by_option (f z) (in_filter_map f x y zs later gives)) at
+  where
+    here : x ≡ z → IsOneOf y (cons_option (f z) (filter_map f zs))
+    here same =
+        let some : f z ≡ Some y = ap f (sym same) ∙ gives in
+        rw some (inl refl)
+    by_option : (o : Option Y) → IsOneOf y (filter_map f zs) → IsOneOf y (cons_option o (filter_map f zs))
+    by_option None later = later
+    by_option (Some other) later = inr later
+
+pub from_filter_map : {X Y : Type 0} (f : X → Option Y) (y : Y) (xs : List X) → IsOneOf y (filter_map f xs) → HasOne (λ x. f x ≡ Some y) xs
+from_filter_map f y [] at = absurd at
+from_filter_map {X = X} {Y = Y} f y (x ∷ xs) at = by_option (f x) refl at (λ now. from_filter_map f y xs now)
+  where
+    later_on : HasOne (λ (z : X). f z ≡ Some y) xs → HasOne (λ z. f z ≡ Some y) (x ∷ xs)
+    later_on found = record { one = found.one; there = inr found.there; holds = found.holds }
+    by_option : (o : Option Y) → f x ≡ o → IsOneOf y (cons_option o (filter_map f xs)) → (IsOneOf y (filter_map f xs) → HasOne (λ z. f z ≡ Some y) xs)
+        → HasOne (λ z. f z ≡ Some y) (x ∷ xs)
+    by_option None none now deeper = later_on (deeper now)
+    by_option (Some other) some now deeper =
+        ⊎_elim (λ same. record { one = x; there = inl refl; holds = some ∙ ap (λ z. Some z) (sym same) }) (λ later. later_on (deeper later)) now

@@ -1,7 +1,7 @@
 -- What requests do to one byte of a memory, and which orders of that explain what was told of it. No bus and no board plays a part, and no rule by which
 -- a byte is judged. Time is how many requests have begun, whatever they do: each begins at a number of its own, from 1, itself counted, and ends when so
 -- many have begun. So one that ended at a time had ended before each that began at a later one.
-use Rattle.std.specs.Prelude.{ℕ, ◌≡◌, ◌<◌, ◌≤◌, ◌==◌, ◌⊎◌, ⊤, Bool, true, false, ◌&&◌, ◌||◌, List, [], ◌∷◌, Option, Some, None, if◌then◌else◌, is_some, nat_lt, unwrap_or}
+use Rattle.std.specs.Prelude.{ℕ, ◌≡◌, ◌<◌, ◌≤◌, ◌==◌, ◌⊎◌, ⊤, Bool, true, false, ◌&&◌, ◌||◌, List, [], ◌∷◌, map, Option, Some, None, if◌then◌else◌, is_some, nat_lt, unwrap_or}
 use Rattle.std.specs.List.{AllByRecursion}
 
 -- what a request does to the byte: when it began; when it ended, if it has; what byte it was told, if it reads, and that was looked at and not found wrong;
@@ -92,8 +92,7 @@ abbrev pub told_so : ℕ → ℕ → Access → Access
 told_so number byte a = if a.begun == number then record a { told = Some byte } else a
 
 abbrev pub with_told : ℕ → ℕ → List Access → List Access
-with_told number byte [] = []
-with_told number byte (a ∷ accesses) = told_so number byte a ∷ with_told number byte accesses
+with_told number byte accesses = map (told_so number byte) accesses
 
 -- some access began at a number
 abbrev pub HasBegun : ℕ → List Access → Type 0

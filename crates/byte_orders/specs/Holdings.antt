@@ -2,7 +2,7 @@
 -- what a holding says that isn't hidden from it: no other writer came wholly between. Nothing else of the requests plays a part.
 use Rattle.std.specs.Prelude.{ℕ, ◌≡◌, ◌==◌, Bool, true, false, ◌&&◌, ◌||◌, not, List, [], ◌∷◌, ◌++◌, map, filter, filter_map, Option, Some, None, if◌then◌else◌, is_none, is_some, nat_lt, option_map}
 use Rattle.std.specs.List.{list_any}
-use Rattle.byte_orders.specs.Accesses.{Access, is_before, may_show}
+use Rattle.byte_orders.specs.Accesses.{Access, IsExplained, is_before, may_show, with_told}
 
 -- what a writer gives to the byte, none where nobody knows what; when it began; when it ended, if it has; and whether it takes effect. Or what `many` writers
 -- give, whichever: nobody knows what, all of them began no later, and once it is over all have ended
@@ -125,3 +125,9 @@ closed oldest now h = if h.many && is_none h.over && nat_lt h.begun oldest then 
 
 abbrev pub with_closed : ℕ → ℕ → List Holding → List Holding
 with_closed oldest now hs = map (closed oldest now) hs
+
+-- ---- what is said of a verdict
+
+-- that a byte isn't one that a reader may be told is right: no order of the accesses, in which each is told what it was told, has it be told this too
+abbrev pub NoOrderExplains : Option ℕ → List Access → ℕ → ℕ → Type 0
+NoOrderExplains start accesses number byte = IsExplained start (with_told number byte accesses) → ⊥
