@@ -1,11 +1,10 @@
 -- The last one ahead of a reader that gives something: what the reader finds is what it gives, and in an order that keeps real time nothing hides it.
-use Rattle.std.proofs.Common.{◌≡◌, ℕ, ◌<◌, ◌≤◌, ◌==◌, Bool, true, false, ◌&&◌, List, [], ◌∷◌, map, Option, Some, None, if◌then◌else◌, ◌⊎◌, inl, inr, ⊎_elim, refl, sym, ◌∙◌, ap, subst, cond, true≢false, arith}
-use Rattle.std.specs.Prelude.{option_map, unwrap_or, filter_map}
-use Rattle.std.specs.List.{AllByRecursion, list_any, cons_option}
-use Rattle.std.proofs.lemmas.Bool.{cases_Bool, both_ways, false_from_ne_true, eqb-true, eqb-false, eq-eqb}
+use Rattle.std.proofs.Common.{◌≡◌, ℕ, ◌≤◌, ◌==◌, Bool, true, false, [], ◌∷◌, Option, Some, None, if◌then◌else◌, inl, inr, ⊎_elim, refl, sym, ◌∙◌, ap, arith}
+use Rattle.std.specs.Prelude.{option_map, unwrap_or}
+use Rattle.std.proofs.lemmas.Bool.{both_ways, eqb-true, eqb-false}
 use Rattle.byte_orders.specs.Accesses.{Access, AreDistinct, IsOneOf, KeepsRealTime, Order, ended_before, is_before, value_at, with_given}
 use Rattle.byte_orders.specs.Holdings.{Holding, comes_before, holding_of}
-use Rattle.byte_orders.proofs.Members.{HasOne, all_of}
+use Rattle.byte_orders.proofs.Members.{all_of}
 
 -- what the holding of an access says of it
 pub record IsHoldingOf (a : Access) (g : Holding) : Type 0 where

@@ -1,3 +1,4 @@
+pub mod KeptShort
 pub mod LastGivers
 pub mod Members
 pub mod ShortLists

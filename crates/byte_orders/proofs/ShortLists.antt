@@ -1,11 +1,9 @@
 -- What the whole list lets a reader be told a short one does, and what is hidden stays hidden as numbers grow.
-use Rattle.std.proofs.Common.{◌≡◌, ℕ, ◌<◌, ◌≤◌, ◌==◌, Bool, true, false, ◌&&◌, ◌||◌, not, List, Option, Some, None, ◌⊎◌, inl, inr, ⊎_elim, refl, sym, ◌∙◌, ap, subst, true≢false, arith}
-use Rattle.std.specs.Prelude.{nat_lt}
-use Rattle.std.specs.List.{list_any}
-use Rattle.std.proofs.lemmas.Bool.{and_from, and_parts, and_left, and_right, both_ways, false_from_ne_true, lt-ltb, ltb-true, ne_eqb, not-true, not_from_false}
+use Rattle.std.proofs.Common.{◌≡◌, ℕ, ◌<◌, ◌≤◌, ◌==◌, true, false, ◌&&◌, not, List, Option, Some, None, ⊎_elim, refl, sym, ◌∙◌, ap, true≢false, arith}
+use Rattle.std.proofs.lemmas.Bool.{and_from, and_parts, and_left, both_ways, false_from_ne_true, lt-ltb, ltb-true, ne_eqb, not-true, not_from_false}
 use Rattle.byte_orders.specs.Accesses.{IsOneOf, is_before, may_show}
-use Rattle.byte_orders.specs.Holdings.{Holding, beginning, comes_before, has_passed, hides, is_hidden, is_own, may_be_told, may_find}
-use Rattle.byte_orders.specs.Keeping.{HasFor, IsCrowd, IsCrowdOf, IsFrom, IsKept, IsSettledOf, IsShortOf, StandsFor}
+use Rattle.byte_orders.specs.Holdings.{Holding, comes_before, has_passed, hides, is_hidden, is_own, may_be_told, may_find}
+use Rattle.byte_orders.specs.Keeping.{HasFor, IsCrowdOf, IsFrom, IsShortOf, StandsFor}
 use Rattle.byte_orders.proofs.Members.{HasOne, any_from, any_to}
 use Rattle.byte_orders.proofs.ToldRightly.{never_before_start}
 

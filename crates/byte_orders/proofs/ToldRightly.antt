@@ -1,11 +1,11 @@
 -- The rule is right by the byte: what a reader may not be told by all that was given no order explains.
-use Rattle.std.proofs.Common.{◌≡◌, ℕ, ◌<◌, ◌≤◌, ◌==◌, Bool, true, false, ◌&&◌, ◌||◌, not, List, [], ◌∷◌, Option, Some, None, if◌then◌else◌, ◌⊎◌, inl, inr, ⊎_elim, refl, sym, ◌∙◌, ap, subst, is_some, true≢false, arith}
+use Rattle.std.proofs.Common.{◌≡◌, ℕ, ◌<◌, ◌≤◌, ◌==◌, Bool, true, false, ◌&&◌, not, List, [], ◌∷◌, Option, Some, None, if◌then◌else◌, inl, inr, ⊎_elim, refl, sym, ◌∙◌, ap, subst, is_some, true≢false, arith}
 use Rattle.std.specs.Prelude.{filter_map}
-use Rattle.std.specs.List.{AllByRecursion, list_any, cons_option}
-use Rattle.std.proofs.lemmas.Bool.{and_from, and_parts, and_right, both_ways, eq-eqb, eqb-true, false_from_ne_true, ne_eqb, not_from_false}
-use Rattle.byte_orders.specs.Accesses.{Access, AreDistinct, AreTimed, Explains, HasBegun, IsExplained, IsOneOf, IsOrderOf, Order, ended_before, has_taken_effect, is_before, may_show, told_so, value_at, with_told}
+use Rattle.std.specs.List.{AllByRecursion}
+use Rattle.std.proofs.lemmas.Bool.{and_from, and_parts, and_right, both_ways, eq-eqb, false_from_ne_true, ne_eqb, not_from_false}
+use Rattle.byte_orders.specs.Accesses.{Access, AreDistinct, AreTimed, HasBegun, IsExplained, IsOneOf, IsOrderOf, ended_before, has_taken_effect, is_before, may_show, told_so, value_at, with_told}
 use Rattle.byte_orders.specs.Holdings.{Holding, NoOrderExplains, all_holdings, beginning, comes_before, has_passed, hides, holding_of, is_hidden, is_own, may_be_told, may_find}
-use Rattle.byte_orders.proofs.LastGivers.{EndsLater, before_of, holding_parts, last_at, last_behind, last_holds, last_other, last_value}
+use Rattle.byte_orders.proofs.LastGivers.{EndsLater, holding_parts, last_at, last_behind, last_holds, last_other, last_value}
 use Rattle.byte_orders.proofs.Members.{HasOne, any_from, any_to, from_filter_map, from_map, in_filter_map, in_map}
 
 -- nothing came before time 0

@@ -1,6 +1,6 @@
 -- The rule: which values one byte may have, by a short list of what was given to it. Of each writer that still counts there is a holding. A reader may be told
 -- what a holding says that isn't hidden from it: no other writer came wholly between. Nothing else of the requests plays a part.
-use Rattle.std.specs.Prelude.{ℕ, ◌≡◌, ◌==◌, Bool, true, false, ◌&&◌, ◌||◌, not, List, [], ◌∷◌, ◌++◌, map, filter, filter_map, Option, Some, None, if◌then◌else◌, is_none, is_some, nat_lt, option_map}
+use Rattle.std.specs.Prelude.{ℕ, ◌==◌, Bool, true, false, ◌&&◌, not, List, [], ◌∷◌, ◌++◌, map, filter, filter_map, Option, Some, None, if◌then◌else◌, is_none, nat_lt, option_map}
 use Rattle.std.specs.List.{list_any}
 use Rattle.byte_orders.specs.Accesses.{Access, IsExplained, is_before, may_show, with_told}
 
