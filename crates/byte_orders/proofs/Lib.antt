@@ -1,3 +1,4 @@
+pub mod Changes
 pub mod KeptShort
 pub mod LastGivers
 pub mod Members
