@@ -8,11 +8,11 @@ use Rattle.byte_orders.specs.Keeping.{IsCrowdOf, IsShortOf, IsTimed, NoneOlder}
 use Rattle.byte_orders.proofs.KeptShort.{IsChange, short_changed}
 
 -- one that is over isn't without an end
-not_none : (h : Holding) (time : ℕ) → h.over ≡ Some time → is_none h.over ≡ false
+pub not_none : (h : Holding) (time : ℕ) → h.over ≡ Some time → is_none h.over ≡ false
 not_none h time over = ap is_none over
 
 -- a crowd beside one that keeps its beginning, and is as before where it is over
-crowd_beside : (h w v : Holding) → v.begun ≡ w.begun → ((time : ℕ) → w.over ≡ Some time → v ≡ w) → IsCrowdOf h w → IsCrowdOf h v
+pub crowd_beside : (h w v : Holding) → v.begun ≡ w.begun → ((time : ℕ) → w.over ≡ Some time → v ≡ w) → IsCrowdOf h w → IsCrowdOf h v
 crowd_beside h w v begun kept crowd = record {
   many = crowd.many;
   value = crowd.value;
@@ -82,7 +82,7 @@ module _ (oldest now settled number : ℕ) (whole hs : List Holding) (short : Is
 
 -- ---- a reset, and crowds that are over
 
-abbrev by_option : (o : Option ℕ) (P : Type 0) → (o ≡ None → P) → ((time : ℕ) → o ≡ Some time → P) → P
+abbrev pub by_option : (o : Option ℕ) (P : Type 0) → (o ≡ None → P) → ((time : ℕ) → o ≡ Some time → P) → P
 by_option o P none some = by_is o refl
   where
     by_is : (is : Option ℕ) → o ≡ is → P
