@@ -1,11 +1,11 @@
 -- What the whole list lets a reader be told a short one does, and what is hidden stays hidden as numbers grow.
-use Rattle.std.proofs.Common.{◌≡◌, ℕ, ◌<◌, ◌≤◌, ◌==◌, true, false, ◌&&◌, not, List, Option, Some, None, ⊎_elim, refl, sym, ◌∙◌, ap, true≢false, arith}
+use Rattle.std.proofs.Common.{◌≡◌, ℕ, ◌<◌, ◌≤◌, ◌==◌, true, false, ◌&&◌, not, List, Option, Some, None, ⊎_elim, refl, sym, ◌∙◌, ap, subst, true≢false, arith}
 use Rattle.std.proofs.lemmas.Bool.{and_from, and_parts, and_left, both_ways, false_from_ne_true, lt-ltb, ltb-true, ne_eqb, not-true, not_from_false}
 use Rattle.byte_orders.specs.Accesses.{IsOneOf, is_before, may_show}
-use Rattle.byte_orders.specs.Holdings.{Holding, comes_before, has_passed, hides, is_hidden, is_own, may_be_told, may_find}
-use Rattle.byte_orders.specs.Keeping.{HasFor, IsCrowdOf, IsFrom, IsShortOf, StandsFor}
+use Rattle.byte_orders.specs.Holdings.{Holding, all_holdings, comes_before, has_passed, hides, is_hidden, is_own, may_be_told, may_find}
+use Rattle.byte_orders.specs.Keeping.{HasFor, IsCrowdOf, IsFrom, IsRightlyBlamed, IsShortOf, StandsFor}
 use Rattle.byte_orders.proofs.Members.{HasOne, any_from, any_to}
-use Rattle.byte_orders.proofs.ToldRightly.{never_before_start}
+use Rattle.byte_orders.proofs.ToldRightly.{blamed_rightly, never_before_start}
 
 -- ---- times
 
@@ -125,3 +125,12 @@ module _ (oldest now settled : ℕ) (whole hs : List Holding) (short : IsShortOf
               false_from_ne_true (is_hidden whole oldest w)
                   (λ hidden. both_ways (is_hidden whole number w) seen (hidden_later whole oldest number w late hidden)) in
           by_one w found.there (not-true (is_own number w) finds.0) seen parts.1 (short.kept w found.there early)
+
+-- what a short list doesn't let a reader be told no order explains
+pub short_rightly : (hs : List Holding) (number byte : ℕ) → may_be_told hs number byte ≡ false → IsRightlyBlamed hs number byte
+short_rightly hs number byte none oldest now settled start accesses timed begun late short =
+    let positive : 0 < number = subst (λ n. 0 < n) begun.2 (timed.after_start begun.0 begun.1) in
+    blamed_rightly start accesses number byte timed begun
+        (false_from_ne_true (may_be_told (all_holdings start accesses) number byte)
+            (λ told. both_ways (may_be_told hs number byte) none
+                (still_told oldest now settled (all_holdings start accesses) hs short number byte positive late told)))

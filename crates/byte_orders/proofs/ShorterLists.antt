@@ -1,13 +1,13 @@
 -- What makes a short list shorter, and what a full one becomes: none of it blames what wasn't blamed before.
-use Rattle.std.proofs.Common.{◌≡◌, ℕ, ◌<◌, ◌≤◌, ◌==◌, Bool, true, false, ◌&&◌, ◌||◌, not, List, [], ◌∷◌, map, filter, Option, Some, None, is_none, if◌then◌else◌, cond, ◌⊎◌, inl, inr, ⊎_elim, refl, sym, ◌∙◌, ap, subst, true≢false, arith}
+use Rattle.std.proofs.Common.{◌≡◌, ℕ, ◌<◌, ◌≤◌, ◌==◌, Bool, true, false, ◌&&◌, ◌||◌, not, List, [], ◌∷◌, map, filter, length, Option, Some, None, is_none, is_some, if◌then◌else◌, cond, ◌⊎◌, inl, inr, ⊎_elim, refl, sym, ◌∙◌, ap, subst, true≢false, arith}
 use Rattle.std.specs.Prelude.{nat_lt}
 use Rattle.std.specs.List.{list_any}
 use Rattle.std.proofs.lemmas.Bool.{and_from, and_left, and_parts, and_right, both_ways, cases_Bool, false_from_ne_true, ltb-true, not-true, not_from_false, or_cases}
 use Rattle.byte_orders.specs.Accesses.{IsOneOf, is_before, may_show}
-use Rattle.byte_orders.specs.Holdings.{Holding, beginning, closed, comes_before, crowd, has_passed, hides, is_hidden, is_open_of, is_own, may_be_told, may_find, pruned, with_closed, without}
+use Rattle.byte_orders.specs.Holdings.{Holding, beginning, closed, comes_before, crowd, has_passed, hides, is_hidden, is_open_of, is_own, may_be_told, may_find, begun_within, pruned, pruned_at, settled_as, with_begun, with_closed, without}
 use Rattle.byte_orders.specs.Keeping.{HasFor, IsCrowd, IsCrowdOf, IsFrom, IsKept, IsSettledOf, IsShortOf, IsTimed, NoneOlder, StandsFor}
 use Rattle.byte_orders.proofs.Changes.{by_option, crowd_beside, not_none}
-use Rattle.byte_orders.proofs.KeptShort.{IsChange, short_changed}
+use Rattle.byte_orders.proofs.KeptShort.{IsChange, short_begun, short_changed}
 use Rattle.byte_orders.proofs.Members.{HasOne, any_from, any_to, from_filter, in_filter}
 use Rattle.byte_orders.proofs.ShortLists.{HidesIt, before_from, came_at, hidden_later, hidden_too, hides_from, hides_parts}
 
@@ -280,3 +280,36 @@ module _ (hs : List Holding) (timed : (h : Holding) → IsOneOf h hs → OverLat
   -- pruning changes no answer to a reader that is no older
   pub pruned_tells : (byte : ℕ) → may_be_told (pruned oldest hs) number byte ≡ may_be_told hs number byte
   pruned_tells byte = same_told (λ h. may_show h.value byte)
+
+-- ---- as the calls of a list have it
+
+-- a writer begins, and a full list becomes a crowd
+pub short_begun_within : (most oldest now number settled : ℕ) (whole hs : List Holding) → now < number → IsShortOf oldest now settled whole hs
+    → IsShortOf oldest number settled (with_begun number whole) (begun_within most number hs)
+short_begun_within most oldest now number settled whole hs comes short = by_test (nat_lt (length hs) most)
+  where
+    more : IsShortOf oldest number settled (with_begun number whole) (with_begun number hs)
+    more = short_begun oldest now number settled whole hs comes short
+    by_test : (room : Bool) → IsShortOf oldest number settled (with_begun number whole) (if room then with_begun number hs else crowd number ∷ [])
+    by_test true = more
+    by_test false = short_crowd oldest number settled (with_begun number whole) (with_begun number hs) more
+
+-- a request has ended, and none in flight is older than one
+pub short_pruned_at : (oldest late now settled : ℕ) (whole hs : List Holding) → oldest ≤ late → NoneOlder late whole → IsShortOf oldest now settled whole hs
+    → IsShortOf late now settled whole (pruned_at late now hs)
+short_pruned_at oldest late now settled whole hs grows none_older short =
+    short_pruned oldest late now settled whole (with_closed late now hs) (short_closed oldest late now settled whole hs none_older short) grows
+
+-- one that is left alone is settled
+pub short_settled_as : (oldest now settled : ℕ) (whole hs : List Holding) (value : Option ℕ) → settled_as hs ≡ Some value → IsShortOf oldest now settled whole hs
+    → IsShortOf oldest now now whole (beginning value ∷ [])
+short_settled_as oldest now settled whole [] value is short = absurd (cc)
+short_settled_as oldest now settled whole (h ∷ []) value is short = by_over h.over refl is
+  where
+    by_over : (over : Option ℕ) → h.over ≡ over → (if is_some over then Some h.value else None) ≡ Some value
+        → IsShortOf oldest now now whole (beginning value ∷ [])
+    by_over None none same = absurd (cc)
+    by_over (Some time) at same =
+        let own : h.value ≡ value = cc in
+        subst (λ v. IsShortOf oldest now now whole (beginning v ∷ [])) own (short_settled oldest now settled whole h time at short)
+short_settled_as oldest now settled whole (h ∷ other ∷ rest) value is short = absurd (cc)

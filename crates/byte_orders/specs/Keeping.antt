@@ -1,8 +1,8 @@
 -- A list that was kept short, beside the whole one, of which nothing was forgotten: what the whole one lets a reader be told, the short one does. Both change
 -- with the same events, and `pruned`, `with_closed`, a crowd in place of all, and a beginning in place of one alone, change only the short one.
-use Rattle.std.specs.Prelude.{ℕ, ◌≡◌, ◌<◌, ◌≤◌, ◌⊎◌, true, false, List, Some, None}
-use Rattle.byte_orders.specs.Accesses.{IsOneOf}
-use Rattle.byte_orders.specs.Holdings.{Holding, beginning, is_hidden}
+use Rattle.std.specs.Prelude.{ℕ, ◌≡◌, ◌<◌, ◌≤◌, ◌⊎◌, true, false, List, Option, Some, None}
+use Rattle.byte_orders.specs.Accesses.{Access, AreTimed, HasBegun, IsOneOf}
+use Rattle.byte_orders.specs.Holdings.{Holding, NoOrderExplains, all_holdings, beginning, is_hidden}
 
 -- one of a whole list, where so many requests have begun: it is of one writer, and each begins before it ends
 pub record IsTimed (now : ℕ) (w : Holding) : Type 0 where
@@ -59,3 +59,21 @@ pub record IsShortOf (oldest now settled : ℕ) (whole hs : List Holding) : Type
 -- no writer that hasn't ended began before a number
 abbrev pub NoneOlder : ℕ → List Holding → Type 0
 NoneOlder oldest whole = (w : Holding) → IsOneOf w whole → w.over ≡ None → oldest ≤ w.begun
+
+-- a byte is blamed rightly by a list, whose request began at a number: whatever the accesses are that the list was kept of, no order of them explains it with
+-- all that was told before
+abbrev pub IsRightlyBlamed : List Holding → ℕ → ℕ → Type 0
+IsRightlyBlamed hs number byte =
+    (oldest now settled : ℕ) (start : Option ℕ) (accesses : List Access) → AreTimed accesses → HasBegun number accesses → oldest ≤ number
+    → IsShortOf oldest now settled (all_holdings start accesses) hs
+    → NoOrderExplains start accesses number byte
+
+-- a list stays short of the whole one, by an event on both, when so many have begun
+abbrev pub StaysShort : List Holding → (List Holding → List Holding) → List Holding → Type 0
+StaysShort hs event after =
+    (oldest now settled : ℕ) (whole : List Holding) → IsShortOf oldest now settled whole hs → IsShortOf oldest now settled (event whole) after
+
+-- the same of one that takes place when so many have begun
+abbrev pub StaysShortAt : ℕ → List Holding → (List Holding → List Holding) → List Holding → Type 0
+StaysShortAt now hs event after =
+    (oldest settled : ℕ) (whole : List Holding) → IsShortOf oldest now settled whole hs → IsShortOf oldest now settled (event whole) after
