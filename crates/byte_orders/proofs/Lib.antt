@@ -1,7 +1,9 @@
 pub mod Changes
+mod Examples
 pub mod KeptShort
 pub mod LastGivers
 pub mod Members
+pub mod RunsRightly
 pub mod ShorterLists
 pub mod ShortLists
 pub mod ToldRightly

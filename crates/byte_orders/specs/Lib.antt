@@ -1,3 +1,4 @@
 pub mod Accesses
 pub mod Holdings
 pub mod Keeping
+pub mod Runs
