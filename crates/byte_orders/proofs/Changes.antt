@@ -1,10 +1,8 @@
 -- Each event is a change by which a short list stays one: of the holding of one request, a reset, and crowds that are over.
-use Rattle.std.proofs.Common.{◌≡◌, ℕ, ◌<◌, ◌≤◌, ◌==◌, Bool, true, false, ◌&&◌, not, List, map, Option, Some, None, is_none, if◌then◌else◌, refl, sym, ◌∙◌, ap, subst, true≢false, arith}
-use Rattle.std.specs.Prelude.{nat_lt}
-use Rattle.std.proofs.lemmas.Bool.{and_left, and_parts, and_right, ltb-true}
-use Rattle.byte_orders.specs.Accesses.{IsOneOf}
-use Rattle.byte_orders.specs.Holdings.{Holding, changed, closed, cut_off, is_open_of, is_own, with_change, with_closed, with_ended, with_failed, with_reset, with_sure, with_value}
-use Rattle.byte_orders.specs.Keeping.{IsCrowdOf, IsShortOf, IsTimed, NoneOlder}
+use Rattle.std.proofs.Common.{◌≡◌, ℕ, ◌≤◌, ◌==◌, Bool, true, false, not, List, Option, Some, None, is_none, if◌then◌else◌, refl, sym, ◌∙◌, ap, subst, arith}
+use Rattle.std.proofs.lemmas.Bool.{and_left, and_right}
+use Rattle.byte_orders.specs.Holdings.{Holding, changed, cut_off, is_open_of, is_own, with_change, with_ended, with_failed, with_reset, with_sure, with_value}
+use Rattle.byte_orders.specs.Keeping.{IsCrowdOf, IsShortOf, IsTimed}
 use Rattle.byte_orders.proofs.KeptShort.{IsChange, short_changed}
 
 -- one that is over isn't without an end

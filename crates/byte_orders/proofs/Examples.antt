@@ -1,7 +1,7 @@
 -- The rule in worked cases: what a reader may be told after some events, computed from the definitions. Written from what each order of the requests leaves.
 use Rattle.std.proofs.Common.{◌≡◌, ℕ, ◌++◌, Bool, true, false, List, [], ◌∷◌, map, Option, None, Some, refl}
 use Rattle.byte_orders.specs.Holdings.{is_compared, may_be_told}
-use Rattle.byte_orders.specs.Runs.{Ends, Event, Fails, Gives, LeavesOut, NoneOlderThan, Reads, Resets, TakesEffect, Writes, first_run, run_after}
+use Rattle.byte_orders.specs.Runs.{Ends, Event, Fails, Gives, LeavesOut, NoneOlderThan, Reads, Resets, Settles, TakesEffect, Writes, first_run, run_after}
 
 -- which of some bytes the request that began at a number may be told; and whether it is compared
 abbrev may_tell : Option ℕ → List Event → ℕ → List ℕ → List Bool
@@ -10,12 +10,12 @@ may_tell start events number bytes = map (λ byte. may_be_told (run_after (first
 abbrev compares : Option ℕ → List Event → ℕ → Bool
 compares start events number = is_compared (run_after (first_run start) events).held number
 
--- a whole Put of a byte, which began at a number; and one that gives it and takes effect
-abbrev put : ℕ → ℕ → List Event
-put number byte = Writes number ∷ gives number byte
-
+-- what a request gives, and it takes effect; and a whole Put of a byte, which began at a number
 abbrev gives : ℕ → ℕ → List Event
 gives number byte = Gives number (Some byte) ∷ TakesEffect number ∷ []
+
+abbrev put : ℕ → ℕ → List Event
+put number byte = Writes number ∷ gives number byte
 
 -- nothing was given: what it was at first, or anything where nobody knows that
 at_first : may_tell (Some 7) (Reads 1 ∷ []) 1 (7 ∷ 8 ∷ []) ≡ true ∷ false ∷ []
@@ -111,3 +111,7 @@ crowd_over = refl
 -- seven aren't
 seven : may_tell (Some 0) (put 1 1 ++ (put 2 2 ++ (put 3 3 ++ (put 4 4 ++ (put 5 5 ++ (put 6 6 ++ (put 7 7 ++ Reads 8 ∷ []))))))) 8 (0 ∷ 7 ∷ 99 ∷ []) ≡ true ∷ true ∷ false ∷ []
 seven = refl
+
+-- one that is left alone settles, and a reader may be told that alone
+settled : may_tell (Some 0) (put 1 1 ++ Ends 1 ∷ NoneOlderThan 2 ∷ Settles ∷ Reads 2 ∷ []) 2 (0 ∷ 1 ∷ []) ≡ false ∷ true ∷ []
+settled = refl

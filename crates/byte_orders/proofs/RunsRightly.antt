@@ -1,17 +1,17 @@
 -- Each run blames rightly: its list is kept short of all that was given, whatever the events are.
-use Rattle.std.proofs.Common.{◌≡◌, ℕ, ◌+◌, ◌<◌, ◌≤◌, ◌==◌, Bool, true, false, ◌&&◌, not, List, [], ◌∷◌, ◌++◌, map, Option, Some, None, is_none, if◌then◌else◌, append-nil, ◌⊎◌, inl, inr, ⊎_elim, refl, sym, ◌∙◌, ap, subst, true≢false, arith}
+use Rattle.std.proofs.Common.{◌≡◌, ℕ, ◌+◌, ◌<◌, ◌≤◌, ◌==◌, Bool, true, false, ◌&&◌, not, List, [], ◌∷◌, ◌++◌, map, Option, Some, None, is_none, if◌then◌else◌, append-nil, ◌⊎◌, inl, inr, ⊎_elim, refl, sym, ◌∙◌, ap, subst, arith}
 use Rattle.std.specs.Prelude.{filter, filter_map, option_map}
 use Rattle.std.specs.List.{AllByRecursion, cons_option}
 use Rattle.std.proofs.lemmas.Bool.{and_right, ne_eqb}
-use Rattle.byte_orders.specs.Accesses.{Access, AreDistinct, AreTimed, HasBegun, IsOneOf}
-use Rattle.byte_orders.specs.Holdings.{Holding, all_holdings, beginning, begun_within, changed, crowd, cut_off, holding_of, is_open_of, just_begun, may_be_told, pruned_at, with_begun, with_change, with_ended, with_failed, with_reset, with_sure, with_value, without}
+use Rattle.byte_orders.specs.Accesses.{Access, AreDistinct, AreTimed, IsOneOf}
+use Rattle.byte_orders.specs.Holdings.{Holding, NoOrderExplains, all_holdings, anew, beginning, begun_within, changed, cut_off, holding_of, is_open_of, may_be_told, settled_as, with_change, with_ended, with_failed, with_reset, with_sure, with_value, without}
 use Rattle.byte_orders.specs.Keeping.{IsShortOf, NoneOlder}
-use Rattle.byte_orders.specs.Runs.{AllMayCome, BlamesRightly, Event, IsInFlight, MayCome, NoneBefore, Reads, Writes, Others, Tells, Gives, LeavesOut, TakesEffect, Fails, Ends, Resets, NoneOlderThan, Run, changed_of, cut_short, first_run, ending, failing, giving, giving_nothing, reading, run_after, run_next, taking_effect, telling, with_changed, writing}
-use Rattle.byte_orders.proofs.Changes.{by_option, short_ended, short_failed, short_reset, short_sure, short_value}
+use Rattle.byte_orders.specs.Runs.{AllMayCome, Event, IsBlamedInRuns, IsInFlight, MayCome, NoneBefore, Reads, Writes, Others, Tells, Gives, LeavesOut, TakesEffect, Fails, Ends, Resets, NoneOlderThan, Settles, Run, changed_of, cut_short, first_run, ending, failing, giving, giving_nothing, reading, run_after, run_next, taking_effect, telling, with_changed, writing}
+use Rattle.byte_orders.proofs.Changes.{short_ended, short_failed, short_reset, short_sure, short_value}
 use Rattle.byte_orders.proofs.KeptShort.{short_first, short_later}
 use Rattle.byte_orders.proofs.LastGivers.{holding_parts}
 use Rattle.byte_orders.proofs.Members.{HasOne, from_append, from_filter_map, from_map}
-use Rattle.byte_orders.proofs.ShorterLists.{short_begun_within, short_pruned_at, short_without}
+use Rattle.byte_orders.proofs.ShorterLists.{short_begun_within, short_pruned_at, short_settled_as, short_without}
 use Rattle.byte_orders.proofs.ShortLists.{short_rightly}
 
 -- ---- the holdings of accesses that change
@@ -403,6 +403,20 @@ module _ (start : Option ℕ) (run : Run) (holds : Holds start run) where
     short = short_pruned_at run.oldest number run.now holds.settled whole run.held given.0 (none_older number given.2) holds.short;
   }
 
+  settles_holds : Holds start (run_next run Settles)
+  settles_holds = by_value (settled_as run.held) refl
+    where
+      by_value : (value : Option (Option ℕ)) → settled_as run.held ≡ value → Holds start (record run { held = anew value run.held })
+      by_value None none = holds
+      by_value (Some value) is = record {
+        timed = holds.timed;
+        begun = holds.begun;
+        live = holds.live;
+        coming = holds.coming;
+        settled = run.now;
+        short = short_settled_as run.oldest run.now holds.settled whole run.held value is holds.short;
+      }
+
   next_holds : (event : Event) → MayCome run event → Holds start (run_next run event)
   next_holds (Reads number) may = reads_holds number may
   next_holds (Writes number) may = writes_holds number may
@@ -415,8 +429,10 @@ module _ (start : Option ℕ) (run : Run) (holds : Holds start run) where
   next_holds (Ends number) may = ends_holds number
   next_holds Resets may = resets_holds
   next_holds (NoneOlderThan number) may = oldest_holds number may
+  next_holds Settles may = settles_holds
 
-  pub blames_rightly : BlamesRightly start run
+  blames_rightly : (number byte : ℕ) → IsInFlight number run.accesses → may_be_told run.held number byte ≡ false
+      → NoOrderExplains start run.accesses number byte
   blames_rightly number byte flight none =
       short_rightly run.held number byte none run.oldest run.now holds.settled start run.accesses holds.timed (flight.one, flight.there, flight.begun)
           (subst (λ n. run.oldest ≤ n) flight.begun (holds.live flight.one flight.there flight.live)) holds.short
@@ -436,5 +452,8 @@ after_holds start run [] may holds = holds
 after_holds start run (event ∷ events) may holds = after_holds start (run_next run event) events may.1 (next_holds start run holds event may.0)
 
 -- each run blames rightly, whatever was seen
-pub runs_rightly : (start : Option ℕ) (events : List Event) → AllMayCome (first_run start) events → BlamesRightly start (run_after (first_run start) events)
-runs_rightly start events may = blames_rightly start (run_after (first_run start) events) (after_holds start (first_run start) events may (first_holds start))
+pub runs_rightly : (held : List Holding) (number byte : ℕ) → may_be_told held number byte ≡ false → IsBlamedInRuns held number byte
+runs_rightly held number byte none start events may same flight =
+    let run = run_after (first_run start) events in
+    blames_rightly start run (after_holds start (first_run start) events may (first_holds start)) number byte flight
+        (ap (λ hs. may_be_told hs number byte) (sym same) ∙ none)

@@ -1,15 +1,15 @@
 -- What makes a short list shorter, and what a full one becomes: none of it blames what wasn't blamed before.
-use Rattle.std.proofs.Common.{◌≡◌, ℕ, ◌<◌, ◌≤◌, ◌==◌, Bool, true, false, ◌&&◌, ◌||◌, not, List, [], ◌∷◌, map, filter, length, Option, Some, None, is_none, is_some, if◌then◌else◌, cond, ◌⊎◌, inl, inr, ⊎_elim, refl, sym, ◌∙◌, ap, subst, true≢false, arith}
+use Rattle.std.proofs.Common.{◌≡◌, ℕ, ◌<◌, ◌≤◌, ◌==◌, Bool, true, false, ◌&&◌, not, List, [], ◌∷◌, map, filter, length, Option, Some, None, is_none, is_some, if◌then◌else◌, ◌⊎◌, inl, inr, ⊎_elim, refl, sym, ◌∙◌, ap, subst, arith}
 use Rattle.std.specs.Prelude.{nat_lt}
 use Rattle.std.specs.List.{list_any}
-use Rattle.std.proofs.lemmas.Bool.{and_from, and_left, and_parts, and_right, both_ways, cases_Bool, false_from_ne_true, ltb-true, not-true, not_from_false, or_cases}
-use Rattle.byte_orders.specs.Accesses.{IsOneOf, is_before, may_show}
-use Rattle.byte_orders.specs.Holdings.{Holding, beginning, closed, comes_before, crowd, has_passed, hides, is_hidden, is_open_of, is_own, may_be_told, may_find, begun_within, pruned, pruned_at, settled_as, with_begun, with_closed, without}
-use Rattle.byte_orders.specs.Keeping.{HasFor, IsCrowd, IsCrowdOf, IsFrom, IsKept, IsSettledOf, IsShortOf, IsTimed, NoneOlder, StandsFor}
-use Rattle.byte_orders.proofs.Changes.{by_option, crowd_beside, not_none}
+use Rattle.std.proofs.lemmas.Bool.{and_left, and_parts, and_right, both_ways, false_from_ne_true, ltb-true, not-true, not_from_false}
+use Rattle.byte_orders.specs.Accesses.{IsOneOf, may_show}
+use Rattle.byte_orders.specs.Holdings.{Holding, beginning, closed, crowd, hides, is_hidden, is_open_of, is_own, may_be_told, may_find, begun_within, pruned, pruned_at, settled_as, with_begun, with_closed, without}
+use Rattle.byte_orders.specs.Keeping.{HasFor, IsCrowdOf, IsFrom, IsKept, IsSettledOf, IsShortOf, IsTimed, NoneOlder, StandsFor}
+use Rattle.byte_orders.proofs.Changes.{by_option, not_none}
 use Rattle.byte_orders.proofs.KeptShort.{IsChange, short_begun, short_changed}
 use Rattle.byte_orders.proofs.Members.{HasOne, any_from, any_to, from_filter, in_filter}
-use Rattle.byte_orders.proofs.ShortLists.{HidesIt, before_from, came_at, hidden_later, hidden_too, hides_from, hides_parts}
+use Rattle.byte_orders.proofs.ShortLists.{before_from, came_at, hidden_later, hidden_too, hides_from, hides_parts}
 
 -- ---- a writer gives nothing
 

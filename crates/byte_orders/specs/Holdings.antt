@@ -140,6 +140,14 @@ settled_as [] = None
 settled_as (h ∷ []) = if is_some h.over then Some h.value else None
 settled_as (h ∷ other ∷ rest) = None
 
+-- the list that begins anew with it, if it has settled
+abbrev pub anew : Option (Option ℕ) → List Holding → List Holding
+anew None hs = hs
+anew (Some value) hs = beginning value ∷ []
+
+abbrev pub with_settled : List Holding → List Holding
+with_settled hs = anew (settled_as hs) hs
+
 -- ---- what is said of a verdict
 
 -- that a byte isn't one that a reader may be told is right: no order of the accesses, in which each is told what it was told, has it be told this too

@@ -67,13 +67,3 @@ IsRightlyBlamed hs number byte =
     (oldest now settled : ℕ) (start : Option ℕ) (accesses : List Access) → AreTimed accesses → HasBegun number accesses → oldest ≤ number
     → IsShortOf oldest now settled (all_holdings start accesses) hs
     → NoOrderExplains start accesses number byte
-
--- a list stays short of the whole one, by an event on both, when so many have begun
-abbrev pub StaysShort : List Holding → (List Holding → List Holding) → List Holding → Type 0
-StaysShort hs event after =
-    (oldest now settled : ℕ) (whole : List Holding) → IsShortOf oldest now settled whole hs → IsShortOf oldest now settled (event whole) after
-
--- the same of one that takes place when so many have begun
-abbrev pub StaysShortAt : ℕ → List Holding → (List Holding → List Holding) → List Holding → Type 0
-StaysShortAt now hs event after =
-    (oldest settled : ℕ) (whole : List Holding) → IsShortOf oldest now settled whole hs → IsShortOf oldest now settled (event whole) after

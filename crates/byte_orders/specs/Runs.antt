@@ -1,11 +1,11 @@
 -- One byte over a whole run, as it is seen event by event: the accesses to it so far, and the short list that is kept of them. What is true of each run is
 -- `IsRun`; and that its list blames rightly is a law of it alone.
 use Rattle.std.specs.Prelude.{ℕ, ◌≡◌, ◌<◌, ◌≤◌, ◌+◌, ◌==◌, ⊤, true, false, ◌&&◌, List, [], ◌∷◌, ◌++◌, map, Option, Some, None, if◌then◌else◌, is_none, option_map}
-use Rattle.byte_orders.specs.Accesses.{Access, HasBegun, IsOneOf}
-use Rattle.byte_orders.specs.Holdings.{Holding, NoOrderExplains, beginning, begun_within, may_be_told, pruned_at, with_ended, with_failed, with_reset, with_sure, with_value, without}
+use Rattle.byte_orders.specs.Accesses.{Access, IsOneOf}
+use Rattle.byte_orders.specs.Holdings.{Holding, NoOrderExplains, beginning, begun_within, pruned_at, with_ended, with_failed, with_reset, with_settled, with_sure, with_value, without}
 
 -- what is seen: requests begin, each at a number, which read the byte alone, or may give it, or do neither; one is told a byte that isn't found wrong; what it
--- gives comes, or is what its reply shows; it gives nothing; it takes effect; it has failed; it ends; a reset; and that none in flight is older than one
+-- gives comes, or is what its reply shows; it gives nothing; it takes effect; it has failed; it ends; a reset; that none in flight is older than one; and that a list which has settled begins anew
 pub data Event : Type 0 where
   Reads : ℕ → Event
   Writes : ℕ → Event
@@ -18,6 +18,7 @@ pub data Event : Type 0 where
   Ends : ℕ → Event
   Resets : Event
   NoneOlderThan : ℕ → Event
+  Settles : Event
 
 -- so many have begun; none in flight is older than one; what was done to the byte; and what is held of it
 pub record Run : Type 0 where
@@ -81,6 +82,7 @@ run_next run (Ends number) =
     record run { accesses = with_changed number (ending run.now) run.accesses; held = with_ended number run.now run.held }
 run_next run Resets = record run { accesses = map (cut_short run.now) run.accesses; held = with_reset run.now run.held }
 run_next run (NoneOlderThan number) = record run { oldest = number; held = pruned_at number run.now run.held }
+run_next run Settles = record run { held = with_settled run.held }
 
 -- none that hasn't ended began before a number
 abbrev pub NoneBefore : ℕ → List Access → Type 0
@@ -98,6 +100,7 @@ MayCome run (TakesEffect number) = ⊤
 MayCome run (Fails number) = ⊤
 MayCome run (Ends number) = ⊤
 MayCome run Resets = ⊤
+MayCome run Settles = ⊤
 MayCome run (NoneOlderThan number) = (run.oldest ≤ number) × (number ≤ run.now + 1) × NoneBefore number run.accesses
 
 abbrev pub run_after : Run → List Event → Run
@@ -115,7 +118,10 @@ pub record IsInFlight (number : ℕ) (accesses : List Access) : Type 0 where
   pub begun : one.begun ≡ number
   pub live : one.ended ≡ None
 
--- a run blames rightly: what its list doesn't let one in flight be told no order of its accesses explains, with all that was told
-abbrev pub BlamesRightly : Option ℕ → Run → Type 0
-BlamesRightly start run =
-    (number byte : ℕ) → IsInFlight number run.accesses → may_be_told run.held number byte ≡ false → NoOrderExplains start run.accesses number byte
+-- a byte is blamed rightly by a list, where one in flight began at a number: in each run by which this list is held no order of the accesses explains the byte
+-- with all that was told before
+abbrev pub IsBlamedInRuns : List Holding → ℕ → ℕ → Type 0
+IsBlamedInRuns held number byte =
+    (start : Option ℕ) (events : List Event) → AllMayCome (first_run start) events → held ≡ (run_after (first_run start) events).held
+    → IsInFlight number (run_after (first_run start) events).accesses
+    → NoOrderExplains start (run_after (first_run start) events).accesses number byte

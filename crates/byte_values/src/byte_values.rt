@@ -1,8 +1,9 @@
 //! The list of one byte.
-ghost use Rattle.std.specs.Prelude.{◌≡◌, ◌<◌, ◌≤◌, [], ◌∷◌, ℕ, List, false, length, map, nat_lt};
+ghost use Rattle.std.specs.Prelude.{◌≡◌, ◌+◌, ◌<◌, ◌≤◌, ◌&&◌, [], ◌∷◌, ◌++◌, false, if◌then◌else◌, is_none, length, map};
 ghost use Rattle.std.specs.List.{list_any};
-ghost use Rattle.byte_orders.specs.Holdings.{begun_within, beginning, hides, is_compared, is_hidden, may_be_told, may_find, pruned, pruned_at, settled_as, with_begun, with_ended, with_failed, with_reset, with_sure, with_value, without};
-ghost use Rattle.byte_orders.specs.Keeping.{IsRightlyBlamed, IsShortOf, NoneOlder, StaysShort, StaysShortAt};
+ghost use Rattle.byte_orders.specs.Holdings.{begun_within, beginning, is_compared, is_hidden, may_be_told, may_find, pruned, pruned_at, settled_as, with_ended, with_failed, with_reset, with_sure, with_value, without};
+ghost use Rattle.byte_orders.specs.Keeping.{IsRightlyBlamed};
+ghost use Rattle.byte_orders.specs.Runs.{IsBlamedInRuns};
 ghost use Rattle.byte_values.specs.Changes.{changed_by};
 
 use crate::holding::{Change, Holding};
@@ -50,9 +51,10 @@ fn keep_if(left: &mut ArrayVec<Holding, 8>, holding: Holding, stays: bool)
     ensures items { left.new.items ≡ left.old.items ++ (if stays then holding ∷ [] else []) }
     ensures room { length left.new.items ≤ length left.old.items + 1 }
 {
-    if stays {
-        left.push(holding);
+    if !stays {
+        return;
     }
+    left.push(holding);
 }
 
 /// Those of a list that aren't hidden from a reader that began at a number.
@@ -86,11 +88,17 @@ fn may_find(held: &[Holding], number: u64, holding: &Holding) -> bool
     !holding.is_own(number) && !is_hidden(held, number, holding)
 }
 
+/// Whether it may find one of them whose value nobody knows.
+fn finds_unknown(held: &[Holding], number: u64) -> bool
+    ensures { result ≡ list_any (λ h. may_find held.now number h && is_none h.value) held.now }
+{
+    held.iter().any(|holding| may_find(held, number, holding) && holding.is_unknown())
+}
+
 impl ByteValues {
     /// The list of a byte that nothing was given to, or that has settled: what it is; none where nobody knows that.
     pub fn new(value: Option<u8>) -> Self
-        ensures list { result ≡ beginning value ∷ [] }
-        ensures short { IsShortOf 0 0 0 (beginning value ∷ []) result }
+        ensures { result ≡ beginning value ∷ [] }
     {
         let mut held = ArrayVec::new();
         held.push(Holding::beginning(value));
@@ -100,9 +108,7 @@ impl ByteValues {
     /// A request begins that may give the byte: nobody knows yet what, nor whether it takes effect. Where eight are held already, they and
     /// it become one that allows any value, and is over once all that have begun have ended.
     pub fn begin(&mut self, number: u64)
-        ensures list { self.new ≡ begun_within 8 number self.old }
-        ensures short { (oldest now settled : ℕ) (whole : List Holding) → now < number → IsShortOf oldest now settled whole self.old
-            → IsShortOf oldest number settled (with_begun number whole) self.new }
+        ensures { self.new ≡ begun_within 8 number self.old }
     {
         if self.held.len() == MOST {
             self.held.clear();
@@ -114,48 +120,42 @@ impl ByteValues {
 
     /// What the request gives that began at a number is known: its beat came, or its own reply shows it. None: it is a byte that nobody knows.
     pub fn set_value(&mut self, number: u64, value: Option<u8>)
-        ensures list { self.new ≡ with_value number value self.old }
-        ensures short { StaysShort self.old (with_value number value) self.new }
+        ensures { self.new ≡ with_value number value self.old }
     {
         change_each(self.held.as_mut_slice(), Change::Value(number, value));
     }
 
     /// That request takes effect: it is whole, and hasn't failed.
     pub fn make_sure(&mut self, number: u64)
-        ensures list { self.new ≡ with_sure number self.old }
-        ensures short { StaysShort self.old (with_sure number) self.new }
+        ensures { self.new ≡ with_sure number self.old }
     {
         change_each(self.held.as_mut_slice(), Change::Sure(number));
     }
 
     /// That request has failed: it may leave any byte, or none.
     pub fn fail(&mut self, number: u64)
-        ensures list { self.new ≡ with_failed number self.old }
-        ensures short { StaysShort self.old (with_failed number) self.new }
+        ensures { self.new ≡ with_failed number self.old }
     {
         change_each(self.held.as_mut_slice(), Change::Failed(number));
     }
 
     /// That request gives the byte nothing: its mask leaves it out, or it isn't carried out.
     pub fn leave_out(&mut self, number: u64)
-        ensures list { self.new ≡ without number self.old }
-        ensures short { StaysShort self.old (without number) self.new }
+        ensures { self.new ≡ without number self.old }
     {
         self.held = of_others(self.held.as_slice(), number);
     }
 
     /// That request ends, when so many have begun.
     pub fn end(&mut self, number: u64, now: u64)
-        ensures list { self.new ≡ with_ended number now self.old }
-        ensures short { StaysShortAt now self.old (with_ended number now) self.new }
+        ensures { self.new ≡ with_ended number now self.old }
     {
         change_each(self.held.as_mut_slice(), Change::Ended(number, now));
     }
 
     /// A reset, when so many have begun: each that hasn't ended may have taken effect, and takes none later.
     pub fn reset(&mut self, now: u64)
-        ensures list { self.new ≡ with_reset now self.old }
-        ensures short { StaysShortAt now self.old (with_reset now) self.new }
+        ensures { self.new ≡ with_reset now self.old }
     {
         change_each(self.held.as_mut_slice(), Change::CutOff(now));
     }
@@ -163,9 +163,7 @@ impl ByteValues {
     /// Forgets what can't be told any more, by the number of the oldest request in flight, when so many have begun; what stands for many is
     /// over if none of them is in flight. No answer to that request changes, or to a later one.
     pub fn prune(&mut self, oldest: u64, now: u64)
-        ensures list { self.new ≡ pruned_at oldest now self.old }
-        ensures short { (older settled : ℕ) (whole : List Holding) → older ≤ oldest → NoneOlder oldest whole → IsShortOf older now settled whole self.old
-            → IsShortOf oldest now settled whole self.new }
+        ensures { self.new ≡ pruned_at oldest now self.old }
     {
         change_each(self.held.as_mut_slice(), Change::Closed(oldest, now));
         self.held = seen_by(self.held.as_slice(), oldest);
@@ -176,6 +174,14 @@ impl ByteValues {
     pub fn may_be_told(&self, number: u64, byte: u8) -> bool
         ensures told { result ≡ may_be_told self.now number byte }
         ensures rightly { result ≡ false → IsRightlyBlamed self.now number byte }
+        ensures runs { result ≡ false → IsBlamedInRuns self.now number byte }
+    {
+        self.tells(number, byte)
+    }
+
+    /// Whether one that it may find may be shown as a byte.
+    fn tells(&self, number: u64, byte: u8) -> bool
+        ensures { result ≡ may_be_told self.now number byte }
     {
         let held = self.held.as_slice();
         held.iter().any(|holding| may_find(held, number, holding) && holding.may_show(byte))
@@ -185,16 +191,13 @@ impl ByteValues {
     pub fn is_compared(&self, number: u64) -> bool
         ensures { result ≡ is_compared self.now number }
     {
-        let held = self.held.as_slice();
-        !held.iter().any(|holding| may_find(held, number, holding) && holding.value().is_none())
+        !finds_unknown(self.held.as_slice(), number)
     }
 
     /// What the byte has settled as, if only that is left, and nothing can come of its writer: its list may begin anew with it. The value is
     /// none where nobody knows it.
     pub fn settled(&self) -> Option<Option<u8>>
-        ensures value { result ≡ settled_as self.now }
-        ensures short { (oldest now settled : ℕ) (whole : List Holding) (value : Option ℕ) → result ≡ Some value → IsShortOf oldest now settled whole self.now
-            → IsShortOf oldest now now whole (beginning value ∷ []) }
+        ensures { result ≡ settled_as self.now }
     {
         match self.held.as_slice() {
             [only] if only.is_over() => Some(only.value()),

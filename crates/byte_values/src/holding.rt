@@ -1,7 +1,7 @@
 //! What one writer gives to a byte, or many.
-ghost use Rattle.std.specs.Prelude.{◌≡◌, ◌<◌, None, Some};
+ghost use Rattle.std.specs.Prelude.{◌≡◌, None, Some, is_none, is_some};
 ghost use Rattle.byte_orders.specs.Accesses.{is_before, may_show};
-ghost use Rattle.byte_orders.specs.Holdings.{beginning, crowd, hides, is_open_of, is_own, just_begun};
+ghost use Rattle.byte_orders.specs.Holdings.{beginning, closed, crowd, cut_off, hides, is_open_of, is_own, just_begun};
 ghost use Rattle.byte_values.specs.Changes.{changed_by};
 
 use std::marker::Model;
@@ -100,6 +100,13 @@ impl Holding {
         ensures { result ≡ self.now.value }
     {
         self.value
+    }
+
+    /// Whether nobody knows what it gives.
+    pub(crate) fn is_unknown(&self) -> bool
+        ensures { result ≡ is_none self.now.value }
+    {
+        self.value.is_none()
     }
 
     /// Whether it is over.
