@@ -56,7 +56,7 @@ module _ (number now : ℕ) (change : Holding → Holding) (own : IsOwnChange no
     unsure = λ h many unsure. ap (λ (x : Holding). x.sure) (changed_crowd h many) ∙ unsure;
     crowds = λ h w at timed crowd.
         subst (λ x. IsCrowdOf x (changed number change w)) (sym (changed_crowd h crowd.many))
-            (crowd_beside h w (changed number change w) (changed_begun w) (λ time over. changed_ended w time over) crowd);
+        (crowd_beside h w (changed number change w) (changed_begun w) (λ time over. changed_ended w time over) crowd);
   }
 
 module _ (oldest now settled number : ℕ) (whole hs : List Holding) (short : IsShortOf oldest now settled whole hs) where
@@ -109,26 +109,28 @@ reset_change now whole =
           (λ time over. ap (λ (x : Holding). x.sure) (cut_kept now h time over) ∙ unsure);
       crowds = λ h w at timed crowd. by_option h.over (IsCrowdOf (cut_off now h) (cut_off now w)) (λ none. cut_crowd h w timed crowd none)
           (λ time over. subst (λ x. IsCrowdOf x (cut_off now w)) (sym (cut_kept now h time over))
-              (crowd_beside h w (cut_off now w) (begun w) (λ end is. cut_kept now w end is) crowd));
+          (crowd_beside h w (cut_off now w) (begun w) (λ end is. cut_kept now w end is) crowd));
     }
   where
     begun : (h : Holding) → (cut_off now h).begun ≡ h.begun
     begun h = by_option h.over ((cut_off now h).begun ≡ h.begun) (λ none. ap (λ (x : Holding). x.begun) (cut_now now h none))
         (λ time over. ap (λ (x : Holding). x.begun) (cut_kept now h time over))
+
     over_by_now : (w : Holding) (time : ℕ) → IsTimed now w → now ≡ time → (end : ℕ) × ((cut_off now w).over ≡ Some end) × (end ≤ time)
     over_by_now w time timed same =
         by_option w.over ((end : ℕ) × ((cut_off now w).over ≡ Some end) × (end ≤ time))
-            (λ none. (now, ap (λ (x : Holding). x.over) (cut_now now w none), omega (arith, same)))
-            (λ end over. (end, ap (λ (x : Holding). x.over) (cut_kept now w end over) ∙ over, omega (arith, same, timed.past end over)))
+        (λ none. (now, ap (λ (x : Holding). x.over) (cut_now now w none), omega (arith, same)))
+        (λ end over. (end, ap (λ (x : Holding). x.over) (cut_kept now w end over) ∙ over, omega (arith, same, timed.past end over)))
+
     cut_crowd : (h w : Holding) → IsTimed now w → IsCrowdOf h w → h.over ≡ None → IsCrowdOf (cut_off now h) (cut_off now w)
     cut_crowd h w timed crowd none =
         subst (λ x. IsCrowdOf x (cut_off now w)) (sym (cut_now now h none))
-            (record {
-              many = crowd.many;
-              value = crowd.value;
-              begun = subst (λ n. n ≤ h.begun) (sym (begun w)) crowd.begun;
-              ended = λ time over. let same : now ≡ time = cc in over_by_now w time timed same;
-            })
+        (record {
+          many = crowd.many;
+          value = crowd.value;
+          begun = subst (λ n. n ≤ h.begun) (sym (begun w)) crowd.begun;
+          ended = λ time over. let same : now ≡ time = cc in over_by_now w time timed same;
+        })
 
 pub short_reset : (oldest now settled : ℕ) (whole hs : List Holding) → IsShortOf oldest now settled whole hs
     → IsShortOf oldest now settled (with_reset now whole) (with_reset now hs)

@@ -37,8 +37,8 @@ timed_later now later w grows timed = record {
 from_later : (now later settled : ℕ) (whole : List Holding) (h : Holding) → now ≤ later → IsFrom now settled whole h → IsFrom later settled whole h
 from_later now later settled whole h grows origin =
     ⊎_elim (λ same. inl same)
-        (λ other. inr (⊎_elim (λ kept. inl kept)
-            (λ (crowd : IsCrowd now h). inr (record { many = crowd.many; unsure = crowd.unsure; begun = omega (arith, grows, crowd.begun) })) other)) origin
+    (λ other. inr (⊎_elim (λ kept. inl kept)
+    (λ (crowd : IsCrowd now h). inr (record { many = crowd.many; unsure = crowd.unsure; begun = omega (arith, grows, crowd.begun) })) other)) origin
 
 -- other requests begin
 pub short_later : (oldest now later settled : ℕ) (whole hs : List Holding) → now ≤ later → IsShortOf oldest now settled whole hs
@@ -64,28 +64,31 @@ short_begun oldest now number settled whole hs comes short =
       settled_past = omega (arith, comes, short.settled_past);
       timed = λ w at.
           ⊎_elim (λ old. timed_later now number w (omega (arith, comes)) (short.timed w old))
-              (λ last. ⊎_elim (λ same. subst (IsTimed number) (sym same) timed_new) (λ none. absurd none) last) (from_append w whole (just_begun number ∷ []) at);
+          (λ last. ⊎_elim (λ same. subst (IsTimed number) (sym same) timed_new) (λ none. absurd none) last) (from_append w whole (just_begun number ∷ []) at);
       kept = λ w at seen.
           ⊎_elim (λ old. kept_old w old seen)
-              (λ last. ⊎_elim (λ same. record { one = just_begun number; there = in_append_right (just_begun number) hs (just_begun number ∷ []) (inl refl); stands = inl (sym same) }) (λ none. absurd none) last)
-              (from_append w whole (just_begun number ∷ []) at);
+          (λ last. ⊎_elim (λ same. record { one = just_begun number; there = in_append_right (just_begun number) hs (just_begun number ∷ []) (inl refl); stands = inl (sym same) }) (λ none. absurd none) last)
+          (from_append w whole (just_begun number ∷ []) at);
       from = λ h at.
           ⊎_elim (λ old. from_old h (short.from h old))
-              (λ last. ⊎_elim (λ same. from_new h same) (λ none. absurd none) last) (from_append h hs (just_begun number ∷ []) at);
+          (λ last. ⊎_elim (λ same. from_new h same) (λ none. absurd none) last) (from_append h hs (just_begun number ∷ []) at);
     }
   where
     timed_new : IsTimed number (just_begun number)
     timed_new = record { alone = refl; begun = omega arith; ends_later = λ time is. absurd (cc); past = λ time is. absurd (cc) }
+
     kept_old : (w : Holding) → IsOneOf w whole → is_hidden (whole ++ just_begun number ∷ []) oldest w ≡ false → HasFor settled (hs ++ just_begun number ∷ []) w
     kept_old w old seen =
         let has = short.kept w old
-            (false_from_ne_true (is_hidden whole oldest w) (λ hidden. both_ways (is_hidden (whole ++ just_begun number ∷ []) oldest w) seen (more_hidden whole oldest w (just_begun number) hidden))) in
+        (false_from_ne_true (is_hidden whole oldest w) (λ hidden. both_ways (is_hidden (whole ++ just_begun number ∷ []) oldest w) seen (more_hidden whole oldest w (just_begun number) hidden))) in
         record { one = has.one; there = in_append_left has.one hs (just_begun number ∷ []) has.there; stands = has.stands }
+
     from_old : (h : Holding) → IsFrom now settled whole h → IsFrom number settled (whole ++ just_begun number ∷ []) h
     from_old h origin =
         ⊎_elim (λ same. inl same)
-            (λ other. inr (⊎_elim (λ (kept : IsKept settled whole h). inl (record { there = in_append_left h whole (just_begun number ∷ []) kept.there; since = kept.since }))
-                (λ (crowd : IsCrowd now h). inr (record { many = crowd.many; unsure = crowd.unsure; begun = omega (arith, comes, crowd.begun) })) other)) origin
+        (λ other. inr (⊎_elim (λ (kept : IsKept settled whole h). inl (record { there = in_append_left h whole (just_begun number ∷ []) kept.there; since = kept.since }))
+        (λ (crowd : IsCrowd now h). inr (record { many = crowd.many; unsure = crowd.unsure; begun = omega (arith, comes, crowd.begun) })) other)) origin
+
     from_new : (h : Holding) → h ≡ just_begun number → IsFrom number settled (whole ++ just_begun number ∷ []) h
     from_new h same =
         inr (inl (record {
@@ -133,8 +136,8 @@ module _ (oldest now settled : ℕ) (whole hs : List Holding) (change : Holding 
       let mine = came_at w.over found.one.begun parts.before in
       let other = came_at found.one.over oldest parts.passed in
       any_from (hides oldest (change w)) found.one (map change whole)
-          (subst (λ x. IsOneOf x (map change whole)) (is.ended found.one other.at other.is) (in_map change found.one whole found.there))
-          (ap (λ x. hides oldest x found.one) (is.ended w mine.at mine.is) ∙ found.holds)
+      (subst (λ x. IsOneOf x (map change whole)) (is.ended found.one other.at other.is) (in_map change found.one whole found.there))
+      (ap (λ x. hides oldest x found.one) (is.ended w mine.at mine.is) ∙ found.holds)
 
   changed_stands : (h w : Holding) → IsOneOf w whole → StandsFor settled h w → StandsFor settled (change h) (change w)
   changed_stands h w at stands =
@@ -153,8 +156,10 @@ module _ (oldest now settled : ℕ) (whole hs : List Holding) (change : Holding 
       first same =
           let mine : change h ≡ h = is.ended h 0 (ap (λ (x : Holding). x.over) same) in
           inl (mine ∙ same ∙ ap (λ (x : Holding). beginning x.value) (sym mine))
+
       second : IsKept settled whole h → IsKept settled (map change whole) (change h) ⊎ IsCrowd now (change h)
       second kept = inl (record { there = in_map change h whole kept.there; since = subst (λ n. settled < n) (sym (is.begun h)) kept.since })
+
       third : IsCrowd now h → IsKept settled (map change whole) (change h) ⊎ IsCrowd now (change h)
       third one = inr (record {
         many = is.many h ∙ one.many;
@@ -179,9 +184,9 @@ module _ (oldest now settled : ℕ) (whole hs : List Holding) (change : Holding 
       kept_one w found seen =
           let x = found.one in
           let has = short.kept x found.there
-              (false_from_ne_true (is_hidden whole oldest x)
-                  (λ hidden. both_ways (is_hidden (map change whole) oldest w) seen
-                      (ap (λ y. is_hidden (map change whole) oldest y) found.holds ∙ still_hidden x hidden))) in
+          (false_from_ne_true (is_hidden whole oldest x)
+          (λ hidden. both_ways (is_hidden (map change whole) oldest w) seen
+          (ap (λ y. is_hidden (map change whole) oldest y) found.holds ∙ still_hidden x hidden))) in
           record {
             one = change has.one;
             there = in_map change has.one hs has.there;

@@ -84,7 +84,8 @@ last_other h (a ∷ later) number first = by_test (a.begun == number) refl (λ f
     next : (a.begun == number) ≡ false → (after h a).begun ≡ number → ⊥
     next fails =
         after_holds (λ g. g.begun ≡ number → ⊥) h a first
-            (λ g is same. eqb-false a.begun number fails (sym (holding_parts a g is).begun ∙ same))
+        (λ g is same. eqb-false a.begun number fails (sym (holding_parts a g is).begun ∙ same))
+
     by_test : (here : Bool) → (a.begun == number) ≡ here → ((a.begun == number) ≡ false → (last_at (after h a) later number).begun ≡ number → ⊥)
         → (if here then h else last_at (after h a) later number).begun ≡ number → ⊥
     by_test true passes rest = first
@@ -118,27 +119,30 @@ pub last_behind : (h : Holding) (order : Order) (number : ℕ) (b q : Access) (g
 last_behind h [] number b q g at is there own ended keeps once timed = absurd at
 last_behind h (a ∷ later) number b q g at is there own ended keeps once timed =
     by_test (a.begun == number) refl
-        (λ elsewhere behind. last_behind (after h a) later number b q g behind is elsewhere own ended keeps.1 once.1 (λ c place. timed c (inr place)))
+    (λ elsewhere behind. last_behind (after h a) later number b q g behind is elsewhere own ended keeps.1 once.1 (λ c place. timed c (inr place)))
   where
     ends_first : b ≡ q → ⊥
     ends_first same =
         both_ways (is_before q.ended q.begun) (never_before_itself q (timed q there)) (ap (λ (c : Access). is_before c.ended q.begun) (sym same) ∙ ended)
+
     -- the reader stands first, so that none is behind it that had ended before it began
     here : a.begun ≡ number → ⊥
     here first =
         let reader : q ≡ a = ⊎_elim (λ same. same)
-            (λ behind. absurd (eqb-false q.begun a.begun (all_of (λ c. (c.begun == a.begun) ≡ false) q later once.0 behind) (own ∙ sym first))) there in
+        (λ behind. absurd (eqb-false q.begun a.begun (all_of (λ c. (c.begun == a.begun) ≡ false) q later once.0 behind) (own ∙ sym first))) there in
         ⊎_elim (λ same. ends_first (same ∙ sym reader))
-            (λ behind. both_ways (ended_before b a) (all_of (λ c. ended_before c a ≡ false) b later keeps.0 behind)
-                (ap (λ (c : Access). is_before b.ended c.begun) (sym reader) ∙ ended)) at
+        (λ behind. both_ways (ended_before b a) (all_of (λ c. ended_before c a ≡ false) b later keeps.0 behind)
+        (ap (λ (c : Access). is_before b.ended c.begun) (sym reader) ∙ ended)) at
+
     -- it is the first itself: all behind it hadn't ended before it began
     from_here : b ≡ a → comes_before (last_at (after h a) later number) g ≡ false
     from_here same =
         let mine : holding_of a ≡ Some g = ap holding_of (sym same) ∙ is in
         let own_first : after h a ≡ g = rw mine refl in
         last_holds (λ x. comes_before x g ≡ false) (after h a) later number
-            (ap (λ x. comes_before x g) own_first ∙ before_of a a g g mine mine ∙ never_before_itself a (timed a (inl refl)))
-            (λ c f place other. before_of c a f g other mine ∙ all_of (λ d. ended_before d a ≡ false) c later keeps.0 place)
+        (ap (λ x. comes_before x g) own_first ∙ before_of a a g g mine mine ∙ never_before_itself a (timed a (inl refl)))
+        (λ c f place other. before_of c a f g other mine ∙ all_of (λ d. ended_before d a ≡ false) c later keeps.0 place)
+
     by_test : (first : Bool) → (a.begun == number) ≡ first
         → (IsOneOf q later → IsOneOf b later → comes_before (last_at (after h a) later number) g ≡ false)
         → comes_before (if first then h else last_at (after h a) later number) g ≡ false

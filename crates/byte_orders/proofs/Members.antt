@@ -59,6 +59,7 @@ in_filter {X = X} p x (y ∷ ys) at passes = ⊎_elim here (λ later. by_test (p
     here same =
         let holds : p y ≡ true = ap p (sym same) ∙ passes in
         rw holds (inl same)
+
     by_test : (b : Bool) → IsOneOf x (filter p ys) → IsOneOf x (cond b (y ∷ filter p ys) (filter p ys))
     by_test true later = inr later
     by_test false later = later
@@ -73,6 +74,7 @@ from_filter {X = X} p x (y ∷ ys) at = by_test (p y) refl at (λ now. from_filt
   where
     later_on : PassesThere p x ys → PassesThere p x (y ∷ ys)
     later_on found = record { there = inr found.there; passes = found.passes }
+
     by_test : (b : Bool) → p y ≡ b → IsOneOf x (cond b (y ∷ filter p ys) (filter p ys)) → (IsOneOf x (filter p ys) → PassesThere p x ys)
         → PassesThere p x (y ∷ ys)
     by_test true holds now deeper = ⊎_elim (λ same. record { there = inl same; passes = ap p same ∙ holds }) (λ later. later_on (deeper later)) now
@@ -86,6 +88,7 @@ in_filter_map {X = X} {Y = Y} f x y (z ∷ zs) at gives = ⊎_elim here (λ late
     here same =
         let some : f z ≡ Some y = ap f (sym same) ∙ gives in
         rw some (inl refl)
+
     by_option : (o : Option Y) → IsOneOf y (filter_map f zs) → IsOneOf y (cons_option o (filter_map f zs))
     by_option None later = later
     by_option (Some other) later = inr later
@@ -96,6 +99,7 @@ from_filter_map {X = X} {Y = Y} f y (x ∷ xs) at = by_option (f x) refl at (λ 
   where
     later_on : HasOne (λ (z : X). f z ≡ Some y) xs → HasOne (λ z. f z ≡ Some y) (x ∷ xs)
     later_on found = record { one = found.one; there = inr found.there; holds = found.holds }
+
     by_option : (o : Option Y) → f x ≡ o → IsOneOf y (cons_option o (filter_map f xs)) → (IsOneOf y (filter_map f xs) → HasOne (λ z. f z ≡ Some y) xs)
         → HasOne (λ z. f z ≡ Some y) (x ∷ xs)
     by_option None none now deeper = later_on (deeper now)

@@ -72,9 +72,11 @@ changed_alike number f g same a = by_gives a.gives refl
         let parts = holding_parts a h is in
         let there : is_open_of number h ≡ false = rw (parts.alone, parts.begun, parts.over) fails in
         rw there is
+
     none_stays : (b : Bool) → holding_of a ≡ None → holding_of (if b then f a else a) ≡ None
     none_stays true none = same a ∙ ap (option_map g) none
     none_stays false none = none
+
     by_gives : (o : Option (Option ℕ)) → a.gives ≡ o → holding_of (changed_of number f a) ≡ option_map (changed number g) (holding_of a)
     by_gives None none =
         let was : holding_of a ≡ None = rw none refl in
@@ -102,9 +104,11 @@ step_of now number f is =
     begun : (a : Access) (b : Bool) → (if b then f a else a).begun ≡ a.begun
     begun a true = is.begun a
     begun a false = refl
+
     ended : (a : Access) (time : ℕ) (b : Bool) → (if b then f a else a).ended ≡ Some time → (a.ended ≡ Some time) ⊎ (time ≡ now)
     ended a time true some = is.ended a time some
     ended a time false some = inl some
+
     live : (a : Access) (b : Bool) → (if b then f a else a).ended ≡ None → a.ended ≡ None
     live a true none = is.live a none
     live a false none = none
@@ -150,8 +154,8 @@ module _ (now : ℕ) (f : Access → Access) (is : IsStep now f) where
         let from = from_map f a accesses at in
         let own : a.begun ≡ from.one.begun = ap (λ (b : Access). b.begun) from.holds ∙ is.begun from.one in
         subst (λ n. n ≤ time) (sym own)
-            (⊎_elim (λ old. timed.ends_later from.one time from.there old) (λ new. subst (λ t. from.one.begun ≤ t) (sym new) (begun from.one from.there))
-                (is.ended from.one time (ap (λ (b : Access). b.ended) (sym from.holds) ∙ some)));
+        (⊎_elim (λ old. timed.ends_later from.one time from.there old) (λ new. subst (λ t. from.one.begun ≤ t) (sym new) (begun from.one from.there))
+        (is.ended from.one time (ap (λ (b : Access). b.ended) (sym from.holds) ∙ some)));
     apart = still_distinct accesses timed.apart;
   }
 
@@ -159,7 +163,7 @@ module _ (now : ℕ) (f : Access → Access) (is : IsStep now f) where
   mapped_live oldest accesses live a at none =
       let from = from_map f a accesses at in
       subst (λ n. oldest ≤ n) (sym (ap (λ (b : Access). b.begun) from.holds ∙ is.begun from.one))
-          (live from.one from.there (is.live from.one (ap (λ (b : Access). b.ended) (sym from.holds) ∙ none)))
+      (live from.one from.there (is.live from.one (ap (λ (b : Access). b.ended) (sym from.holds) ∙ none)))
 
 -- a run whose accesses have changed, and its list as they did
 mapped_holds : (start : Option ℕ) (run : Run) (f : Access → Access) (held whole : List Holding) → IsStep run.now f → (holds : Holds start run)
@@ -192,7 +196,7 @@ whole_changed number f g same start accesses =
 by_gives : (f : Access → Access) (g : Holding → Holding)
     → ((a : Access) → a.gives ≡ None → holding_of (f a) ≡ None)
     → ((a : Access) (value : Option ℕ) → a.gives ≡ Some value
-        → holding_of (f a) ≡ Some (g (record { value = value; begun = a.begun; over = a.ended; sure = a.sure; many = false })))
+    → holding_of (f a) ≡ Some (g (record { value = value; begun = a.begun; over = a.ended; sure = a.sure; many = false })))
     → (a : Access) → holding_of (f a) ≡ option_map g (holding_of a)
 by_gives f g none some a = by_is a.gives refl
   where
@@ -209,12 +213,13 @@ module _ (start : Option ℕ) (run : Run) (holds : Holds start run) where
   told_holds : (number byte : ℕ) → Holds start (run_next run (Tells number byte))
   told_holds number byte =
       mapped_holds start run (changed_of number (telling byte)) run.held whole
-          (step_of run.now number (telling byte) (kept_step run.now (telling byte) (λ a. refl) (λ a. refl))) holds
-          (ap (λ hs. beginning start ∷ hs) (mapped_same run.accesses)) holds.short
+      (step_of run.now number (telling byte) (kept_step run.now (telling byte) (λ a. refl) (λ a. refl))) holds
+      (ap (λ hs. beginning start ∷ hs) (mapped_same run.accesses)) holds.short
     where
       same : (a : Access) (b : Bool) → holding_of (if b then telling byte a else a) ≡ holding_of a
       same a true = refl
       same a false = refl
+
       mapped_same : (accesses : List Access) → filter_map holding_of (with_changed number (telling byte) accesses) ≡ filter_map holding_of accesses
       mapped_same [] = refl
       mapped_same (a ∷ accesses) =
@@ -226,63 +231,68 @@ module _ (start : Option ℕ) (run : Run) (holds : Holds start run) where
       → Holds start (record run { accesses = with_changed number f run.accesses; held = held })
   changed_holds number f g held is same short =
       mapped_holds start run (changed_of number f) held (with_change number g whole) (step_of run.now number f is) holds
-          (whole_changed number f g same start run.accesses) short
+      (whole_changed number f g same start run.accesses) short
 
   gives_holds : (number : ℕ) (value : Option ℕ) → Holds start (run_next run (Gives number value))
   gives_holds number value =
       changed_holds number (giving value) (λ h. record h { value = value }) (with_value number value run.held)
-          (kept_step run.now (giving value) (λ a. refl) (λ a. refl))
-          (by_gives (giving value) (λ h. record h { value = value }) (λ a is. rw is refl) (λ a old is. rw is refl))
-          (short_value run.oldest run.now holds.settled number whole run.held holds.short value)
+      (kept_step run.now (giving value) (λ a. refl) (λ a. refl))
+      (by_gives (giving value) (λ h. record h { value = value }) (λ a is. rw is refl) (λ a old is. rw is refl))
+      (short_value run.oldest run.now holds.settled number whole run.held holds.short value)
 
   sure_holds : (number : ℕ) → Holds start (run_next run (TakesEffect number))
   sure_holds number =
       changed_holds number taking_effect (λ h. record h { sure = true }) (with_sure number run.held)
-          (kept_step run.now taking_effect (λ a. refl) (λ a. refl))
-          (by_gives taking_effect (λ h. record h { sure = true }) (λ a is. rw is refl) (λ a old is. rw is refl))
-          (short_sure run.oldest run.now holds.settled number whole run.held holds.short)
+      (kept_step run.now taking_effect (λ a. refl) (λ a. refl))
+      (by_gives taking_effect (λ h. record h { sure = true }) (λ a is. rw is refl) (λ a old is. rw is refl))
+      (short_sure run.oldest run.now holds.settled number whole run.held holds.short)
 
   fails_holds : (number : ℕ) → Holds start (run_next run (Fails number))
   fails_holds number =
       changed_holds number failing (λ h. record h { value = None; sure = false }) (with_failed number run.held)
-          (kept_step run.now failing (λ a. refl) (λ a. refl))
-          (by_gives failing (λ h. record h { value = None; sure = false }) (λ a is. rw is refl) (λ a old is. rw is refl))
-          (short_failed run.oldest run.now holds.settled number whole run.held holds.short)
+      (kept_step run.now failing (λ a. refl) (λ a. refl))
+      (by_gives failing (λ h. record h { value = None; sure = false }) (λ a is. rw is refl) (λ a old is. rw is refl))
+      (short_failed run.oldest run.now holds.settled number whole run.held holds.short)
 
   ends_holds : (number : ℕ) → Holds start (run_next run (Ends number))
   ends_holds number =
       changed_holds number (ending run.now) (λ h. record h { over = Some run.now }) (with_ended number run.now run.held)
-          (record { begun = λ a. refl; ended = λ a time some. inr (sym (let same : run.now ≡ time = cc in same)); live = λ a none. absurd (cc) })
-          (by_gives (ending run.now) (λ h. record h { over = Some run.now }) (λ a is. rw is refl) (λ a old is. rw is refl))
-          (short_ended run.oldest run.now holds.settled number whole run.held holds.short)
+      (record { begun = λ a. refl; ended = λ a time some. inr (sym (let same : run.now ≡ time = cc in same)); live = λ a none. absurd (cc) })
+      (by_gives (ending run.now) (λ h. record h { over = Some run.now }) (λ a is. rw is refl) (λ a old is. rw is refl))
+      (short_ended run.oldest run.now holds.settled number whole run.held holds.short)
 
   -- one that gives nothing more has no holding more
   out_holds : (number : ℕ) → Holds start (run_next run (LeavesOut number))
   out_holds number =
       mapped_holds start run (changed_of number giving_nothing) (without number run.held) (without number whole)
-          (step_of run.now number giving_nothing (kept_step run.now giving_nothing (λ a. refl) (λ a. refl))) holds
-          same_whole (short_without run.oldest run.now holds.settled number whole run.held holds.short)
+      (step_of run.now number giving_nothing (kept_step run.now giving_nothing (λ a. refl) (λ a. refl))) holds
+      same_whole (short_without run.oldest run.now holds.settled number whole run.held holds.short)
     where
       either : (a : Access) (b : Bool) → (holding_of (if b then giving_nothing a else a) ≡ None) ⊎ (holding_of (if b then giving_nothing a else a) ≡ holding_of a)
       either a true = inl refl
       either a false = inr refl
+
       open_now : (a : Access) (h : Holding) → holding_of a ≡ Some h → is_open_of number h ≡ (a.begun == number && is_none a.ended)
       open_now a h is =
           let parts = holding_parts a h is in
           rw (parts.alone, parts.begun, parts.over) refl
+
       gone : (a : Access) (b : Bool) → (a.begun == number && is_none a.ended) ≡ b → holding_of (if b then giving_nothing a else a) ≡ None
           → (h : Holding) → holding_of a ≡ Some h → not (is_open_of number h) ≡ false
       gone a true is none h at = ap not (open_now a h at ∙ is)
       gone a false is none h at = let bad : Some h ≡ None = sym at ∙ none in absurd (cc)
+
       kept : (a : Access) (b : Bool) → (a.begun == number && is_none a.ended) ≡ b → (h : Holding)
           → holding_of (if b then giving_nothing a else a) ≡ Some h → not (is_open_of number h) ≡ true
       kept a true is h at = let bad : None ≡ Some h = at in absurd (cc)
       kept a false is h at = ap not (open_now a h at ∙ is)
+
       rest_left : filter_map holding_of (with_changed number giving_nothing run.accesses) ≡ filter (λ h. not (is_open_of number h)) (filter_map holding_of run.accesses)
       rest_left =
           left_out (changed_of number giving_nothing) (λ h. not (is_open_of number h)) (λ a. either a (a.begun == number && is_none a.ended))
-              (λ a none h at. gone a (a.begun == number && is_none a.ended) refl none h at)
-              (λ a h at. kept a (a.begun == number && is_none a.ended) refl h at) run.accesses
+          (λ a none h at. gone a (a.begun == number && is_none a.ended) refl none h at)
+          (λ a h at. kept a (a.begun == number && is_none a.ended) refl h at) run.accesses
+
       same_whole : all_holdings start (with_changed number giving_nothing run.accesses) ≡ without number whole
       same_whole =
           let closed : is_open_of number (beginning start) ≡ false = and_right (not false && 0 == number) false refl in
@@ -292,34 +302,40 @@ module _ (start : Option ℕ) (run : Run) (holds : Holds start run) where
   resets_holds : Holds start (run_next run Resets)
   resets_holds =
       mapped_holds start run (cut_short run.now) (with_reset run.now run.held) (with_reset run.now whole) step holds
-          (ap (λ hs. beginning start ∷ hs) (mapped (cut_short run.now) (cut_off run.now) alike run.accesses))
-          (short_reset run.oldest run.now holds.settled whole run.held holds.short)
+      (ap (λ hs. beginning start ∷ hs) (mapped (cut_short run.now) (cut_off run.now) alike run.accesses))
+      (short_reset run.oldest run.now holds.settled whole run.held holds.short)
     where
       begun : (a : Access) (b : Bool) → (if b then record a { ended = Some run.now; sure = false } else a).begun ≡ a.begun
       begun a true = refl
       begun a false = refl
+
       ended : (a : Access) (time : ℕ) (b : Bool) → (if b then record a { ended = Some run.now; sure = false } else a).ended ≡ Some time
           → (a.ended ≡ Some time) ⊎ (time ≡ run.now)
       ended a time true some = inr (sym (let same : run.now ≡ time = cc in same))
       ended a time false some = inl some
+
       live : (a : Access) (b : Bool) → (if b then record a { ended = Some run.now; sure = false } else a).ended ≡ None → a.ended ≡ None
       live a true none = absurd (cc)
       live a false none = none
+
       step : IsStep run.now (cut_short run.now)
       step = record {
         begun = λ a. begun a (is_none a.ended);
         ended = λ a time. ended a time (is_none a.ended);
         live = λ a. live a (is_none a.ended);
       }
+
       by_test : (a : Access) (value : Option ℕ) (b : Bool) → a.gives ≡ Some value
           → holding_of (if b then record a { ended = Some run.now; sure = false } else a)
           ≡ Some (if b then record { value = value; begun = a.begun; over = Some run.now; sure = false; many = false }
-              else record { value = value; begun = a.begun; over = a.ended; sure = a.sure; many = false })
+          else record { value = value; begun = a.begun; over = a.ended; sure = a.sure; many = false })
       by_test a value true is = rw is refl
       by_test a value false is = rw is refl
+
       no_test : (a : Access) (b : Bool) → a.gives ≡ None → holding_of (if b then record a { ended = Some run.now; sure = false } else a) ≡ None
       no_test a true is = rw is refl
       no_test a false is = rw is refl
+
       alike : (a : Access) → holding_of (cut_short run.now a) ≡ option_map (cut_off run.now) (holding_of a)
       alike =
           by_gives (cut_short run.now) (cut_off run.now) (λ a is. no_test a (is_none a.ended) is) (λ a value is. by_test a value (is_none a.ended) is)
@@ -357,22 +373,23 @@ module _ (start : Option ℕ) (run : Run) (holds : Holds start run) where
     where
       parts : (b : Access) → IsOneOf b (run.accesses ++ a ∷ []) → IsOneOf b run.accesses ⊎ IsOneOf b (a ∷ [])
       parts b at = from_append b run.accesses (a ∷ []) at
+
       is_last : (b : Access) → IsOneOf b (a ∷ []) → b ≡ a
       is_last b at = ⊎_elim (λ same. same) (λ none. absurd none) at
 
   reads_holds : (number : ℕ) → run.now < number → Holds start (run_next run (Reads number))
   reads_holds number comes =
       begun_holds number (reading number) run.held comes refl refl
-          (subst (λ hs. IsShortOf run.oldest number holds.settled hs run.held)
-              (ap (λ hs. beginning start ∷ hs) (sym (appended run.accesses (reading number) ∙ append-nil (filter_map holding_of run.accesses))))
-              (short_later run.oldest run.now number holds.settled whole run.held (omega (arith, comes)) holds.short))
+      (subst (λ hs. IsShortOf run.oldest number holds.settled hs run.held)
+      (ap (λ hs. beginning start ∷ hs) (sym (appended run.accesses (reading number) ∙ append-nil (filter_map holding_of run.accesses))))
+      (short_later run.oldest run.now number holds.settled whole run.held (omega (arith, comes)) holds.short))
 
   writes_holds : (number : ℕ) → run.now < number → Holds start (run_next run (Writes number))
   writes_holds number comes =
       begun_holds number (writing number) (begun_within 8 number run.held) comes refl refl
-          (subst (λ hs. IsShortOf run.oldest number holds.settled hs (begun_within 8 number run.held))
-              (ap (λ hs. beginning start ∷ hs) (sym (appended run.accesses (writing number))))
-              (short_begun_within 8 run.oldest run.now number holds.settled whole run.held comes holds.short))
+      (subst (λ hs. IsShortOf run.oldest number holds.settled hs (begun_within 8 number run.held))
+      (ap (λ hs. beginning start ∷ hs) (sym (appended run.accesses (writing number))))
+      (short_begun_within 8 run.oldest run.now number holds.settled whole run.held comes holds.short))
 
   others_holds : (number : ℕ) → run.now < number → Holds start (run_next run (Others number))
   others_holds number comes = record {
@@ -435,7 +452,7 @@ module _ (start : Option ℕ) (run : Run) (holds : Holds start run) where
       → NoOrderExplains start run.accesses number byte
   blames_rightly number byte flight none =
       short_rightly run.held number byte none run.oldest run.now holds.settled start run.accesses holds.timed (flight.one, flight.there, flight.begun)
-          (subst (λ n. run.oldest ≤ n) flight.begun (holds.live flight.one flight.there flight.live)) holds.short
+      (subst (λ n. run.oldest ≤ n) flight.begun (holds.live flight.one flight.there flight.live)) holds.short
 
 first_holds : (start : Option ℕ) → Holds start (first_run start)
 first_holds start = record {
@@ -456,4 +473,4 @@ pub runs_rightly : (held : List Holding) (number byte : ℕ) → may_be_told hel
 runs_rightly held number byte none start events may same flight =
     let run = run_after (first_run start) events in
     blames_rightly start run (after_holds start (first_run start) events may (first_holds start)) number byte flight
-        (ap (λ hs. may_be_told hs number byte) (sym same) ∙ none)
+    (ap (λ hs. may_be_told hs number byte) (sym same) ∙ none)

@@ -50,8 +50,8 @@ hidden_later hs early late h grows hidden =
     let found = any_to (hides early h) hs hidden in
     let parts = hides_parts early h found.one found.holds in
     any_from (hides late h) found.one hs found.there
-        (hides_from late h found.one
-            (record { before = parts.before; sure = parts.sure; passed = before_later found.one.over early late grows parts.passed }))
+    (hides_from late h found.one
+    (record { before = parts.before; sure = parts.sure; passed = before_later found.one.over early late grows parts.passed }))
 
 -- ---- a short list beside the whole
 
@@ -60,7 +60,7 @@ module _ (oldest now settled : ℕ) (whole hs : List Holding) (short : IsShortOf
   before_too : (h w o : Holding) → StandsFor settled h w → settled < o.begun → is_before h.over o.begun ≡ true → is_before w.over o.begun ≡ true
   before_too h w o stands since before =
       ⊎_elim (λ same. ap (λ (x : Holding). is_before x.over o.begun) (sym same) ∙ before)
-          (λ other. ⊎_elim (λ old. before_from w.over old.time o.begun old.over (omega (arith, old.past, since))) (λ crowd. by_crowd crowd) other) stands
+      (λ other. ⊎_elim (λ old. before_from w.over old.time o.begun old.over (omega (arith, old.past, since))) (λ crowd. by_crowd crowd) other) stands
     where
       by_crowd : IsCrowdOf h w → is_before w.over o.begun ≡ true
       by_crowd crowd =
@@ -75,12 +75,13 @@ module _ (oldest now settled : ℕ) (whole hs : List Holding) (short : IsShortOf
       by_parts : (o : Holding) → HidesIt reader h o → IsFrom now settled whole o → is_hidden whole reader w ≡ true
       by_parts o parts origin =
           ⊎_elim
-              (λ same. absurd (both_ways (is_before h.over 0) (never_before_start h.over) (ap (λ (x : Holding). is_before h.over x.begun) (sym same) ∙ parts.before)))
-              (λ other.
-                  ⊎_elim
-                      (λ kept. any_from (hides reader w) o whole kept.there
-                          (hides_from reader w o (record { before = before_too h w o stands kept.since parts.before; sure = parts.sure; passed = parts.passed })))
-                      (λ crowd. absurd (both_ways o.sure crowd.unsure parts.sure)) other) origin
+          (λ same. absurd (both_ways (is_before h.over 0) (never_before_start h.over) (ap (λ (x : Holding). is_before h.over x.begun) (sym same) ∙ parts.before)))
+          (λ other.
+          ⊎_elim
+          (λ kept. any_from (hides reader w) o whole kept.there
+          (hides_from reader w o (record { before = before_too h w o stands kept.since parts.before; sure = parts.sure; passed = parts.passed })))
+          (λ crowd. absurd (both_ways o.sure crowd.unsure parts.sure)) other) origin
+
       by_origin : HasOne (λ o. hides reader h o ≡ true) hs → is_hidden whole reader w ≡ true
       by_origin found = by_parts found.one (hides_parts reader h found.one found.holds) (short.from found.one found.there)
 
@@ -88,15 +89,15 @@ module _ (oldest now settled : ℕ) (whole hs : List Holding) (short : IsShortOf
   own_too : (number : ℕ) (h w : Holding) → 0 < number → StandsFor settled h w → is_own number w ≡ false → is_own number h ≡ false
   own_too number h w positive stands other =
       ⊎_elim (λ same. ap (λ (x : Holding). is_own number x) same ∙ other)
-          (λ rest. ⊎_elim (λ old. ap (λ (x : Holding). is_own number x) old.is ∙ ne_eqb 0 number (λ same. omega (arith, positive, same)))
-              (λ crowd. and_left (not h.many) (h.begun == number) (ap not crowd.many)) rest) stands
+      (λ rest. ⊎_elim (λ old. ap (λ (x : Holding). is_own number x) old.is ∙ ne_eqb 0 number (λ same. omega (arith, positive, same)))
+      (λ crowd. and_left (not h.many) (h.begun == number) (ap not crowd.many)) rest) stands
 
   show_too : (byte : ℕ) (h w : Holding) → StandsFor settled h w → may_show w.value byte ≡ true → may_show h.value byte ≡ true
   show_too byte h w stands shows =
       ⊎_elim (λ same. ap (λ (x : Holding). may_show x.value byte) same ∙ shows)
-          (λ rest.
-              ⊎_elim (λ old. ⊎_elim (λ none. ap (λ v. may_show v byte) none) (λ same. ap (λ v. may_show v byte) same ∙ shows) old.value)
-                  (λ crowd. ap (λ v. may_show v byte) crowd.value) rest) stands
+      (λ rest.
+      ⊎_elim (λ old. ⊎_elim (λ none. ap (λ v. may_show v byte) none) (λ same. ap (λ v. may_show v byte) same ∙ shows) old.value)
+      (λ crowd. ap (λ v. may_show v byte) crowd.value) rest) stands
 
   -- what the whole list lets a reader be told the short one does
   pub still_told : (number byte : ℕ) → 0 < number → oldest ≤ number → may_be_told whole number byte ≡ true → may_be_told hs number byte ≡ true
@@ -107,14 +108,15 @@ module _ (oldest now settled : ℕ) (whole hs : List Holding) (short : IsShortOf
       by_one w there other seen shows has =
           let h = has.one in
           let unhidden : is_hidden hs number h ≡ false =
-              false_from_ne_true (is_hidden hs number h)
-                  (λ hidden. both_ways (is_hidden whole number w) seen (hidden_too number h w has.stands hidden)) in
+          false_from_ne_true (is_hidden hs number h)
+          (λ hidden. both_ways (is_hidden whole number w) seen (hidden_too number h w has.stands hidden)) in
           any_from (λ x. may_find hs number x && may_show x.value byte) h hs has.there
-              (and_from (may_find hs number h) (may_show h.value byte)
-                  (and_from (not (is_own number h)) (not (is_hidden hs number h))
-                      (not_from_false (is_own number h) (own_too number h w positive has.stands other))
-                      (not_from_false (is_hidden hs number h) unhidden))
-                  (show_too byte h w has.stands shows))
+          (and_from (may_find hs number h) (may_show h.value byte)
+          (and_from (not (is_own number h)) (not (is_hidden hs number h))
+          (not_from_false (is_own number h) (own_too number h w positive has.stands other))
+          (not_from_false (is_hidden hs number h) unhidden))
+          (show_too byte h w has.stands shows))
+
       by_found : HasOne (λ w. (may_find whole number w && may_show w.value byte) ≡ true) whole → may_be_told hs number byte ≡ true
       by_found found =
           let w = found.one in
@@ -122,8 +124,8 @@ module _ (oldest now settled : ℕ) (whole hs : List Holding) (short : IsShortOf
           let finds = and_parts (not (is_own number w)) (not (is_hidden whole number w)) parts.0 in
           let seen = not-true (is_hidden whole number w) finds.1 in
           let early : is_hidden whole oldest w ≡ false =
-              false_from_ne_true (is_hidden whole oldest w)
-                  (λ hidden. both_ways (is_hidden whole number w) seen (hidden_later whole oldest number w late hidden)) in
+          false_from_ne_true (is_hidden whole oldest w)
+          (λ hidden. both_ways (is_hidden whole number w) seen (hidden_later whole oldest number w late hidden)) in
           by_one w found.there (not-true (is_own number w) finds.0) seen parts.1 (short.kept w found.there early)
 
 -- what a short list doesn't let a reader be told no order explains
@@ -131,6 +133,6 @@ pub short_rightly : (hs : List Holding) (number byte : ℕ) → may_be_told hs n
 short_rightly hs number byte none oldest now settled start accesses timed begun late short =
     let positive : 0 < number = subst (λ n. 0 < n) begun.2 (timed.after_start begun.0 begun.1) in
     blamed_rightly start accesses number byte timed begun
-        (false_from_ne_true (may_be_told (all_holdings start accesses) number byte)
-            (λ told. both_ways (may_be_told hs number byte) none
-                (still_told oldest now settled (all_holdings start accesses) hs short number byte positive late told)))
+    (false_from_ne_true (may_be_told (all_holdings start accesses) number byte)
+    (λ told. both_ways (may_be_told hs number byte) none
+    (still_told oldest now settled (all_holdings start accesses) hs short number byte positive late told)))

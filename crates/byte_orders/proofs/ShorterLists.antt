@@ -24,7 +24,7 @@ module _ (oldest now settled number : ℕ) (whole hs : List Holding) (short : Is
   crowd_stays : (h : Holding) → h.many ≡ true → stays h ≡ true
   crowd_stays h many =
       not_from_false (is_open_of number h)
-          (and_left (is_own number h) (is_none h.over) (and_left (not h.many) (h.begun == number) (ap not many)))
+      (and_left (is_own number h) (is_none h.over) (and_left (not h.many) (h.begun == number) (ap not many)))
 
   left_hidden : (w : Holding) → is_hidden whole oldest w ≡ true → is_hidden (filter stays whole) oldest w ≡ true
   left_hidden w hidden =
@@ -45,17 +45,18 @@ module _ (oldest now settled number : ℕ) (whole hs : List Holding) (short : Is
       kept_one : (w : Holding) → IsOneOf w whole → stays w ≡ true → is_hidden (filter stays whole) oldest w ≡ false → HasFor settled (filter stays hs) w
       kept_one w at passes seen =
           let has = short.kept w at
-              (false_from_ne_true (is_hidden whole oldest w) (λ hidden. both_ways (is_hidden (filter stays whole) oldest w) seen (left_hidden w hidden))) in
+          (false_from_ne_true (is_hidden whole oldest w) (λ hidden. both_ways (is_hidden (filter stays whole) oldest w) seen (left_hidden w hidden))) in
           let left : stays has.one ≡ true =
-              ⊎_elim (λ same. ap stays same ∙ passes)
-                  (λ rest. ⊎_elim (λ (old : IsSettledOf settled has.one w). over_stays has.one 0 (ap (λ (x : Holding). x.over) old.is))
-                      (λ (one : IsCrowdOf has.one w). crowd_stays has.one one.many) rest) has.stands in
+          ⊎_elim (λ same. ap stays same ∙ passes)
+          (λ rest. ⊎_elim (λ (old : IsSettledOf settled has.one w). over_stays has.one 0 (ap (λ (x : Holding). x.over) old.is))
+          (λ (one : IsCrowdOf has.one w). crowd_stays has.one one.many) rest) has.stands in
           record { one = has.one; there = in_filter stays has.one hs has.there left; stands = has.stands }
+
       from_one : (h : Holding) → stays h ≡ true → IsFrom now settled whole h → IsFrom now settled (filter stays whole) h
       from_one h passes origin =
           ⊎_elim (λ same. inl same)
-              (λ other. inr (⊎_elim (λ (kept : IsKept settled whole h). inl (record { there = in_filter stays h whole kept.there passes; since = kept.since }))
-                  (λ one. inr one) other)) origin
+          (λ other. inr (⊎_elim (λ (kept : IsKept settled whole h). inl (record { there = in_filter stays h whole kept.there passes; since = kept.since }))
+          (λ one. inr one) other)) origin
 
 -- ---- pruned by the oldest in flight
 
@@ -72,11 +73,11 @@ module _ (oldest late now settled : ℕ) (whole hs : List Holding) (short : IsSh
       kept_one : (w : Holding) → IsOneOf w whole → is_hidden whole late w ≡ false → HasFor settled (pruned late hs) w
       kept_one w at seen =
           let has = short.kept w at
-              (false_from_ne_true (is_hidden whole oldest w) (λ hidden. both_ways (is_hidden whole late w) seen (hidden_later whole oldest late w grows hidden))) in
+          (false_from_ne_true (is_hidden whole oldest w) (λ hidden. both_ways (is_hidden whole late w) seen (hidden_later whole oldest late w grows hidden))) in
           let left : is_hidden hs late has.one ≡ false =
-              false_from_ne_true (is_hidden hs late has.one)
-                  (λ hidden. both_ways (is_hidden whole late w) seen
-                      (hidden_too oldest now settled whole hs short late has.one w has.stands hidden)) in
+          false_from_ne_true (is_hidden hs late has.one)
+          (λ hidden. both_ways (is_hidden whole late w) seen
+          (hidden_too oldest now settled whole hs short late has.one w has.stands hidden)) in
           record {
             one = has.one;
             there = in_filter (λ x. not (is_hidden hs late x)) has.one hs has.there (not_from_false (is_hidden hs late has.one) left);
@@ -98,6 +99,7 @@ short_crowd oldest now settled whole hs short =
   where
     stands_for : (w : Holding) → IsTimed now w → IsCrowdOf (crowd now) w
     stands_for w timed = record { many = refl; value = refl; begun = timed.begun; ended = λ time over. absurd (cc) }
+
     origin : IsFrom now settled whole (crowd now)
     origin = inr (inr (record { many = refl; unsure = refl; begun = omega arith }))
 
@@ -110,13 +112,13 @@ crowd_tells now number byte = refl
 closed_kept : (oldest now : ℕ) (h : Holding) (time : ℕ) → h.over ≡ Some time → closed oldest now h ≡ h
 closed_kept oldest now h time over =
     let still : (h.many && is_none h.over && nat_lt h.begun oldest) ≡ false =
-        and_left (h.many && is_none h.over) (nat_lt h.begun oldest) (and_right h.many (is_none h.over) (not_none h time over)) in
+    and_left (h.many && is_none h.over) (nat_lt h.begun oldest) (and_right h.many (is_none h.over) (not_none h time over)) in
     rw still refl
 
 closed_alone : (oldest now : ℕ) (h : Holding) → h.many ≡ false → closed oldest now h ≡ h
 closed_alone oldest now h alone =
     let still : (h.many && is_none h.over && nat_lt h.begun oldest) ≡ false =
-        and_left (h.many && is_none h.over) (nat_lt h.begun oldest) (and_left h.many (is_none h.over) alone) in
+    and_left (h.many && is_none h.over) (nat_lt h.begun oldest) (and_left h.many (is_none h.over) alone) in
     rw still refl
 
 map_same : (f : Holding → Holding) (hs : List Holding) → ((h : Holding) → IsOneOf h hs → f h ≡ h) → map f hs ≡ hs
@@ -142,7 +144,7 @@ module _ (late now : ℕ) (whole : List Holding) (none_older : NoneOlder late wh
         unsure = λ h many unsure. by_test h (λ x. x.sure ≡ false) (λ holds. unsure) unsure;
         crowds = λ h w at timed one.
             subst (λ x. IsCrowdOf (closed late now h) x) (sym (closed_alone late now w timed.alone))
-                (by_test h (λ x. IsCrowdOf x w) (λ holds. over_now h w at timed one holds) one);
+            (by_test h (λ x. IsCrowdOf x w) (λ holds. over_now h w at timed one holds) one);
       }
     where
       over_now : (h w : Holding) → IsOneOf w whole → IsTimed now w → IsCrowdOf h w → (h.many && is_none h.over && nat_lt h.begun late) ≡ true
@@ -157,8 +159,8 @@ module _ (late now : ℕ) (whole : List Holding) (none_older : NoneOlder late wh
             ended = λ time over.
                 let same : now ≡ time = cc in
                 by_option w.over ((end : ℕ) × (w.over ≡ Some end) × (end ≤ time))
-                    (λ none. absurd (omega (arith, none_older w at none, early, one.begun)))
-                    (λ end is. (end, is, omega (arith, same, timed.past end is)));
+                (λ none. absurd (omega (arith, none_older w at none, early, one.begun)))
+                (λ end is. (end, is, omega (arith, same, timed.past end is)));
           }
 
 -- a crowd is over once none that it stands for is in flight
@@ -166,9 +168,9 @@ pub short_closed : (oldest late now settled : ℕ) (whole hs : List Holding) →
     → IsShortOf oldest now settled whole (with_closed late now hs)
 short_closed oldest late now settled whole hs none_older short =
     let same : map (closed late now) whole ≡ whole =
-        map_same (closed late now) whole (λ w at. closed_alone late now w (short.timed w at).alone) in
+    map_same (closed late now) whole (λ w at. closed_alone late now w (short.timed w at).alone) in
     subst (λ ws. IsShortOf oldest now settled ws (with_closed late now hs)) same
-        (short_changed oldest now settled whole hs (closed late now) (close_change late now whole none_older) short)
+    (short_changed oldest now settled whole hs (closed late now) (close_change late now whole none_older) short)
 
 -- ---- one that is left alone
 
@@ -191,11 +193,13 @@ short_settled oldest now settled whole h time over short =
           there = inl refl;
           stands = inr (inl (record { is = refl; value = value; time = end; over = is; past = timed.past end is }));
         }
+
     by_stands : (w : Holding) → IsTimed now w → StandsFor settled h w → HasFor now (beginning h.value ∷ []) w
     by_stands w timed stands =
         ⊎_elim (λ same. by_end w time (ap (λ (x : Holding). x.over) (sym same) ∙ over) timed (inr (ap (λ (x : Holding). x.value) same)))
-            (λ rest. ⊎_elim (λ (old : IsSettledOf settled h w). by_end w old.time old.over timed old.value)
-                (λ (one : IsCrowdOf h w). let end = one.ended time over in by_end w end.0 end.1 timed (inl one.value)) rest) stands
+        (λ rest. ⊎_elim (λ (old : IsSettledOf settled h w). by_end w old.time old.over timed old.value)
+        (λ (one : IsCrowdOf h w). let end = one.ended time over in by_end w end.0 end.1 timed (inl one.value)) rest) stands
+
     kept_one : (w : Holding) → IsTimed now w → HasFor settled (h ∷ []) w → HasFor now (beginning h.value ∷ []) w
     kept_one w timed has =
         by_stands w timed (⊎_elim (λ same. subst (λ x. StandsFor settled x w) same has.stands) (λ none. absurd none) has.there)
@@ -228,13 +232,13 @@ module _ (hs : List Holding) (timed : (h : Holding) → IsOneOf h hs → OverLat
           let one = came_at h.over o.begun mine.before in
           let next = came_at o.over found.one.begun other.before in
           both_ways (is_hidden hs oldest h) seen
-              (any_from (hides oldest h) found.one hs found.there
-                  (hides_from oldest h found.one
-                      (record {
-                        before = before_from h.over one.at found.one.begun one.is (omega (arith, one.before, next.before, timed o at next.at next.is));
-                        sure = other.sure;
-                        passed = other.passed;
-                      })))
+          (any_from (hides oldest h) found.one hs found.there
+          (hides_from oldest h found.one
+          (record {
+            before = before_from h.over one.at found.one.begun one.is (omega (arith, one.before, next.before, timed o at next.at next.is));
+            sure = other.sure;
+            passed = other.passed;
+          })))
 
   same_hidden : (h : Holding) → left h ≡ true → is_hidden (pruned oldest hs) number h ≡ is_hidden hs number h
   same_hidden h passes = same_tests (is_hidden (pruned oldest hs) number h) (is_hidden hs number h) forward backward
@@ -243,13 +247,14 @@ module _ (hs : List Holding) (timed : (h : Holding) → IsOneOf h hs → OverLat
       forward hidden =
           let found = any_to (hides number h) (pruned oldest hs) hidden in
           any_from (hides number h) found.one hs (from_filter left found.one hs found.there).there found.holds
+
       backward : is_hidden hs number h ≡ true → is_hidden (pruned oldest hs) number h ≡ true
       backward hidden =
           let found = any_to (hides number h) hs hidden in
           any_from (hides number h) found.one (pruned oldest hs)
-              (in_filter left found.one hs found.there
-                  (hiding_left h found.one found.there (not-true (is_hidden hs oldest h) passes) found.holds))
-              found.holds
+          (in_filter left found.one hs found.there
+          (hiding_left h found.one found.there (not-true (is_hidden hs oldest h) passes) found.holds))
+          found.holds
 
   -- what a reader may be told of a holding that passes a test
   abbrev tells : List Holding → (Holding → Bool) → Bool
@@ -263,7 +268,8 @@ module _ (hs : List Holding) (timed : (h : Holding) → IsOneOf h hs → OverLat
           let found = any_to (λ h. may_find (pruned oldest hs) number h && test h) (pruned oldest hs) some in
           let at = from_filter left found.one hs found.there in
           any_from (λ h. may_find hs number h && test h) found.one hs at.there
-              (ap (λ b. not (is_own number found.one) && not b && test found.one) (sym (same_hidden found.one at.passes)) ∙ found.holds)
+          (ap (λ b. not (is_own number found.one) && not b && test found.one) (sym (same_hidden found.one at.passes)) ∙ found.holds)
+
       backward : tells hs test ≡ true → tells (pruned oldest hs) test ≡ true
       backward some =
           let found = any_to (λ h. may_find hs number h && test h) hs some in
@@ -271,11 +277,11 @@ module _ (hs : List Holding) (timed : (h : Holding) → IsOneOf h hs → OverLat
           let finds = and_parts (may_find hs number h) (test h) found.holds in
           let seen = not-true (is_hidden hs number h) (and_parts (not (is_own number h)) (not (is_hidden hs number h)) finds.0).1 in
           let passes : left h ≡ true =
-              not_from_false (is_hidden hs oldest h)
-                  (false_from_ne_true (is_hidden hs oldest h)
-                      (λ hidden. both_ways (is_hidden hs number h) seen (hidden_later hs oldest number h late hidden))) in
+          not_from_false (is_hidden hs oldest h)
+          (false_from_ne_true (is_hidden hs oldest h)
+          (λ hidden. both_ways (is_hidden hs number h) seen (hidden_later hs oldest number h late hidden))) in
           any_from (λ x. may_find (pruned oldest hs) number x && test x) h (pruned oldest hs) (in_filter left h hs found.there passes)
-              (ap (λ b. not (is_own number h) && not b && test h) (same_hidden h passes) ∙ found.holds)
+          (ap (λ b. not (is_own number h) && not b && test h) (same_hidden h passes) ∙ found.holds)
 
   -- pruning changes no answer to a reader that is no older
   pub pruned_tells : (byte : ℕ) → may_be_told (pruned oldest hs) number byte ≡ may_be_told hs number byte
@@ -290,6 +296,7 @@ short_begun_within most oldest now number settled whole hs comes short = by_test
   where
     more : IsShortOf oldest number settled (with_begun number whole) (with_begun number hs)
     more = short_begun oldest now number settled whole hs comes short
+
     by_test : (room : Bool) → IsShortOf oldest number settled (with_begun number whole) (if room then with_begun number hs else crowd number ∷ [])
     by_test true = more
     by_test false = short_crowd oldest number settled (with_begun number whole) (with_begun number hs) more

@@ -32,12 +32,12 @@ module _ (start : Option ℕ) (accesses order : List Access) (timed : AreTimed a
   last_there : IsOneOf last whole
   last_there =
       last_holds (λ h. IsOneOf h whole) (beginning start) order q.begun (inl refl)
-          (λ a g at is. inr (in_filter_map holding_of a g accesses (is_order.some a at) is))
+      (λ a g at is. inr (in_filter_map holding_of a g accesses (is_order.some a at) is))
 
   not_own : is_own q.begun last ≡ false
   not_own =
       and_right (not last.many) (last.begun == q.begun)
-          (ne_eqb last.begun q.begun (last_other (beginning start) order q.begun (λ same. omega (arith, timed.after_start q there, same))))
+      (ne_eqb last.begun q.begun (last_other (beginning start) order q.begun (λ same. omega (arith, timed.after_start q there, same))))
 
   -- one that hides it would have taken effect between the two
   never_hidden : HasOne (λ o. hides q.begun last o ≡ true) whole → ⊥
@@ -45,7 +45,7 @@ module _ (start : Option ℕ) (accesses order : List Access) (timed : AreTimed a
       let parts = and_parts (comes_before last found.one) (has_passed q.begun found.one) found.holds in
       let passed = and_parts found.one.sure (is_before found.one.over q.begun) parts.1 in
       ⊎_elim (λ same. both_ways (comes_before last (beginning start)) (never_before_start last.over) (ap (λ o. comes_before last o) (sym same) ∙ parts.0))
-          (λ later. by_access passed.0 passed.1 parts.0 (from_filter_map holding_of found.one accesses later)) found.there
+      (λ later. by_access passed.0 passed.1 parts.0 (from_filter_map holding_of found.one accesses later)) found.there
     where
       by_access : found.one.sure ≡ true → is_before found.one.over q.begun ≡ true → comes_before last found.one ≡ true
           → HasOne (λ a. holding_of a ≡ Some found.one) accesses → ⊥
@@ -55,21 +55,21 @@ module _ (start : Option ℕ) (accesses order : List Access) (timed : AreTimed a
           let came : is_some giver.one.ended ≡ true = came_before giver.one.ended q.begun ended in
           let effect : has_taken_effect giver.one ≡ true = rw (sym parts.sure, sure, came) (grind arith) in
           both_ways (comes_before last found.one)
-              (last_behind (beginning start) order q.begun giver.one q found.one (is_order.all giver.one giver.there effect) giver.holds reads refl ended
-                  is_order.keeps is_order.once ends_later)
-              before
+          (last_behind (beginning start) order q.begun giver.one q found.one (is_order.all giver.one giver.there effect) giver.holds reads refl ended
+          is_order.keeps is_order.once ends_later)
+          before
 
   pub last_found : may_find whole q.begun last ≡ true
   last_found =
       and_from (not (is_own q.begun last)) (not (is_hidden whole q.begun last)) (not_from_false (is_own q.begun last) not_own)
-          (not_from_false (is_hidden whole q.begun last)
-              (false_from_ne_true (is_hidden whole q.begun last) (λ hidden. never_hidden (any_to (hides q.begun last) whole hidden))))
+      (not_from_false (is_hidden whole q.begun last)
+      (false_from_ne_true (is_hidden whole q.begun last) (λ hidden. never_hidden (any_to (hides q.begun last) whole hidden))))
 
   pub last_told : (byte : ℕ) → may_show (value_at start order q.begun) byte ≡ true → may_be_told whole q.begun byte ≡ true
   last_told byte shows =
       any_from (λ h. may_find whole q.begun h && may_show h.value byte) last whole last_there
-          (and_from (may_find whole q.begun last) (may_show last.value byte) last_found
-              (ap (λ v. may_show v byte) (sym (last_value (beginning start) order q.begun)) ∙ shows))
+      (and_from (may_find whole q.begun last) (may_show last.value byte) last_found
+      (ap (λ v. may_show v byte) (sym (last_value (beginning start) order q.begun)) ∙ shows))
 
 -- what one was told that some order explains it may be told
 pub explained_told : (start : Option ℕ) (accesses : List Access) (q : Access) (byte : ℕ) → AreTimed accesses → IsOneOf q accesses → q.told ≡ Some byte
@@ -125,7 +125,7 @@ module _ (number byte : ℕ) where
     ends_later = λ a time at ended.
         let from = from_map (told_so number byte) a accesses at in
         subst (λ n. n ≤ time) (sym (ap (λ (b : Access). b.begun) from.holds ∙ same_begun from.one))
-            (timed.ends_later from.one time from.there (sym (same_end from.one) ∙ ap (λ (b : Access). b.ended) (sym from.holds) ∙ ended));
+        (timed.ends_later from.one time from.there (sym (same_end from.one) ∙ ap (λ (b : Access). b.ended) (sym from.holds) ∙ ended));
     apart = still_apart accesses timed.apart;
   }
 
@@ -139,9 +139,9 @@ pub blamed_rightly : (start : Option ℕ) (accesses : List Access) (number byte 
 blamed_rightly start accesses number byte timed begun none explained =
     let q = begun.0 in
     let told = explained_told start (with_told number byte accesses) (told_so number byte q) byte (still_timed number byte accesses timed)
-        (in_map (told_so number byte) q accesses begun.1) (told_there number byte q begun.2) explained in
+    (in_map (told_so number byte) q accesses begun.1) (told_there number byte q begun.2) explained in
     let same : (told_so number byte q).begun ≡ number = same_begun number byte q ∙ begun.2 in
     let before : may_be_told (all_holdings start accesses) number byte ≡ true =
-        ap (λ hs. may_be_told (beginning start ∷ hs) number byte) (sym (same_holdings number byte accesses))
-            ∙ ap (λ n. may_be_told (all_holdings start (with_told number byte accesses)) n byte) (sym same) ∙ told in
+    ap (λ hs. may_be_told (beginning start ∷ hs) number byte) (sym (same_holdings number byte accesses))
+    ∙ ap (λ n. may_be_told (all_holdings start (with_told number byte accesses)) n byte) (sym same) ∙ told in
     both_ways (may_be_told (all_holdings start accesses) number byte) none before
