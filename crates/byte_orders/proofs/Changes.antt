@@ -1,7 +1,7 @@
 -- Each event is a change by which a short list stays one: of the holding of one request, a reset, and crowds that are over.
 use Rattle.std.proofs.Common.{◌≡◌, ℕ, ◌≤◌, ◌==◌, Bool, true, false, not, List, Option, Some, None, is_none, if◌then◌else◌, refl, sym, ◌∙◌, ap, subst, arith}
 use Rattle.std.proofs.lemmas.Bool.{and_left, and_right}
-use Rattle.byte_orders.specs.Holdings.{Holding, changed, cut_off, is_open_of, is_own, with_change, with_ended, with_failed, with_reset, with_sure, with_value}
+use Rattle.byte_orders.specs.Holdings.{Holding, changed, cut_off, is_open_of, is_own, with_change, with_reset}
 use Rattle.byte_orders.specs.Keeping.{IsCrowdOf, IsShortOf, IsTimed}
 use Rattle.byte_orders.proofs.KeptShort.{IsChange, short_changed}
 
@@ -47,7 +47,7 @@ module _ (number now : ℕ) (change : Holding → Holding) (own : IsOwnChange no
   changed_begun : (h : Holding) → (changed number change h).begun ≡ h.begun
   changed_begun h = by_test h (λ x. x.begun ≡ h.begun) (own.begun h) refl (is_open_of number h)
 
-  own_change : IsChange now whole (changed number change)
+  pub own_change : IsChange now whole (changed number change)
   own_change = record {
     ended = changed_ended;
     begun = changed_begun;
@@ -60,23 +60,22 @@ module _ (number now : ℕ) (change : Holding → Holding) (own : IsOwnChange no
   }
 
 module _ (oldest now settled number : ℕ) (whole hs : List Holding) (short : IsShortOf oldest now settled whole hs) where
-  by_change : (change : Holding → Holding) → IsOwnChange now change
+  pub by_change : (change : Holding → Holding) → IsOwnChange now change
       → IsShortOf oldest now settled (with_change number change whole) (with_change number change hs)
   by_change change own = short_changed oldest now settled whole hs (changed number change) (own_change number now change own whole) short
 
-  pub short_value : (value : Option ℕ) → IsShortOf oldest now settled (with_value number value whole) (with_value number value hs)
-  short_value value =
-      by_change (λ h. record h { value = value }) (record { begun = λ h. refl; many = λ h. refl; over = λ h time none some. absurd (cc) })
+-- what becomes of the holding of one request
+pub own_value : (now : ℕ) (value : Option ℕ) → IsOwnChange now (λ h. record h { value = value })
+own_value now value = record { begun = λ h. refl; many = λ h. refl; over = λ h time none some. absurd (cc) }
 
-  pub short_sure : IsShortOf oldest now settled (with_sure number whole) (with_sure number hs)
-  short_sure = by_change (λ h. record h { sure = true }) (record { begun = λ h. refl; many = λ h. refl; over = λ h time none some. absurd (cc) })
+pub own_sure : (now : ℕ) → IsOwnChange now (λ h. record h { sure = true })
+own_sure now = record { begun = λ h. refl; many = λ h. refl; over = λ h time none some. absurd (cc) }
 
-  pub short_failed : IsShortOf oldest now settled (with_failed number whole) (with_failed number hs)
-  short_failed =
-      by_change (λ h. record h { value = None; sure = false }) (record { begun = λ h. refl; many = λ h. refl; over = λ h time none some. absurd (cc) })
+pub own_failed : (now : ℕ) → IsOwnChange now (λ h. record h { value = None; sure = false })
+own_failed now = record { begun = λ h. refl; many = λ h. refl; over = λ h time none some. absurd (cc) }
 
-  pub short_ended : IsShortOf oldest now settled (with_ended number now whole) (with_ended number now hs)
-  short_ended = by_change (λ h. record h { over = Some now }) (record { begun = λ h. refl; many = λ h. refl; over = λ h time none some. cc })
+pub own_ended : (now : ℕ) → IsOwnChange now (λ h. record h { over = Some now })
+own_ended now = record { begun = λ h. refl; many = λ h. refl; over = λ h time none some. cc }
 
 -- ---- a reset, and crowds that are over
 
@@ -95,7 +94,7 @@ cut_now now h none =
     let cut : is_none h.over ≡ true = ap is_none none in
     rw cut refl
 
-reset_change : (now : ℕ) (whole : List Holding) → IsChange now whole (cut_off now)
+pub reset_change : (now : ℕ) (whole : List Holding) → IsChange now whole (cut_off now)
 reset_change now whole =
     record {
       ended = λ h time over. cut_kept now h time over;

@@ -1,5 +1,7 @@
+pub mod AsWhole
 pub mod Changes
 mod Examples
+pub mod KeptExact
 pub mod KeptShort
 pub mod LastGivers
 pub mod Members

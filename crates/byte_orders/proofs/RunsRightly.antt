@@ -1,18 +1,21 @@
 -- Each run blames rightly: its list is kept short of all that was given, whatever the events are.
 use Rattle.std.proofs.Common.{◌≡◌, ℕ, ◌+◌, ◌<◌, ◌≤◌, ◌==◌, Bool, true, false, ◌&&◌, not, List, [], ◌∷◌, ◌++◌, map, Option, Some, None, is_none, if◌then◌else◌, append-nil, ◌⊎◌, inl, inr, ⊎_elim, refl, sym, ◌∙◌, ap, subst, arith}
-use Rattle.std.specs.Prelude.{filter, filter_map, option_map}
+use Rattle.std.specs.Prelude.{filter, filter_map, length, nat_lt, option_map}
 use Rattle.std.specs.List.{AllByRecursion, cons_option}
-use Rattle.std.proofs.lemmas.Bool.{and_right, ne_eqb}
+use Rattle.std.proofs.lemmas.Bool.{and_right, eqb-false, lt-ltb, ne_eqb}
 use Rattle.byte_orders.specs.Accesses.{Access, AreDistinct, AreTimed, IsOneOf}
-use Rattle.byte_orders.specs.Holdings.{Holding, NoOrderExplains, all_holdings, anew, beginning, begun_within, changed, cut_off, holding_of, is_open_of, may_be_told, settled_as, with_change, with_ended, with_failed, with_reset, with_sure, with_value, without}
+use Rattle.byte_orders.specs.Exact.{AlwaysHasRoom, AnswersAsWhole, HasRoom, IsExact}
+use Rattle.byte_orders.specs.Holdings.{Holding, NoOrderExplains, all_holdings, anew, beginning, begun_within, changed, cut_off, holding_of, is_open_of, may_be_told, settled_as, with_begun, with_change, with_reset, without}
 use Rattle.byte_orders.specs.Keeping.{IsShortOf, NoneOlder}
 use Rattle.byte_orders.specs.Runs.{AllMayCome, Event, IsBlamedInRuns, IsInFlight, MayCome, NoneBefore, Reads, Writes, Others, Tells, Gives, LeavesOut, TakesEffect, Fails, Ends, Resets, NoneOlderThan, Settles, Run, changed_of, cut_short, first_run, ending, failing, giving, giving_nothing, reading, run_after, run_next, taking_effect, telling, with_changed, writing}
-use Rattle.byte_orders.proofs.Changes.{short_ended, short_failed, short_reset, short_sure, short_value}
+use Rattle.byte_orders.proofs.AsWhole.{told_as_whole}
+use Rattle.byte_orders.proofs.Changes.{IsOwnChange, by_change, own_change, own_ended, own_failed, own_sure, own_value, reset_change, short_reset}
+use Rattle.byte_orders.proofs.KeptExact.{exact_begun, exact_changed, exact_first, exact_pruned_at, exact_settled_as, exact_without}
 use Rattle.byte_orders.proofs.KeptShort.{short_first, short_later}
 use Rattle.byte_orders.proofs.LastGivers.{holding_parts}
-use Rattle.byte_orders.proofs.Members.{HasOne, from_append, from_filter_map, from_map}
-use Rattle.byte_orders.proofs.ShorterLists.{short_begun_within, short_pruned_at, short_settled_as, short_without}
-use Rattle.byte_orders.proofs.ShortLists.{short_rightly}
+use Rattle.byte_orders.proofs.Members.{HasOne, all_of, from_append, from_filter_map, from_map}
+use Rattle.byte_orders.proofs.ShorterLists.{same_tests, short_begun_within, short_pruned_at, short_settled_as, short_without}
+use Rattle.byte_orders.proofs.ShortLists.{short_rightly, still_told}
 
 -- ---- the holdings of accesses that change
 
@@ -121,14 +124,15 @@ kept_step now f begun ended = record {
   live = λ a none. sym (ended a) ∙ none;
 }
 
--- what is true of each run
-record Holds (start : Option ℕ) (run : Run) : Type 0 where
+-- what is true of each run; and if its list always had room it's exact
+record Holds (room : Type 0) (start : Option ℕ) (run : Run) : Type 0 where
   pub timed : AreTimed run.accesses
   pub begun : (a : Access) → IsOneOf a run.accesses → a.begun ≤ run.now
   pub live : NoneBefore run.oldest run.accesses
   pub coming : run.oldest ≤ run.now + 1
   pub settled : ℕ
   pub short : IsShortOf run.oldest run.now settled (all_holdings start run.accesses) run.held
+  pub exact : room → IsExact settled (all_holdings start run.accesses) run.held
 
 module _ (now : ℕ) (f : Access → Access) (is : IsStep now f) where
   apart_from : (a : Access) (accesses : List Access) → AllByRecursion (λ b. (b.begun == a.begun) ≡ false) accesses
@@ -166,16 +170,18 @@ module _ (now : ℕ) (f : Access → Access) (is : IsStep now f) where
       (live from.one from.there (is.live from.one (ap (λ (b : Access). b.ended) (sym from.holds) ∙ none)))
 
 -- a run whose accesses have changed, and its list as they did
-mapped_holds : (start : Option ℕ) (run : Run) (f : Access → Access) (held whole : List Holding) → IsStep run.now f → (holds : Holds start run)
-    → all_holdings start (map f run.accesses) ≡ whole → IsShortOf run.oldest run.now holds.settled whole held
-    → Holds start (record run { accesses = map f run.accesses; held = held })
-mapped_holds start run f held whole is holds same short = record {
+mapped_holds : (room : Type 0) (start : Option ℕ) (run : Run) (f : Access → Access) (held whole : List Holding) → IsStep run.now f
+    → (holds : Holds room start run) → all_holdings start (map f run.accesses) ≡ whole → IsShortOf run.oldest run.now holds.settled whole held
+    → (room → IsExact holds.settled whole held)
+    → Holds room start (record run { accesses = map f run.accesses; held = held })
+mapped_holds room start run f held whole is holds same short exact = record {
   timed = mapped_timed run.now f is run.accesses holds.begun holds.timed;
   begun = mapped_begun run.now f is run.accesses holds.begun;
   live = mapped_live run.now f is run.oldest run.accesses holds.live;
   coming = holds.coming;
   settled = holds.settled;
   short = subst (λ hs. IsShortOf run.oldest run.now holds.settled hs held) (sym same) short;
+  exact = λ has. subst (λ hs. IsExact holds.settled hs held) (sym same) (exact has);
 }
 
 -- the beginning never changes
@@ -206,15 +212,15 @@ by_gives f g none some a = by_is a.gives refl
         let was : holding_of a ≡ Some (record { value = value; begun = a.begun; over = a.ended; sure = a.sure; many = false }) = rw is refl in
         rw was (some a value is)
 
-module _ (start : Option ℕ) (run : Run) (holds : Holds start run) where
+module _ (room : Type 0) (start : Option ℕ) (run : Run) (holds : Holds room start run) where
   abbrev whole : List Holding
   whole = all_holdings start run.accesses
 
-  told_holds : (number byte : ℕ) → Holds start (run_next run (Tells number byte))
+  told_holds : (number byte : ℕ) → Holds room start (run_next run (Tells number byte))
   told_holds number byte =
-      mapped_holds start run (changed_of number (telling byte)) run.held whole
+      mapped_holds room start run (changed_of number (telling byte)) run.held whole
       (step_of run.now number (telling byte) (kept_step run.now (telling byte) (λ a. refl) (λ a. refl))) holds
-      (ap (λ hs. beginning start ∷ hs) (mapped_same run.accesses)) holds.short
+      (ap (λ hs. beginning start ∷ hs) (mapped_same run.accesses)) holds.short holds.exact
     where
       same : (a : Access) (b : Bool) → holding_of (if b then telling byte a else a) ≡ holding_of a
       same a true = refl
@@ -226,47 +232,43 @@ module _ (start : Option ℕ) (run : Run) (holds : Holds start run) where
           ap (λ o. cons_option o (filter_map holding_of (with_changed number (telling byte) accesses))) (same a (a.begun == number && is_none a.ended))
           ∙ ap (λ hs. cons_option (holding_of a) hs) (mapped_same accesses)
 
-  changed_holds : (number : ℕ) (f : Access → Access) (g : Holding → Holding) (held : List Holding) → IsStep run.now f
-      → ((a : Access) → holding_of (f a) ≡ option_map g (holding_of a)) → IsShortOf run.oldest run.now holds.settled (with_change number g whole) held
-      → Holds start (record run { accesses = with_changed number f run.accesses; held = held })
-  changed_holds number f g held is same short =
-      mapped_holds start run (changed_of number f) held (with_change number g whole) (step_of run.now number f is) holds
-      (whole_changed number f g same start run.accesses) short
+  changed_holds : (number : ℕ) (f : Access → Access) (g : Holding → Holding) → IsStep run.now f
+      → ((a : Access) → holding_of (f a) ≡ option_map g (holding_of a)) → IsOwnChange run.now g
+      → Holds room start (record run { accesses = with_changed number f run.accesses; held = with_change number g run.held })
+  changed_holds number f g is same own =
+      mapped_holds room start run (changed_of number f) (with_change number g run.held) (with_change number g whole) (step_of run.now number f is) holds
+      (whole_changed number f g same start run.accesses)
+      (by_change run.oldest run.now holds.settled number whole run.held holds.short g own)
+      (λ has. exact_changed run.now holds.settled whole run.held (changed number g) (own_change number run.now g own whole) (holds.exact has))
 
-  gives_holds : (number : ℕ) (value : Option ℕ) → Holds start (run_next run (Gives number value))
+  gives_holds : (number : ℕ) (value : Option ℕ) → Holds room start (run_next run (Gives number value))
   gives_holds number value =
-      changed_holds number (giving value) (λ h. record h { value = value }) (with_value number value run.held)
-      (kept_step run.now (giving value) (λ a. refl) (λ a. refl))
-      (by_gives (giving value) (λ h. record h { value = value }) (λ a is. rw is refl) (λ a old is. rw is refl))
-      (short_value run.oldest run.now holds.settled number whole run.held holds.short value)
+      changed_holds number (giving value) (λ h. record h { value = value }) (kept_step run.now (giving value) (λ a. refl) (λ a. refl))
+      (by_gives (giving value) (λ h. record h { value = value }) (λ a is. rw is refl) (λ a old is. rw is refl)) (own_value run.now value)
 
-  sure_holds : (number : ℕ) → Holds start (run_next run (TakesEffect number))
+  sure_holds : (number : ℕ) → Holds room start (run_next run (TakesEffect number))
   sure_holds number =
-      changed_holds number taking_effect (λ h. record h { sure = true }) (with_sure number run.held)
-      (kept_step run.now taking_effect (λ a. refl) (λ a. refl))
-      (by_gives taking_effect (λ h. record h { sure = true }) (λ a is. rw is refl) (λ a old is. rw is refl))
-      (short_sure run.oldest run.now holds.settled number whole run.held holds.short)
+      changed_holds number taking_effect (λ h. record h { sure = true }) (kept_step run.now taking_effect (λ a. refl) (λ a. refl))
+      (by_gives taking_effect (λ h. record h { sure = true }) (λ a is. rw is refl) (λ a old is. rw is refl)) (own_sure run.now)
 
-  fails_holds : (number : ℕ) → Holds start (run_next run (Fails number))
+  fails_holds : (number : ℕ) → Holds room start (run_next run (Fails number))
   fails_holds number =
-      changed_holds number failing (λ h. record h { value = None; sure = false }) (with_failed number run.held)
-      (kept_step run.now failing (λ a. refl) (λ a. refl))
-      (by_gives failing (λ h. record h { value = None; sure = false }) (λ a is. rw is refl) (λ a old is. rw is refl))
-      (short_failed run.oldest run.now holds.settled number whole run.held holds.short)
+      changed_holds number failing (λ h. record h { value = None; sure = false }) (kept_step run.now failing (λ a. refl) (λ a. refl))
+      (by_gives failing (λ h. record h { value = None; sure = false }) (λ a is. rw is refl) (λ a old is. rw is refl)) (own_failed run.now)
 
-  ends_holds : (number : ℕ) → Holds start (run_next run (Ends number))
+  ends_holds : (number : ℕ) → Holds room start (run_next run (Ends number))
   ends_holds number =
-      changed_holds number (ending run.now) (λ h. record h { over = Some run.now }) (with_ended number run.now run.held)
+      changed_holds number (ending run.now) (λ h. record h { over = Some run.now })
       (record { begun = λ a. refl; ended = λ a time some. inr (sym (let same : run.now ≡ time = cc in same)); live = λ a none. absurd (cc) })
-      (by_gives (ending run.now) (λ h. record h { over = Some run.now }) (λ a is. rw is refl) (λ a old is. rw is refl))
-      (short_ended run.oldest run.now holds.settled number whole run.held holds.short)
+      (by_gives (ending run.now) (λ h. record h { over = Some run.now }) (λ a is. rw is refl) (λ a old is. rw is refl)) (own_ended run.now)
 
   -- one that gives nothing more has no holding more
-  out_holds : (number : ℕ) → Holds start (run_next run (LeavesOut number))
+  out_holds : (number : ℕ) → Holds room start (run_next run (LeavesOut number))
   out_holds number =
-      mapped_holds start run (changed_of number giving_nothing) (without number run.held) (without number whole)
+      mapped_holds room start run (changed_of number giving_nothing) (without number run.held) (without number whole)
       (step_of run.now number giving_nothing (kept_step run.now giving_nothing (λ a. refl) (λ a. refl))) holds
       same_whole (short_without run.oldest run.now holds.settled number whole run.held holds.short)
+      (λ has. exact_without run.oldest run.now holds.settled number whole run.held holds.short (holds.exact has))
     where
       either : (a : Access) (b : Bool) → (holding_of (if b then giving_nothing a else a) ≡ None) ⊎ (holding_of (if b then giving_nothing a else a) ≡ holding_of a)
       either a true = inl refl
@@ -299,11 +301,12 @@ module _ (start : Option ℕ) (run : Run) (holds : Holds start run) where
           let stays : not (is_open_of number (beginning start)) ≡ true = ap not closed in
           rw stays (ap (λ hs. beginning start ∷ hs) rest_left)
 
-  resets_holds : Holds start (run_next run Resets)
+  resets_holds : Holds room start (run_next run Resets)
   resets_holds =
-      mapped_holds start run (cut_short run.now) (with_reset run.now run.held) (with_reset run.now whole) step holds
+      mapped_holds room start run (cut_short run.now) (with_reset run.now run.held) (with_reset run.now whole) step holds
       (ap (λ hs. beginning start ∷ hs) (mapped (cut_short run.now) (cut_off run.now) alike run.accesses))
       (short_reset run.oldest run.now holds.settled whole run.held holds.short)
+      (λ has. exact_changed run.now holds.settled whole run.held (cut_off run.now) (reset_change run.now whole) (holds.exact has))
     where
       begun : (a : Access) (b : Bool) → (if b then record a { ended = Some run.now; sure = false } else a).begun ≡ a.begun
       begun a true = refl
@@ -354,8 +357,9 @@ module _ (start : Option ℕ) (run : Run) (holds : Holds start run) where
 
   begun_holds : (number : ℕ) (a : Access) (held : List Holding) → run.now < number → a.begun ≡ number → a.ended ≡ None
       → IsShortOf run.oldest number holds.settled (all_holdings start (run.accesses ++ a ∷ [])) held
-      → Holds start (record run { now = number; accesses = run.accesses ++ a ∷ []; held = held })
-  begun_holds number a held comes own live short =
+      → (room → IsExact holds.settled (all_holdings start (run.accesses ++ a ∷ [])) held)
+      → Holds room start (record run { now = number; accesses = run.accesses ++ a ∷ []; held = held })
+  begun_holds number a held comes own live short exact =
       record {
         timed = record {
           after_start = λ b at. ⊎_elim (λ old. holds.timed.after_start b old) (λ last. subst (λ x. 0 < x.begun) (sym (is_last b last)) (omega (arith, comes, own))) (parts b at);
@@ -369,6 +373,7 @@ module _ (start : Option ℕ) (run : Run) (holds : Holds start run) where
         coming = omega (arith, comes, holds.coming);
         settled = holds.settled;
         short = short;
+        exact = exact;
       }
     where
       parts : (b : Access) → IsOneOf b (run.accesses ++ a ∷ []) → IsOneOf b run.accesses ⊎ IsOneOf b (a ∷ [])
@@ -377,21 +382,30 @@ module _ (start : Option ℕ) (run : Run) (holds : Holds start run) where
       is_last : (b : Access) → IsOneOf b (a ∷ []) → b ≡ a
       is_last b at = ⊎_elim (λ same. same) (λ none. absurd none) at
 
-  reads_holds : (number : ℕ) → run.now < number → Holds start (run_next run (Reads number))
+  reads_holds : (number : ℕ) → run.now < number → Holds room start (run_next run (Reads number))
   reads_holds number comes =
+      let same : all_holdings start (run.accesses ++ reading number ∷ []) ≡ whole =
+      ap (λ hs. beginning start ∷ hs) (appended run.accesses (reading number) ∙ append-nil (filter_map holding_of run.accesses)) in
       begun_holds number (reading number) run.held comes refl refl
-      (subst (λ hs. IsShortOf run.oldest number holds.settled hs run.held)
-      (ap (λ hs. beginning start ∷ hs) (sym (appended run.accesses (reading number) ∙ append-nil (filter_map holding_of run.accesses))))
+      (subst (λ hs. IsShortOf run.oldest number holds.settled hs run.held) (sym same)
       (short_later run.oldest run.now number holds.settled whole run.held (omega (arith, comes)) holds.short))
+      (λ has. subst (λ hs. IsExact holds.settled hs run.held) (sym same) (holds.exact has))
 
-  writes_holds : (number : ℕ) → run.now < number → Holds start (run_next run (Writes number))
-  writes_holds number comes =
+  writes_holds : (number : ℕ) → run.now < number → (room → length run.held < 8) → Holds room start (run_next run (Writes number))
+  writes_holds number comes has_room =
+      let same : all_holdings start (run.accesses ++ writing number ∷ []) ≡ with_begun number whole =
+      ap (λ hs. beginning start ∷ hs) (appended run.accesses (writing number)) in
       begun_holds number (writing number) (begun_within 8 number run.held) comes refl refl
-      (subst (λ hs. IsShortOf run.oldest number holds.settled hs (begun_within 8 number run.held))
-      (ap (λ hs. beginning start ∷ hs) (sym (appended run.accesses (writing number))))
+      (subst (λ hs. IsShortOf run.oldest number holds.settled hs (begun_within 8 number run.held)) (sym same)
       (short_begun_within 8 run.oldest run.now number holds.settled whole run.held comes holds.short))
+      (λ has. subst (λ hs. IsExact holds.settled hs (begun_within 8 number run.held)) (sym same) (with_room has))
+    where
+      with_room : room → IsExact holds.settled (with_begun number whole) (begun_within 8 number run.held)
+      with_room has =
+          let fits : nat_lt (length run.held) 8 ≡ true = lt-ltb (length run.held) 8 (has_room has) in
+          rw fits (exact_begun holds.settled number whole run.held (omega (arith, comes, holds.short.settled_past)) (holds.exact has))
 
-  others_holds : (number : ℕ) → run.now < number → Holds start (run_next run (Others number))
+  others_holds : (number : ℕ) → run.now < number → Holds room start (run_next run (Others number))
   others_holds number comes = record {
     timed = holds.timed;
     begun = λ a at. omega (arith, comes, holds.begun a at);
@@ -399,6 +413,7 @@ module _ (start : Option ℕ) (run : Run) (holds : Holds start run) where
     coming = omega (arith, comes, holds.coming);
     settled = holds.settled;
     short = short_later run.oldest run.now number holds.settled whole run.held (omega (arith, comes)) holds.short;
+    exact = holds.exact;
   }
 
   none_older : (number : ℕ) → NoneBefore number run.accesses → NoneOlder number whole
@@ -410,7 +425,7 @@ module _ (start : Option ℕ) (run : Run) (holds : Holds start run) where
           let parts = holding_parts found.one w found.holds in
           subst (λ n. number ≤ n) (sym parts.begun) (none found.one found.there (sym parts.over ∙ over))
 
-  oldest_holds : (number : ℕ) → (run.oldest ≤ number) × (number ≤ run.now + 1) × NoneBefore number run.accesses → Holds start (run_next run (NoneOlderThan number))
+  oldest_holds : (number : ℕ) → (run.oldest ≤ number) × (number ≤ run.now + 1) × NoneBefore number run.accesses → Holds room start (run_next run (NoneOlderThan number))
   oldest_holds number given = record {
     timed = holds.timed;
     begun = holds.begun;
@@ -418,12 +433,13 @@ module _ (start : Option ℕ) (run : Run) (holds : Holds start run) where
     coming = given.1;
     settled = holds.settled;
     short = short_pruned_at run.oldest number run.now holds.settled whole run.held given.0 (none_older number given.2) holds.short;
+    exact = λ has. exact_pruned_at run.oldest number run.now holds.settled whole run.held holds.short (holds.exact has);
   }
 
-  settles_holds : Holds start (run_next run Settles)
+  settles_holds : Holds room start (run_next run Settles)
   settles_holds = by_value (settled_as run.held) refl
     where
-      by_value : (value : Option (Option ℕ)) → settled_as run.held ≡ value → Holds start (record run { held = anew value run.held })
+      by_value : (value : Option (Option ℕ)) → settled_as run.held ≡ value → Holds room start (record run { held = anew value run.held })
       by_value None none = holds
       by_value (Some value) is = record {
         timed = holds.timed;
@@ -432,21 +448,22 @@ module _ (start : Option ℕ) (run : Run) (holds : Holds start run) where
         coming = holds.coming;
         settled = run.now;
         short = short_settled_as run.oldest run.now holds.settled whole run.held value is holds.short;
+        exact = λ has. exact_settled_as run.oldest run.now holds.settled whole run.held value is holds.short (holds.exact has);
       }
 
-  next_holds : (event : Event) → MayCome run event → Holds start (run_next run event)
-  next_holds (Reads number) may = reads_holds number may
-  next_holds (Writes number) may = writes_holds number may
-  next_holds (Others number) may = others_holds number may
-  next_holds (Tells number byte) may = told_holds number byte
-  next_holds (Gives number value) may = gives_holds number value
-  next_holds (LeavesOut number) may = out_holds number
-  next_holds (TakesEffect number) may = sure_holds number
-  next_holds (Fails number) may = fails_holds number
-  next_holds (Ends number) may = ends_holds number
-  next_holds Resets may = resets_holds
-  next_holds (NoneOlderThan number) may = oldest_holds number may
-  next_holds Settles may = settles_holds
+  next_holds : (event : Event) → MayCome run event → (room → HasRoom run event) → Holds room start (run_next run event)
+  next_holds (Reads number) may has = reads_holds number may
+  next_holds (Writes number) may has = writes_holds number may has
+  next_holds (Others number) may has = others_holds number may
+  next_holds (Tells number byte) may has = told_holds number byte
+  next_holds (Gives number value) may has = gives_holds number value
+  next_holds (LeavesOut number) may has = out_holds number
+  next_holds (TakesEffect number) may has = sure_holds number
+  next_holds (Fails number) may has = fails_holds number
+  next_holds (Ends number) may has = ends_holds number
+  next_holds Resets may has = resets_holds
+  next_holds (NoneOlderThan number) may has = oldest_holds number may
+  next_holds Settles may has = settles_holds
 
   blames_rightly : (number byte : ℕ) → IsInFlight number run.accesses → may_be_told run.held number byte ≡ false
       → NoOrderExplains start run.accesses number byte
@@ -454,23 +471,83 @@ module _ (start : Option ℕ) (run : Run) (holds : Holds start run) where
       short_rightly run.held number byte none run.oldest run.now holds.settled start run.accesses holds.timed (flight.one, flight.there, flight.begun)
       (subst (λ n. run.oldest ≤ n) flight.begun (holds.live flight.one flight.there flight.live)) holds.short
 
-first_holds : (start : Option ℕ) → Holds start (first_run start)
-first_holds start = record {
+first_holds : (room : Type 0) (start : Option ℕ) → Holds room start (first_run start)
+first_holds room start = record {
   timed = record { after_start = λ a at. absurd at; ends_later = λ a time at. absurd at; apart = tt };
   begun = λ a at. absurd at;
   live = λ a at. absurd at;
   coming = omega arith;
   settled = 0;
   short = short_first start;
+  exact = λ has. exact_first start;
 }
 
-after_holds : (start : Option ℕ) (run : Run) (events : List Event) → AllMayCome run events → Holds start run → Holds start (run_after run events)
-after_holds start run [] may holds = holds
-after_holds start run (event ∷ events) may holds = after_holds start (run_next run event) events may.1 (next_holds start run holds event may.0)
+after_holds : (room : Type 0) (start : Option ℕ) (run : Run) (events : List Event) → AllMayCome run events → (room → AlwaysHasRoom run events)
+    → Holds room start run → Holds room start (run_after run events)
+after_holds room start run [] may has holds = holds
+after_holds room start run (event ∷ events) may has holds =
+    after_holds room start (run_next run event) events may.1 (λ always. (has always).1)
+    (next_holds room start run holds event may.0 (λ always. (has always).0))
 
 -- each run blames rightly, whatever was seen
 pub runs_rightly : (held : List Holding) (number byte : ℕ) → may_be_told held number byte ≡ false → IsBlamedInRuns held number byte
 runs_rightly held number byte none start events may same flight =
     let run = run_after (first_run start) events in
-    blames_rightly start run (after_holds start (first_run start) events may (first_holds start)) number byte flight
+    blames_rightly ⊥ start run (after_holds ⊥ start (first_run start) events may (λ never. absurd never) (first_holds ⊥ start)) number byte flight
     (ap (λ hs. may_be_told hs number byte) (sym same) ∙ none)
+
+-- ---- and where its list always had room it tells just what all that was given does
+
+-- two accesses that began at one number are one
+same_access : (accesses : List Access) (a b : Access) → AreDistinct accesses → IsOneOf a accesses → IsOneOf b accesses → a.begun ≡ b.begun → a ≡ b
+same_access [] a b apart first second same = absurd first
+same_access (x ∷ accesses) a b apart first second same =
+    by_both first second (λ here there. same_access accesses a b apart.1 here there same)
+  where
+    never : (y z : Access) → y ≡ x → IsOneOf z accesses → y.begun ≡ z.begun → ⊥
+    never y z own there equal =
+        eqb-false z.begun x.begun (all_of (λ o. (o.begun == x.begun) ≡ false) z accesses apart.0 there) (sym equal ∙ ap (λ (o : Access). o.begun) own)
+
+    by_both : (a ≡ x) ⊎ IsOneOf a accesses → (b ≡ x) ⊎ IsOneOf b accesses → (IsOneOf a accesses → IsOneOf b accesses → a ≡ b) → a ≡ b
+    by_both one two deeper =
+        ⊎_elim (λ mine. ⊎_elim (λ other. mine ∙ sym other) (λ later. absurd (never a b mine later same)) two)
+        (λ here. ⊎_elim (λ other. absurd (never b a other here (sym same))) (λ later. deeper here later) two) one
+
+module _ (start : Option ℕ) (events : List Event) (may : AllMayCome (first_run start) events) (has : AlwaysHasRoom (first_run start) events)
+    (number byte : ℕ) (flight : IsInFlight number (run_after (first_run start) events).accesses) where
+  abbrev final : Run
+  final = run_after (first_run start) events
+
+  abbrev all : List Holding
+  all = all_holdings start final.accesses
+
+  final_holds : Holds (AlwaysHasRoom (first_run start) events) start final
+  final_holds = after_holds (AlwaysHasRoom (first_run start) events) start (first_run start) events may (λ always. always)
+      (first_holds (AlwaysHasRoom (first_run start) events) start)
+
+  late : final.oldest ≤ number
+  late = subst (λ n. final.oldest ≤ n) flight.begun (final_holds.live flight.one flight.there flight.live)
+
+  positive : 0 < number
+  positive = subst (λ n. 0 < n) flight.begun (final_holds.timed.after_start flight.one flight.there)
+
+  -- its own holding isn't over
+  own_live : (w : Holding) → IsOneOf w all → w.begun ≡ number → w.over ≡ None
+  own_live w at own =
+      ⊎_elim (λ first. let zero_first : w.begun ≡ 0 = ap (λ (x : Holding). x.begun) first in absurd (omega (arith, zero_first, own, positive)))
+      (λ later. by_access (from_filter_map holding_of w final.accesses later)) at
+    where
+      by_access : HasOne (λ a. holding_of a ≡ Some w) final.accesses → w.over ≡ None
+      by_access found =
+          let parts = holding_parts found.one w found.holds in
+          let same = same_access final.accesses found.one flight.one final_holds.timed.apart found.there flight.there (sym parts.begun ∙ (own ∙ sym flight.begun)) in
+          parts.over ∙ (ap (λ (a : Access). a.ended) same ∙ flight.live)
+
+  one_as_whole : may_be_told final.held number byte ≡ may_be_told all number byte
+  one_as_whole =
+      same_tests (may_be_told final.held number byte) (may_be_told all number byte)
+      (told_as_whole final.oldest final.now final_holds.settled all final.held final_holds.short (final_holds.exact has) number byte late own_live)
+      (still_told final.oldest final.now final_holds.settled all final.held final_holds.short number byte positive late)
+
+pub as_whole : (held : List Holding) (number byte : ℕ) → AnswersAsWhole held number byte
+as_whole held number byte start events may has same flight = ap (λ hs. may_be_told hs number byte) same ∙ one_as_whole start events may has number byte flight

@@ -17,7 +17,7 @@ module _ (oldest now settled number : ℕ) (whole hs : List Holding) (short : Is
   abbrev stays : Holding → Bool
   stays h = not (is_open_of number h)
 
-  over_stays : (h : Holding) (time : ℕ) → h.over ≡ Some time → stays h ≡ true
+  pub over_stays : (h : Holding) (time : ℕ) → h.over ≡ Some time → stays h ≡ true
   over_stays h time over =
       not_from_false (is_open_of number h) (and_right (is_own number h) (is_none h.over) (not_none h time over))
 
@@ -115,13 +115,13 @@ closed_kept oldest now h time over =
     and_left (h.many && is_none h.over) (nat_lt h.begun oldest) (and_right h.many (is_none h.over) (not_none h time over)) in
     rw still refl
 
-closed_alone : (oldest now : ℕ) (h : Holding) → h.many ≡ false → closed oldest now h ≡ h
+pub closed_alone : (oldest now : ℕ) (h : Holding) → h.many ≡ false → closed oldest now h ≡ h
 closed_alone oldest now h alone =
     let still : (h.many && is_none h.over && nat_lt h.begun oldest) ≡ false =
     and_left (h.many && is_none h.over) (nat_lt h.begun oldest) (and_left h.many (is_none h.over) alone) in
     rw still refl
 
-map_same : (f : Holding → Holding) (hs : List Holding) → ((h : Holding) → IsOneOf h hs → f h ≡ h) → map f hs ≡ hs
+pub map_same : (f : Holding → Holding) (hs : List Holding) → ((h : Holding) → IsOneOf h hs → f h ≡ h) → map f hs ≡ hs
 map_same f [] same = refl
 map_same f (h ∷ hs) same = ap (λ x. x ∷ map f hs) (same h (inl refl)) ∙ ap (λ xs. h ∷ xs) (map_same f hs (λ x at. same x (inr at)))
 
@@ -207,7 +207,7 @@ short_settled oldest now settled whole h time over short =
 -- ---- pruning changes no answer
 
 -- two tests are one where each follows from the other
-same_tests : (a b : Bool) → (a ≡ true → b ≡ true) → (b ≡ true → a ≡ true) → a ≡ b
+pub same_tests : (a b : Bool) → (a ≡ true → b ≡ true) → (b ≡ true → a ≡ true) → a ≡ b
 same_tests true b there back = sym (there refl)
 same_tests false true there back = back refl
 same_tests false false there back = refl

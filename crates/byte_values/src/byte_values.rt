@@ -1,6 +1,7 @@
 //! The list of one byte.
 ghost use Rattle.std.specs.Prelude.{◌≡◌, ◌+◌, ◌<◌, ◌≤◌, ◌&&◌, [], ◌∷◌, ◌++◌, false, if◌then◌else◌, is_none, length, map};
 ghost use Rattle.std.specs.List.{list_any};
+ghost use Rattle.byte_orders.specs.Exact.{AnswersAsWhole};
 ghost use Rattle.byte_orders.specs.Holdings.{begun_within, beginning, is_compared, is_hidden, may_be_told, may_find, pruned, pruned_at, settled_as, with_ended, with_failed, with_reset, with_sure, with_value, without};
 ghost use Rattle.byte_orders.specs.Keeping.{IsRightlyBlamed};
 ghost use Rattle.byte_orders.specs.Runs.{IsBlamedInRuns};
@@ -170,11 +171,12 @@ impl ByteValues {
     }
 
     /// Whether the request that began at a number may be told a byte. If not, no order in which the requests may have taken effect
-    /// explains it, with all that was told before.
+    /// explains it, with all that was told before. A list that never was full answers as if nothing had been forgotten.
     pub fn may_be_told(&self, number: u64, byte: u8) -> bool
         ensures told { result ≡ may_be_told self.now number byte }
         ensures rightly { result ≡ false → IsRightlyBlamed self.now number byte }
         ensures runs { result ≡ false → IsBlamedInRuns self.now number byte }
+        ensures whole { AnswersAsWhole self.now number byte }
     {
         self.tells(number, byte)
     }

@@ -5,6 +5,9 @@ ghost use Rattle.byte_orders.specs.Holdings.{beginning, closed, crowd, cut_off, 
 ghost use Rattle.byte_values.specs.Changes.{changed_by};
 
 use std::marker::Model;
+use std::mem::size_of;
+
+const _: () = prove!(size_of::<Holding>() == 24);
 
 /// What one writer gives to a byte, or many, in 24 bytes. Times are how many requests have begun.
 #[derive(Clone, Copy, Default)]
