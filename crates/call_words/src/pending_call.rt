@@ -1,6 +1,6 @@
 //! The call that has begun: its head, and the words behind it as they come.
-ghost use Rattle.std.specs.Prelude.{◌≡◌};
-ghost use Rattle.call_words.specs.PendingCalls.{is_whole, kept_words, no_call, taken};
+ghost use Rattle.std.specs.Prelude.{◌≡◌, false};
+ghost use Rattle.call_words.specs.PendingCalls.{call_begun, is_whole, kept_words, no_call, with_word};
 
 use arrayvec::ArrayVec;
 use std::marker::Model;
@@ -16,7 +16,7 @@ fn keep(words: &mut ArrayVec<u64, 16>, word: u64)
 
 /// The call that has begun, and how many words more it wants.
 #[derive(Drop)]
-pub struct PendingCall {
+pub(crate) struct PendingCall {
     head: u64,
     wanted: u32,
     words: ArrayVec<u64, 16>,
@@ -32,7 +32,7 @@ impl Model for PendingCall {
 
 impl PendingCall {
     /// No call has begun.
-    pub fn new() -> PendingCall
+    pub(crate) fn new() -> PendingCall
         ensures { result ≡ no_call }
     {
         PendingCall {
@@ -42,37 +42,40 @@ impl PendingCall {
         }
     }
 
-    /// Takes a word. Where the call wants no more, this is the head of the next, which wants so many words; else it is one of the
-    /// words that are wanted. A call keeps at most 16.
-    pub fn take(&mut self, word: u64, wants: u32)
-        ensures { self.new ≡ taken self.old word wants }
+    /// A head has come, behind which so many words are wanted.
+    pub(crate) fn begin(&mut self, head: u64, wanted: u32)
+        ensures { self.new ≡ call_begun head wanted }
     {
-        if self.wanted == 0 {
-            self.words.clear();
-            self.head = word;
-            self.wanted = wants;
-        } else {
-            keep(&mut self.words, word);
-            self.wanted = self.wanted - 1;
-        }
+        self.words.clear();
+        self.head = head;
+        self.wanted = wanted;
+    }
+
+    /// One of the words that are wanted has come. A call keeps at most 16.
+    pub(crate) fn add(&mut self, word: u64)
+        requires { is_whole self.old ≡ false }
+        ensures { self.new ≡ with_word self.old word }
+    {
+        keep(&mut self.words, word);
+        self.wanted = self.wanted - 1;
     }
 
     /// Whether it wants no more words.
-    pub fn is_whole(&self) -> bool
+    pub(crate) fn is_whole(&self) -> bool
         ensures { result ≡ is_whole self.now }
     {
         self.wanted == 0
     }
 
     /// Its head.
-    pub fn head(&self) -> u64
+    pub(crate) fn head(&self) -> u64
         ensures { result ≡ self.now.head }
     {
         self.head
     }
 
     /// The words behind the head that came.
-    pub fn words(&self) -> &[u64]
+    pub(crate) fn words(&self) -> &[u64]
         ensures { result.now ≡ self.now.words }
     {
         self.words.as_slice()

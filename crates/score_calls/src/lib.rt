@@ -4,6 +4,7 @@
 mod answers;
 mod calls;
 mod handle;
+mod session;
 mod words;
 
 pub use handle::Handle;

@@ -1,8 +1,8 @@
 //! The words of a call: its head, which says what is called, and those behind it.
 ghost use Rattle.std.specs.Prelude.{◌≡◌, ◌≤◌};
-ghost use Rattle.score_calls.specs.CallWords.{kind_of, words_wanted};
+ghost use Rattle.score_calls.specs.CallWords.{call_of, kind_of, words_wanted};
 
-use call_words::{byte_in, words_of};
+use call_words::{HandleCall, byte_in, words_of};
 
 /// What is called.
 #[derive(Clone, Copy)]
@@ -95,6 +95,21 @@ pub(crate) fn kind_of(head: u64) -> CallKind
         24 => CallKind::Compared,
         25 => CallKind::Byte,
         _ => CallKind::None,
+    }
+}
+
+/// Which call a head says, of those that every handle has.
+pub(crate) fn call_of(head: u64) -> HandleCall
+    ensures { result ≡ call_of head }
+{
+    match kind_of(head) {
+        CallKind::Line => HandleCall::Line,
+        CallKind::Begin => HandleCall::Begin,
+        CallKind::Close => HandleCall::Close,
+        CallKind::TextLength => HandleCall::TextLength,
+        CallKind::FaultLength => HandleCall::FaultLength,
+        CallKind::TextByte => HandleCall::TextByte,
+        _ => HandleCall::Own,
     }
 }
 

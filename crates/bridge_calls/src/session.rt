@@ -1,0 +1,61 @@
+//! What the handle of the bridge's model has: a set-up by lines, then the model that runs, and the calls of that.
+use crate::answers::code_of;
+use crate::bridge::Bridge;
+use crate::kinds::{CallKind, call_of, kind_of, step_in, words_wanted};
+use crate::set_up::SetUp;
+use call_words::{HandleCall, Session, WRONG_CALL, low_in};
+use script_text::ScriptFault;
+use std::alloc::Global;
+
+/// A set-up and the model that runs.
+pub(crate) struct BridgeSession;
+
+impl Session for BridgeSession {
+    ghost use Rattle.bridge_calls.specs.Handles.{bridge_session};
+
+    type SetUp = SetUp;
+
+    type Run = Bridge;
+
+    ghost rules = { bridge_session };
+
+    fn call_of(head: u64) -> HandleCall {
+        call_of(head)
+    }
+
+    fn words_wanted(head: u64) -> u32 {
+        words_wanted(head)
+    }
+
+    fn no_line() -> SetUp {
+        SetUp::new()
+    }
+
+    fn line(set_up: &mut SetUp, alloc: Global, line: &[u8]) -> Result<(), ScriptFault> {
+        set_up.line(alloc, line)
+    }
+
+    fn begin(set_up: SetUp, alloc: Global) -> Result<Bridge, ScriptFault> {
+        set_up.begin(alloc)
+    }
+
+    fn call(
+        bridge: &mut Bridge,
+        head: u64,
+        words: &[u64],
+        _fault: &mut Option<ScriptFault>,
+    ) -> u64 {
+        if let Some(step) = step_in(head, words) {
+            return code_of(bridge.step(&step));
+        }
+        match kind_of(head) {
+            CallKind::Drain => bridge.drain(),
+            kind => bridge.asked(kind, low_in(head / 4_294_967_296)),
+        }
+    }
+
+    /// A model finds nothing.
+    fn tell(_bridge: &Bridge, _text: &mut Vec<u8>) -> u64 {
+        WRONG_CALL
+    }
+}
