@@ -24,8 +24,8 @@ use Rattle.call_words.specs.CallWords.{byte_in, bytes_of}
 use Rattle.call_words.specs.Handles.{BeginDone, BegunLeft, CalledBy, Done, LineDone, OwnDone, SetUpLeft}
 use Rattle.call_words.specs.PendingCalls.{CallState, is_whole}
 use Rattle.call_words.specs.WordLists.{TakesWords, call_after, words_in}
-use Rattle.call_words.specs.declared.stage.Stage.{Stage}
-use Rattle.call_words.specs.declared.stage.Stage.TheVariants.{Closed, Running, SettingUp}
+use Rattle.call_words.specs.declared.handle.Stage.{Stage}
+use Rattle.call_words.specs.declared.handle.Stage.TheVariants.{Closed, Running, SettingUp}
 use Rattle.bridge_calls.specs.Bridges.{AfterDrain, AfterStep, BridgeState, opening_bridge}
 use Rattle.bridge_calls.specs.CallKinds.{call_by, call_of, kind_of, step_by, step_in, words_wanted}
 use Rattle.bridge_calls.specs.HandleRuns.{HasRun, IsARun, IsNew, first_enabled, last_reply, step_and, steps_at, steps_by, steps_of}

@@ -12,11 +12,11 @@ use Rattle.world_run.specs.Runs.{HandedReply, answers_of, handed_in, sent_in}
 use Rattle.call_words.specs.Handles.{IsNewOf}
 use Rattle.call_words.specs.PendingCalls.{CallState, is_whole, taken}
 use Rattle.call_words.specs.WordLists.{TakesWords, call_after, words_in}
-use Rattle.call_words.specs.declared.stage.Stage.TheVariants.{Running, SettingUp}
+use Rattle.call_words.specs.declared.handle.Stage.TheVariants.{Running, SettingUp}
 use Rattle.bridge_calls.specs.Bridges.{BridgeState}
 use Rattle.bridge_calls.specs.CallKinds.{kind_of, step_in, words_wanted}
-use Rattle.bridge_calls.specs.Handles.{Called, HeldBridge, bridge_session}
-use Rattle.bridge_calls.specs.SetUps.{SetUpState, stage_in}
+use Rattle.bridge_calls.specs.Handles.{Called, HeldBridge}
+use Rattle.bridge_calls.specs.SetUps.{SetUpState, no_line, stage_in}
 use Rattle.bridge_calls.specs.declared.kinds.CallKind.{CallKind}
 use Rattle.bridge_calls.specs.declared.kinds.CallKind.TheVariants as kind
 
@@ -73,7 +73,7 @@ pub record HasRun (setup : SetupLists) (steps : List Step) (bridge : BridgeState
 
 -- a handle as it is made
 abbrev pub IsNew : HeldBridge → Type 0
-IsNew = IsNewOf bridge_session
+IsNew = IsNewOf no_line
 
 -- words that were handed to a new handle have led to one on which a model runs: the first of them said a set-up and began it, and those behind them
 -- made steps

@@ -1,7 +1,7 @@
 //! The bridge's model behind a handle.
 ghost use Rattle.std.specs.Prelude.{◌≡◌, []};
 ghost use Rattle.call_words.specs.PendingCalls.{no_call};
-ghost use Rattle.call_words.specs.declared.stage.Stage.TheVariants.{SettingUp};
+ghost use Rattle.call_words.specs.declared.handle.Stage.TheVariants.{SettingUp};
 ghost use Rattle.bridge_calls.specs.HandleRuns.{OnlyRuns};
 ghost use Rattle.bridge_calls.specs.Handles.{Called};
 ghost use Rattle.bridge_calls.specs.SetUps.{no_line};

@@ -1,9 +1,9 @@
 //! What the handle of the bridge's model has: a set-up by lines, then the model that runs, and the calls of that.
 use crate::answers::code_of;
 use crate::bridge::Bridge;
-use crate::kinds::{CallKind, call_of, kind_of, step_in, words_wanted};
+use crate::kinds::{CallKind, kind_of, step_in};
 use crate::set_up::SetUp;
-use call_words::{HandleCall, Session, WRONG_CALL, low_in};
+use call_words::{HandleCall, Session, WRONG_CALL, byte_in, low_in, words_of};
 use script_text::ScriptFault;
 use std::alloc::Global;
 
@@ -20,11 +20,23 @@ impl Session for BridgeSession {
     ghost rules = { bridge_session };
 
     fn call_of(head: u64) -> HandleCall {
-        call_of(head)
+        match kind_of(head) {
+            CallKind::Line => HandleCall::Line,
+            CallKind::Begin => HandleCall::Begin,
+            CallKind::Close => HandleCall::Close,
+            CallKind::FaultLength => HandleCall::FaultLength,
+            CallKind::TextByte => HandleCall::TextByte,
+            _ => HandleCall::Own,
+        }
     }
 
     fn words_wanted(head: u64) -> u32 {
-        words_wanted(head)
+        match kind_of(head) {
+            CallKind::Offer => 2,
+            CallKind::Perform => 1,
+            CallKind::Line => words_of(byte_in(head / 256)),
+            _ => 0,
+        }
     }
 
     fn no_line() -> SetUp {

@@ -5,8 +5,8 @@ use Rattle.call_words.specs.CallWords.{byte_in, bytes_of, low_in}
 use Rattle.call_words.specs.PendingCalls.{CallState, is_whole, no_call, taken}
 use Rattle.call_words.specs.declared.session.HandleCall.{HandleCall}
 use Rattle.call_words.specs.declared.session.HandleCall.TheVariants as which
-use Rattle.call_words.specs.declared.stage.Stage.{Stage}
-use Rattle.call_words.specs.declared.stage.Stage.TheVariants.{Closed, Running, SettingUp}
+use Rattle.call_words.specs.declared.handle.Stage.{Stage}
+use Rattle.call_words.specs.declared.handle.Stage.TheVariants.{Closed, Running, SettingUp}
 use Rattle.script_text.specs.declared.faults.ScriptFault.{ScriptFault}
 
 -- what a kind of handle has, over what its set-up is and what runs once that was begun
@@ -30,8 +30,8 @@ pub record HandleState (S R : Type 0) : Type 0 where
   pub text : List ℕ
 
 -- one as it is made
-pub record IsNewOf {S R : Type 0} (session : Session S R) (handle : HandleState S R) : Type 0 where
-  pub stage : handle.stage ≡ SettingUp session.no_line
+pub record IsNewOf {S R : Type 0} (no_line : S) (handle : HandleState S R) : Type 0 where
+  pub stage : handle.stage ≡ SettingUp no_line
   pub call : handle.call ≡ no_call
   pub text : handle.text ≡ []
 

@@ -37,6 +37,7 @@ pub fn byte_answer(byte: Option<u8>) -> u64
 }
 
 /// Writes the text of a fault, as far as there is one, and tells how many bytes it has.
+#[inline(never)]
 pub(crate) fn fault_length(text: &mut Vec<u8>, fault: Option<ScriptFault>) -> u64
     ensures { FaultTold text.new.items result }
 {

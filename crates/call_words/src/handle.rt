@@ -1,27 +1,38 @@
 //! What lies behind a handle: the set-up or what runs, and the words of a call that hasn't all of them yet.
 ghost use Rattle.std.specs.Prelude.{◌≡◌, []};
-ghost use Rattle.call_words.specs.Answers.{FaultTold, fault_answer};
 ghost use Rattle.call_words.specs.Handles.{BeginDone, CalledOf, Done, IsNewOf, LineDone, OwnDone, TextTold};
-ghost use Rattle.call_words.specs.PendingCalls.{taken};
-ghost use Rattle.call_words.specs.declared.stage.Stage.TheVariants.{Closed};
+ghost use Rattle.call_words.specs.PendingCalls.{kept_words, taken};
+ghost use Rattle.call_words.specs.declared.handle.Stage.TheVariants.{Closed};
 
 use crate::answers::{PENDING, WRONG_CALL, fault_answer, fault_length, text_byte};
 use crate::bytes::bytes_of;
-use crate::pending_call::PendingCall;
 use crate::session::{HandleCall, Session};
-use crate::stage::Stage;
 use crate::words::{byte_in, low_in};
+use arrayvec::ArrayVec;
 use script_text::ScriptFault;
 use std::alloc::Global;
 use std::marker::Model;
 use std::mem;
+
+/// How far a handle has come.
+#[derive(Drop)]
+pub(crate) enum Stage<S, R> {
+    /// Nothing is there: it was closed, or its set-up was refused.
+    Closed,
+    /// Lines of the set-up.
+    SettingUp(S),
+    /// What runs since the set-up was begun.
+    Running(R),
+}
 
 /// A set-up, and then what runs, behind a handle that takes the words of calls one by one.
 #[derive(Drop)]
 pub struct Handle<S: Session> {
     alloc: Global,
     stage: Stage<S::SetUp, S::Run>,
-    call: PendingCall,
+    head: u64,
+    words: ArrayVec<u64, 16>,
+    wanted: u32,
     text: Vec<u8>,
     fault: Option<ScriptFault>,
 }
@@ -31,33 +42,32 @@ impl<S: Session> Model for Handle<S> {
 
     ghost Value = { HandleState S.SetUp S.Run };
 
-    ghost view = { λ h. record { stage = h.stage; call = h.call; text = h.text.items } };
+    ghost view = { λ h. record { stage = h.stage; call = record { head = h.head; words = h.words.items; wanted = h.wanted }; text = h.text.items } };
+}
+
+/// One word more of a call, which keeps at most 16.
+fn keep(words: &mut ArrayVec<u64, 16>, word: u64)
+    ensures { words.new.items ≡ kept_words words.old.items word }
+{
+    if words.len() < 16 {
+        words.push(word);
+    }
 }
 
 impl<S: Session> Handle<S> {
     /// A set-up of no line, no call that has begun, and no text.
     pub fn new(alloc: Global) -> Handle<S>
-        ensures { IsNewOf S.rules result }
+        ensures { IsNewOf S.rules.no_line result }
     {
         Handle {
             alloc,
             stage: Stage::SettingUp(S::no_line()),
-            call: PendingCall::new(),
+            head: 0,
+            words: ArrayVec::new(),
+            wanted: 0,
             text: Vec::new(alloc),
             fault: None,
         }
-    }
-
-    /// Notes a fault, by which all is given back.
-    fn refuse(&mut self, fault: ScriptFault) -> u64
-        ensures stage { self.new.stage ≡ Closed }
-        ensures answer { result ≡ fault_answer fault }
-        ensures call { self.new.call ≡ self.old.call }
-        ensures text { self.new.text ≡ self.old.text }
-    {
-        self.stage = Stage::Closed;
-        self.fault = Some(fault);
-        fault_answer(fault)
     }
 
     /// Carries out a call of the session's own.
@@ -69,7 +79,7 @@ impl<S: Session> Handle<S> {
         let Stage::Running(run) = &mut self.stage else {
             return WRONG_CALL;
         };
-        S::call(run, self.call.head(), self.call.words(), &mut self.fault)
+        S::call(run, self.head, self.words.as_slice(), &mut self.fault)
     }
 
     /// Takes a line. This and what else a set-up or an end needs stands apart, so that a call of the session's own has a small frame.
@@ -82,11 +92,13 @@ impl<S: Session> Handle<S> {
         let Stage::SettingUp(set_up) = &mut self.stage else {
             return self.own();
         };
-        let bytes = bytes_of(self.call.words(), byte_in(self.call.head() / 256));
-        match S::line(set_up, self.alloc, bytes.as_slice()) {
-            Ok(()) => 0,
-            Err(fault) => self.refuse(fault),
+        let bytes = bytes_of(self.words.as_slice(), byte_in(self.head / 256));
+        if let Err(fault) = S::line(set_up, self.alloc, bytes.as_slice()) {
+            self.stage = Stage::Closed;
+            self.fault = Some(fault);
+            return fault_answer(fault);
         }
+        0
     }
 
     /// Begins what the set-up says.
@@ -102,7 +114,10 @@ impl<S: Session> Handle<S> {
                     self.stage = Stage::Running(run);
                     0
                 }
-                Err(fault) => self.refuse(fault),
+                Err(fault) => {
+                    self.fault = Some(fault);
+                    fault_answer(fault)
+                }
             },
             other => {
                 self.stage = other;
@@ -138,29 +153,19 @@ impl<S: Session> Handle<S> {
         S::tell(run, &mut self.text)
     }
 
-    /// The same of the last fault.
-    #[inline(never)]
-    fn fault_length(&mut self) -> u64
-        ensures stage { self.new.stage ≡ self.old.stage }
-        ensures told { FaultTold self.new.text result }
-        ensures call { self.new.call ≡ self.old.call }
-    {
-        fault_length(&mut self.text, self.fault)
-    }
-
     /// Carries out a call that has all its words.
     fn finish(&mut self) -> u64
         ensures told { Done S.rules (S.rules.call_of self.old.call.head) self.old.call self.old.stage self.old.text self.new.stage self.new.text result }
         ensures call { self.new.call ≡ self.old.call }
     {
-        match S::call_of(self.call.head()) {
+        match S::call_of(self.head) {
             HandleCall::Own => self.own(),
             HandleCall::Line => self.line(),
             HandleCall::Begin => self.begin(),
             HandleCall::Close => self.close(),
             HandleCall::TextLength => self.text_length(),
-            HandleCall::FaultLength => self.fault_length(),
-            HandleCall::TextByte => text_byte(self.text.as_slice(), low_in(self.call.head() / 256)),
+            HandleCall::FaultLength => fault_length(&mut self.text, self.fault),
+            HandleCall::TextByte => text_byte(self.text.as_slice(), low_in(self.head / 256)),
         }
     }
 
@@ -170,10 +175,13 @@ impl<S: Session> Handle<S> {
         ensures stage { self.new.stage ≡ self.old.stage }
         ensures text { self.new.text ≡ self.old.text }
     {
-        if self.call.is_whole() {
-            self.call.begin(word, S::words_wanted(word));
+        if self.wanted == 0 {
+            self.words.clear();
+            self.head = word;
+            self.wanted = S::words_wanted(word);
         } else {
-            self.call.add(word);
+            keep(&mut self.words, word);
+            self.wanted -= 1;
         }
     }
 
@@ -182,7 +190,7 @@ impl<S: Session> Handle<S> {
         ensures { CalledOf S.rules self.old word self.new result }
     {
         self.take(word);
-        if !self.call.is_whole() {
+        if self.wanted > 0 {
             return PENDING;
         }
         self.finish()

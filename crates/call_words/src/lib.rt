@@ -4,9 +4,7 @@
 mod answers;
 mod bytes;
 mod handle;
-mod pending_call;
 mod session;
-mod stage;
 mod words;
 
 pub use answers::{WRONG_CALL, byte_answer, fault_answer};

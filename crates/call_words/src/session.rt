@@ -57,12 +57,7 @@ pub trait Session {
         ensures { rules.begun set_up result };
 
     /// Carries out a call of its own, by its head and the words behind it. Where it has a fault it notes why.
-    fn call(
-        run: &mut Self::Run,
-        head: u64,
-        words: &[u64],
-        fault: &mut Option<ScriptFault>,
-    ) -> u64
+    fn call(run: &mut Self::Run, head: u64, words: &[u64], fault: &mut Option<ScriptFault>) -> u64
         ensures { rules.own head words.now run.old run.new result };
 
     /// Writes the text of what was found last, and tells how many bytes it has.

@@ -20,8 +20,8 @@ use Rattle.call_words.specs.Handles.{BeginDone, Begun, BegunLeft, CalledBy, Done
 use Rattle.call_words.specs.PendingCalls.{CallState, call_begun, is_whole, taken, with_word}
 use Rattle.call_words.specs.WordLists.{AreWords, TakesWords, words_in}
 use Rattle.call_words.specs.declared.session.HandleCall.{HandleCall}
-use Rattle.call_words.specs.declared.stage.Stage.{Stage}
-use Rattle.call_words.specs.declared.stage.Stage.TheVariants.{Closed, Running, SettingUp}
+use Rattle.call_words.specs.declared.handle.Stage.{Stage}
+use Rattle.call_words.specs.declared.handle.Stage.TheVariants.{Closed, Running, SettingUp}
 use Rattle.scoreboard.specs.AxiPorts.{wrong_axi}
 use Rattle.scoreboard.specs.Boards.{Board, ClientBoard, IsReached, a_wrong, after_seen, answer_to, d_wrong, next_to, opening_from, reply_rules, told_to, wrong_at, wrong_by, wrong_in_turn, wrong_reply, wrong_request}
 use Rattle.scoreboard.specs.Filling.{filled_beginning, filled_on}

@@ -4,8 +4,8 @@ use Rattle.std.specs.Prelude.{ℕ, ◌≡◌, ◌==◌, ◌<◌, ◌^◌, ◌↔
 use Rattle.call_words.specs.Handles.{IsNewOf}
 use Rattle.call_words.specs.PendingCalls.{CallState, is_whole, taken}
 use Rattle.call_words.specs.WordLists.{AreWords, TakesWords, words_in}
-use Rattle.call_words.specs.declared.stage.Stage.{Stage}
-use Rattle.call_words.specs.declared.stage.Stage.TheVariants.{Closed, Running, SettingUp}
+use Rattle.call_words.specs.declared.handle.Stage.{Stage}
+use Rattle.call_words.specs.declared.handle.Stage.TheVariants.{Closed, Running, SettingUp}
 use Rattle.script_text.specs.Stages.{SettingUp as SaidSetUp}
 use Rattle.scoreboard.specs.Boards.{Beginning, IsReached, beginning_of, opening_from}
 use Rattle.scoreboard.specs.Filling.{filled_beginning}
@@ -24,13 +24,13 @@ use Rattle.score_script.specs.declared.score.Command.TheVariants as command
 use Rattle.score_setup.specs.ScoreSetups.{RangeLists}
 use Rattle.score_calls.specs.CallCommands.{command_in}
 use Rattle.score_calls.specs.CallWords.{kind_of, words_wanted}
-use Rattle.score_calls.specs.Handles.{Called, ScoreHandle, score_session}
+use Rattle.score_calls.specs.Handles.{Called, ScoreHandle, no_line}
 use Rattle.score_calls.specs.declared.words.CallKind.{CallKind}
 use Rattle.score_calls.specs.declared.words.CallKind.TheVariants as kind
 
 -- a handle as it is made
 abbrev pub IsNew : ScoreHandle → Type 0
-IsNew = IsNewOf score_session
+IsNew = IsNewOf no_line
 
 -- ---- what was heard
 

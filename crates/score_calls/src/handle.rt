@@ -1,7 +1,7 @@
 //! A scoreboard behind a handle.
 ghost use Rattle.std.specs.Prelude.{◌≡◌, []};
 ghost use Rattle.call_words.specs.PendingCalls.{no_call};
-ghost use Rattle.call_words.specs.declared.stage.Stage.TheVariants.{SettingUp};
+ghost use Rattle.call_words.specs.declared.handle.Stage.TheVariants.{SettingUp};
 ghost use Rattle.score_calls.specs.HandleRuns.{OnlyExact};
 ghost use Rattle.score_calls.specs.Handles.{Called, no_line};
 

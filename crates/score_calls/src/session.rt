@@ -5,22 +5,24 @@ ghost use Rattle.score_calls.specs.Answers.{answer_of};
 ghost use Rattle.score_calls.specs.CallWords.{kind_of};
 ghost use Rattle.score_calls.specs.Handles.{asked_of};
 
-use crate::answers::answer_of;
 use crate::calls::command_in;
-use crate::words::{CallKind, call_of, kind_of, words_wanted};
+use crate::words::{CallKind, kind_of};
 use call_words::{
-    HandleCall, Session, WRONG_CALL, byte_answer, byte_in, bytes_of, fault_answer, low_in,
+    HandleCall, Session, WRONG_CALL, byte_answer, byte_in, bytes_of, fault_answer, low_in, words_of,
 };
 use score_script::{Observation, SetUp};
 use script_text::ScriptFault;
 use std::alloc::Global;
 
-/// Notes why a line or call wasn't carried out.
+/// What a line or call found, or why it wasn't carried out, which is noted.
 fn noted(given: Result<u32, ScriptFault>, fault: &mut Option<ScriptFault>) -> u64
     ensures { result ≡ answer_of given }
 {
     *fault = given.err();
-    answer_of(given)
+    match given {
+        Ok(code) => u64::from(code),
+        Err(fault) => fault_answer(fault),
+    }
 }
 
 /// What is asked of the observation.
@@ -53,11 +55,29 @@ impl Session for ScoreSession {
     ghost rules = { score_session };
 
     fn call_of(head: u64) -> HandleCall {
-        call_of(head)
+        match kind_of(head) {
+            CallKind::Line => HandleCall::Line,
+            CallKind::Begin => HandleCall::Begin,
+            CallKind::Close => HandleCall::Close,
+            CallKind::TextLength => HandleCall::TextLength,
+            CallKind::FaultLength => HandleCall::FaultLength,
+            CallKind::TextByte => HandleCall::TextByte,
+            _ => HandleCall::Own,
+        }
     }
 
     fn words_wanted(head: u64) -> u32 {
-        words_wanted(head)
+        match kind_of(head) {
+            CallKind::A => 2,
+            CallKind::D
+            | CallKind::Aw
+            | CallKind::W
+            | CallKind::Ar
+            | CallKind::R
+            | CallKind::Time => 1,
+            CallKind::Fill | CallKind::Line => words_of(byte_in(head / 256)),
+            _ => 0,
+        }
     }
 
     fn no_line() -> SetUp {
