@@ -21,16 +21,16 @@ use Rattle.world_run.proofs.CarriedOut.{is_carried_out}
 use Rattle.world_run.proofs.MainTheorem.{one_at_a_time}
 use Rattle.world_run.proofs.RunLemmas.{cons_option-append}
 use Rattle.call_words.specs.CallWords.{byte_in, bytes_of}
+use Rattle.call_words.specs.Handles.{BeginDone, BegunLeft, CalledBy, Done, LineDone, OwnDone, SetUpLeft}
 use Rattle.call_words.specs.PendingCalls.{CallState, is_whole}
 use Rattle.call_words.specs.WordLists.{TakesWords, call_after, words_in}
+use Rattle.call_words.specs.declared.handle.Stage.{Stage}
+use Rattle.call_words.specs.declared.handle.Stage.TheVariants.{Closed, Running, SettingUp}
 use Rattle.bridge_calls.specs.Bridges.{AfterDrain, AfterStep, BridgeState, opening_bridge}
-use Rattle.bridge_calls.specs.CallKinds.{kind_of, step_in, words_wanted}
+use Rattle.bridge_calls.specs.CallKinds.{call_by, call_of, kind_of, step_by, step_in, words_wanted}
 use Rattle.bridge_calls.specs.HandleRuns.{HasRun, IsARun, IsNew, first_enabled, last_reply, step_and, steps_at, steps_by, steps_of}
-use Rattle.bridge_calls.specs.Handles.{BeginDone, BegunLeft, Called, CalledBy, DrainTold, FinishedBy, LineDone, OtherDone, SetUpLeft, StepTold}
+use Rattle.bridge_calls.specs.Handles.{Called, DoneBy, GivesBridge, HeldBridge, OtherDone, bridge_session}
 use Rattle.bridge_calls.specs.SetUps.{SetUpState, SetUpTold, no_line, set_up_kind, stage_in}
-use Rattle.bridge_calls.specs.declared.handle.BridgeHandle.{BridgeHandle}
-use Rattle.bridge_calls.specs.declared.handle.Stage.{Stage}
-use Rattle.bridge_calls.specs.declared.handle.Stage.TheVariants.{Closed, Running, SettingUp}
 use Rattle.bridge_calls.specs.declared.kinds.CallKind.{CallKind}
 use Rattle.bridge_calls.specs.declared.kinds.CallKind.TheVariants as kind
 use Rattle.bridge_calls.proofs.Choosing.{all_at, is_own, own_enabled}
@@ -187,8 +187,11 @@ drain_steps old new made did =
 
 -- ---- what a call leaves
 
+abbrev Held : Type 0
+Held = Stage SetUpState BridgeState
+
 -- of a stage: the world of a model that runs keeps its laws, and a set-up has no world
-abbrev IsGood : Stage → Type 0
+abbrev IsGood : Held → Type 0
 IsGood Closed = ⊤
 IsGood (SettingUp set_up) = IsEarly (stage_in set_up)
 IsGood (Running bridge) = IsSoundWorld bridge.world
@@ -203,7 +206,7 @@ record IsBegun (set_up : SetUpState) (bridge : BridgeState) : Type 0 where
 -- what makes such steps on a world
 module _ (makes : WorldState → List Step) where
   -- and what it may make of a stage: a model makes these steps, a set-up goes on or is begun, and whatever it was may be closed
-  abbrev Fits : Stage → Stage → Type 0
+  abbrev Fits : Held → Held → Type 0
   Fits stage Closed = ⊤
   Fits Closed (SettingUp new) = ⊥
   Fits Closed (Running new) = ⊥
@@ -212,58 +215,36 @@ module _ (makes : WorldState → List Step) where
   Fits (Running old) (SettingUp new) = ⊥
   Fits (Running old) (Running new) = Goes old (makes old.world) new
 
-  fits_kept : (stage : Stage) → IsGood stage → ((world : WorldState) → makes world ≡ []) → Fits stage stage
+  fits_kept : (stage : Held) → IsGood stage → ((world : WorldState) → makes world ≡ []) → Fits stage stage
   fits_kept Closed good none = tt
   fits_kept (SettingUp set_up) good none = good
   fits_kept (Running bridge) good none = subst (λ (steps : List Step). Goes bridge steps bridge) (sym (none bridge.world)) (stays bridge good)
 
-  fits_same : (old new : Stage) → IsGood old → ((world : WorldState) → makes world ≡ []) → new ≡ old → Fits old new
-  fits_same old new good none same = subst (λ (s : Stage). Fits old s) (sym same) (fits_kept old good none)
+  fits_same : (old new : Held) → IsGood old → ((world : WorldState) → makes world ≡ []) → new ≡ old → Fits old new
+  fits_same old new good none same = subst (λ (s : Held). Fits old s) (sym same) (fits_kept old good none)
 
-  fits_shut : (old : Stage) → Fits old Closed
+  fits_shut : (old : Held) → Fits old Closed
   fits_shut Closed = tt
   fits_shut (SettingUp set_up) = tt
   fits_shut (Running bridge) = tt
 
-  fits_closed : (old new : Stage) → new ≡ Closed → Fits old new
-  fits_closed old new closed = subst (λ (s : Stage). Fits old s) (sym closed) (fits_shut old)
+  fits_closed : (old new : Held) → new ≡ Closed → Fits old new
+  fits_closed old new closed = subst (λ (s : Held). Fits old s) (sym closed) (fits_shut old)
 
   -- a set-up that stays
-  fits_early : (set_up : SetUpState) (new : Stage) → IsEarly (stage_in set_up) → new ≡ SettingUp set_up → Fits (SettingUp set_up) new
-  fits_early set_up new early same = subst (λ (s : Stage). Fits (SettingUp set_up) s) (sym same) early
+  fits_early : (set_up : SetUpState) (new : Held) → IsEarly (stage_in set_up) → new ≡ SettingUp set_up → Fits (SettingUp set_up) new
+  fits_early set_up new early same = subst (λ (s : Held). Fits (SettingUp set_up) s) (sym same) early
 
--- a step
-fits_step : (step : Step) (old new : Stage) (answer : ℕ) → IsGood old → StepTold old step new answer → Fits (λ world. step ∷ []) old new
-fits_step step Closed new answer good did = fits_closed (λ world. step ∷ []) Closed new did.0
-fits_step step (SettingUp set_up) new answer good did = fits_early (λ world. step ∷ []) set_up new good did.0
-fits_step step (Running old) new answer good did =
-    subst (λ (s : Stage). Fits (λ world. step ∷ []) (Running old) s) (sym did.stage_is) (one_step old did.after step did.done)
-
--- a drain
-abbrev drain_makes : WorldState → List Step
-drain_makes world = first_enabled (drained world).0 world
-
-fits_drain : (old new : Stage) (answer : ℕ) → IsGood old → DrainTold old new answer → Fits drain_makes old new
-fits_drain Closed new answer good did = fits_closed drain_makes Closed new did.0
-fits_drain (SettingUp set_up) new answer good did = fits_early drain_makes set_up new good did.0
-fits_drain (Running old) new answer good did =
-    subst (λ (s : Stage). Fits drain_makes (Running old) s) (sym did.stage_is) (drain_steps old did.after answer did.done)
-
--- all else makes no step
+-- what says no step, and is no drain, makes none
 abbrev makes_none : WorldState → List Step
 makes_none world = []
 
 -- a line
-line_leaves : (set_up after : SetUpState) (line : List ℕ) (new : Stage) (answer : ℕ) (told : Result (Unit {0}) ScriptFault) → IsEarly (stage_in set_up) → SetUpTold set_up line after told
+line_leaves : (set_up after : SetUpState) (line : List ℕ) (new : Held) (answer : ℕ) (told : Result (Unit {0}) ScriptFault) → IsEarly (stage_in set_up) → SetUpTold set_up line after told
     → SetUpLeft after told new answer → Fits makes_none (SettingUp set_up) new
 line_leaves set_up after line new answer (Ok done) early took left =
-    subst (λ (s : Stage). Fits makes_none (SettingUp set_up) s) (sym left.0) (early_line set_up after line early took.0)
+    subst (λ (s : Held). Fits makes_none (SettingUp set_up) s) (sym left.0) (early_line set_up after line early took.0)
 line_leaves set_up after line new answer (Err fault) early took left = fits_closed makes_none (SettingUp set_up) new left.0
-
-fits_line : (line : List ℕ) (old new : Stage) (answer : ℕ) → IsGood old → LineDone old line new answer → Fits makes_none old new
-fits_line line Closed new answer good did = fits_closed makes_none Closed new did.0
-fits_line line (SettingUp set_up) new answer good did = line_leaves set_up did.after line new answer did.told good did.done did.left
-fits_line line (Running old) new answer good did = fits_same makes_none (Running old) new good (λ world. refl) did.0
 
 -- the beginning
 begun_from : (set_up : SetUpState) (bridge : BridgeState) (number : ℕ) (stage : Stages SetupLists (Unit {0}) BridgeState) → stage_in set_up ≡ stage → IsEarly stage
@@ -273,79 +254,106 @@ begun_from set_up bridge number (SaidSetUp setup own) is early opened sound =
     record { setup = setup; said = is; opens = sym (opening_is (opening_bridge setup) bridge (setup_fault setup) opened); sound = sound }
 begun_from set_up bridge number (RunningStage other) is early opened sound = absurd early
 
-begin_leaves : (set_up : SetUpState) (new : Stage) (answer number : ℕ) (given : Result BridgeState ScriptFault) → IsEarly (stage_in set_up)
+begin_leaves : (set_up : SetUpState) (new : Held) (answer number : ℕ) (given : Result BridgeState ScriptFault) → IsEarly (stage_in set_up)
     → GivesWorld (λ (bridge : BridgeState). bridge) (world_at set_up_kind (stage_in set_up) number) given → IfOk given (λ (bridge : BridgeState). IsSoundWorld bridge.world)
     → BegunLeft given new answer → Fits makes_none (SettingUp set_up) new
 begin_leaves set_up new answer number (Ok bridge) early made laws left =
-    subst (λ (s : Stage). Fits makes_none (SettingUp set_up) s) (sym left.0)
+    subst (λ (s : Held). Fits makes_none (SettingUp set_up) s) (sym left.0)
     (begun_from set_up bridge number (stage_in set_up) refl early made laws, λ world. refl)
 begin_leaves set_up new answer number (Err fault) early made laws left = fits_closed makes_none (SettingUp set_up) new left.0
 
-fits_begin : (old new : Stage) (answer : ℕ) → IsGood old → BeginDone old new answer → Fits makes_none old new
+fits_begin : (old new : Held) (answer : ℕ) → IsGood old → BeginDone bridge_session old new answer → Fits makes_none old new
 fits_begin Closed new answer good did = fits_closed makes_none Closed new did.0
-fits_begin (SettingUp set_up) new answer good did = begin_leaves set_up new answer (set_up.number + 1) did.given good did.made did.laws did.left
+fits_begin (SettingUp set_up) new answer good did = begin_leaves set_up new answer (set_up.number + 1) did.given good did.made.made did.made.laws did.left
 fits_begin (Running old) new answer good did = fits_same makes_none (Running old) new good (λ world. refl) did.0
 
--- what says no step
-fits_other : (called : CallKind) (call : CallState) (old new : Stage) (text next : List ℕ) (answer : ℕ) → IsGood old → OtherDone called call old text new next answer
-    → Fits (steps_by None called) old new
-fits_other kind.Drain call old new text next answer good did = fits_drain old new answer good did.0
-fits_other kind.Line call old new text next answer good did = fits_line (bytes_of call.words (byte_in (call.head / 256))) old new answer good did.0
-fits_other kind.Begin call old new text next answer good did = fits_begin old new answer good did.0
-fits_other kind.Close call old new text next answer good did = fits_closed makes_none old new did.0
-fits_other called call old new text next answer good did = fits_same makes_none old new good (λ world. refl) did.0
+-- a call of a model's own
+other_goes : (called : CallKind) (head answer : ℕ) (old after : BridgeState) → IsSoundWorld old.world → OtherDone called head old after answer
+    → Goes old (steps_by None called old.world) after
+other_goes kind.Drain head answer old after good did = drain_steps old after answer did
+other_goes called head answer old after good did = subst (λ (b : BridgeState). Goes old [] b) (sym did.0) (stays old good)
 
-fits_call : (said : Option Step) (call : CallState) (old new : Stage) (text next : List ℕ) (answer : ℕ) → IsGood old → FinishedBy said call old text new next answer
-    → Fits (steps_by said (kind_of call.head)) old new
-fits_call (Some step) call old new text next answer good did = fits_step step old new answer good did.0
-fits_call None call old new text next answer good did = fits_other (kind_of call.head) call old new text next answer good did
+own_goes : (said : Option Step) (head answer : ℕ) (old after : BridgeState) → IsSoundWorld old.world → DoneBy said head old after answer
+    → Goes old (steps_by said (kind_of head) old.world) after
+own_goes (Some step) head answer old after good did = one_step old after step did.0
+own_goes None head answer old after good did = other_goes (kind_of head) head answer old after good did
+
+-- the steps of a call that has all its words, by what is called
+module _ (call : CallState) where
+  abbrev makes : CallKind → WorldState → List Step
+  makes called world = steps_by (step_by called call.head call.words) called world
+
+  fits_own : (called : CallKind) (old new : Held) (answer : ℕ) → kind_of call.head ≡ called → IsGood old → OwnDone bridge_session call old new answer → Fits (makes called) old new
+  fits_own called Closed new answer is good did = fits_closed (makes called) Closed new did.0
+  fits_own called (SettingUp set_up) new answer is good did = fits_early (makes called) set_up new good did.0
+  fits_own called (Running old) new answer is good did =
+      subst (λ (s : Held). Fits (makes called) (Running old) s) (sym did.stage_is)
+      (subst (λ (c : CallKind). Goes old (makes c old.world) did.after) is (own_goes (step_in call.head call.words) call.head answer old did.after good did.done))
+
+  fits_line : (old new : Held) (answer : ℕ) → kind_of call.head ≡ kind.Line → IsGood old → LineDone bridge_session call old new answer → Fits (makes kind.Line) old new
+  fits_line Closed new answer is good did = fits_own kind.Line Closed new answer is good did
+  fits_line (SettingUp set_up) new answer is good did =
+      line_leaves set_up did.after (bytes_of call.words (byte_in (call.head / 256))) new answer did.told good did.done did.left
+  fits_line (Running old) new answer is good did = fits_own kind.Line (Running old) new answer is good did
+
+  fits_call : (old new : Held) (text next : List ℕ) (answer : ℕ) → IsGood old → Done bridge_session (call_of call.head) call old text new next answer
+      → Fits (makes (kind_of call.head)) old new
+  fits_call old new text next answer good did = by_kind (kind_of call.head) refl did
+    where
+      by_kind : (called : CallKind) → kind_of call.head ≡ called → Done bridge_session (call_by called) call old text new next answer → Fits (makes called) old new
+      by_kind kind.Line is did = fits_line old new answer is good did.0
+      by_kind kind.Begin is did = fits_begin old new answer good did.0
+      by_kind kind.Close is did = fits_closed makes_none old new did.0
+      by_kind kind.FaultLength is did = fits_same makes_none old new good (λ world. refl) did.0
+      by_kind kind.TextByte is did = fits_same makes_none old new good (λ world. refl) did.0
+      by_kind called is did = fits_own called old new answer is good did.0
 
 -- a word, by whether its call has all its words
-fits_by : (whole : Bool) (old new : BridgeHandle) (answer : ℕ) → IsGood old.stage → CalledBy whole old new answer
+fits_by : (whole : Bool) (old new : HeldBridge) (answer : ℕ) → IsGood old.stage → CalledBy bridge_session whole old new answer
     → Fits (λ world. if whole then steps_by (step_in new.call.head new.call.words) (kind_of new.call.head) world else []) old.stage new.stage
-fits_by true old new answer good did = fits_call (step_in new.call.head new.call.words) new.call old.stage new.stage old.text.items new.text.items answer good did
+fits_by true old new answer good did = fits_call new.call old.stage new.stage old.text new.text answer good did
 fits_by false old new answer good did = fits_same makes_none old.stage new.stage good (λ world. refl) did.0
 
-fits_word : (stage : Stage) (old new : BridgeHandle) (word answer : ℕ) → old.stage ≡ stage → IsGood stage → Called old word new answer
+fits_word : (stage : Held) (old new : HeldBridge) (word answer : ℕ) → old.stage ≡ stage → IsGood stage → Called old word new answer
     → Fits (λ world. steps_at world new.call) stage new.stage
 fits_word stage old new word answer is good did =
-    subst (λ (s : Stage). Fits (λ world. steps_at world new.call) s new.stage) is
+    subst (λ (s : Held). Fits (λ world. steps_at world new.call) s new.stage) is
     (fits_by (is_whole new.call) old new answer (subst IsGood (sym is) good) did.told)
 
 -- ---- words, one after another
 
 -- what is closed stays so
-closed_on : (makes : WorldState → List Step) (stage : Stage) → Fits makes Closed stage → stage ≡ Closed
+closed_on : (makes : WorldState → List Step) (stage : Held) → Fits makes Closed stage → stage ≡ Closed
 closed_on makes Closed fits = refl
 closed_on makes (SettingUp set_up) fits = absurd fits
 closed_on makes (Running bridge) fits = absurd fits
 
-stays_closed : (calls : List (ℕ × ℕ)) (handle new : BridgeHandle) → handle.stage ≡ Closed → TakesWords Called handle calls new → new.stage ≡ Closed
-stays_closed [] handle new closed takes = ap (λ (h : BridgeHandle). h.stage) takes ∙ closed
+stays_closed : (calls : List (ℕ × ℕ)) (handle new : HeldBridge) → handle.stage ≡ Closed → TakesWords Called handle calls new → new.stage ≡ Closed
+stays_closed [] handle new closed takes = ap (λ (h : HeldBridge). h.stage) takes ∙ closed
 stays_closed (call ∷ calls) handle new closed takes =
     stays_closed calls takes.next new
     (closed_on (λ world. steps_at world takes.next.call) takes.next.stage (fits_word Closed handle takes.next call.0 call.1 closed tt takes.called)) takes.behind
 
-never_closed : (bridge : BridgeState) (new : BridgeHandle) → new.stage ≡ Running bridge → new.stage ≡ Closed → ⊥
+never_closed : (bridge : BridgeState) (new : HeldBridge) → new.stage ≡ Running bridge → new.stage ≡ Closed → ⊥
 never_closed bridge new there closed = let both : Closed ≡ Running bridge = sym closed ∙ there in cc
 
 -- the model that runs, by its stage
-abbrev model_or : BridgeState → Stage → BridgeState
+abbrev model_or : BridgeState → Held → BridgeState
 model_or other Closed = other
 model_or other (SettingUp set_up) = other
 model_or other (Running bridge) = bridge
 
 -- a model that has run goes on
-runs_on : (calls : List (ℕ × ℕ)) (setup : SetupLists) (before : List Step) (handle new : BridgeHandle) (old bridge : BridgeState) → handle.stage ≡ Running old → HasRun setup before old
+runs_on : (calls : List (ℕ × ℕ)) (setup : SetupLists) (before : List Step) (handle new : HeldBridge) (old bridge : BridgeState) → handle.stage ≡ Running old → HasRun setup before old
     → TakesWords Called handle calls new → new.stage ≡ Running bridge → HasRun setup (before ++ steps_of old.world handle.call (words_in calls)) bridge
 runs_on [] setup before handle new old bridge here ran takes there =
     subst (λ (steps : List Step). HasRun setup steps bridge) (sym (append-nil before))
-    (subst (λ (b : BridgeState). HasRun setup before b) (ap (model_or old) (sym here ∙ sym (ap (λ (h : BridgeHandle). h.stage) takes) ∙ there)) ran)
+    (subst (λ (b : BridgeState). HasRun setup before b) (ap (model_or old) (sym here ∙ sym (ap (λ (h : HeldBridge). h.stage) takes) ∙ there)) ran)
 runs_on (call ∷ calls) setup before handle new old bridge here ran takes there =
     by_stage takes.next.stage refl (fits_word (Running old) handle takes.next call.0 call.1 here (ran_soundly setup before old ran) takes.called)
     (λ mid is now. runs_on calls setup (before ++ steps_at old.world takes.next.call) takes.next new mid bridge is now takes.behind there)
   where
-    by_stage : (stage : Stage) → takes.next.stage ≡ stage → Fits (λ world. steps_at world takes.next.call) (Running old) stage
+    by_stage : (stage : Held) → takes.next.stage ≡ stage → Fits (λ world. steps_at world takes.next.call) (Running old) stage
         → ((mid : BridgeState) → takes.next.stage ≡ Running mid → HasRun setup (before ++ steps_at old.world takes.next.call) mid
         → HasRun setup ((before ++ steps_at old.world takes.next.call) ++ steps_of mid.world takes.next.call (words_in calls)) bridge)
         → HasRun setup (before ++ steps_of old.world handle.call (words_in (call ∷ calls))) bridge
@@ -360,15 +368,15 @@ runs_on (call ∷ calls) setup before handle new old bridge here ran takes there
         (subst (λ (steps : List Step). HasRun setup steps bridge) (append_assoc before made (steps_of (after old.world made) now (words_in calls))) there_too)
 
 -- a set-up is begun at one of the words
-begins_run : (calls : List (ℕ × ℕ)) (handle new : BridgeHandle) (set_up : SetUpState) (bridge : BridgeState) → handle.stage ≡ SettingUp set_up → IsEarly (stage_in set_up)
+begins_run : (calls : List (ℕ × ℕ)) (handle new : HeldBridge) (set_up : SetUpState) (bridge : BridgeState) → handle.stage ≡ SettingUp set_up → IsEarly (stage_in set_up)
     → TakesWords Called handle calls new → new.stage ≡ Running bridge → IsARun handle calls bridge
 begins_run [] handle new set_up bridge here early takes there =
-    absurd (let both : SettingUp set_up ≡ Running bridge = sym here ∙ sym (ap (λ (h : BridgeHandle). h.stage) takes) ∙ there in cc)
+    absurd (let both : SettingUp set_up ≡ Running bridge = sym here ∙ sym (ap (λ (h : HeldBridge). h.stage) takes) ∙ there in cc)
 begins_run (call ∷ calls) handle new set_up bridge here early takes there =
     by_stage takes.next.stage refl (fits_word (SettingUp set_up) handle takes.next call.0 call.1 here early takes.called)
     (λ more is still. begins_run calls takes.next new more bridge is still takes.behind there)
   where
-    by_stage : (stage : Stage) → takes.next.stage ≡ stage → Fits (λ world. steps_at world takes.next.call) (SettingUp set_up) stage
+    by_stage : (stage : Held) → takes.next.stage ≡ stage → Fits (λ world. steps_at world takes.next.call) (SettingUp set_up) stage
         → ((more : SetUpState) → takes.next.stage ≡ SettingUp more → IsEarly (stage_in more) → IsARun takes.next calls bridge) → IsARun handle (call ∷ calls) bridge
     by_stage Closed is fits later = absurd (never_closed bridge new there (stays_closed calls takes.next new is takes.behind))
     by_stage (SettingUp more) is still later =
@@ -411,6 +419,6 @@ begins_run (call ∷ calls) handle new set_up bridge here early takes there =
 
 -- whatever words a new handle took: where a model runs then, they were a run of the steps that they say, from the opening world of the set-up that
 -- they said, and the main theorem holds of it
-pub is_a_run : (handle new : BridgeHandle) (calls : List (ℕ × ℕ)) (bridge : BridgeState) → IsNew handle → TakesWords Called handle calls new → new.stage ≡ Running bridge
+pub is_a_run : (handle new : HeldBridge) (calls : List (ℕ × ℕ)) (bridge : BridgeState) → IsNew handle → TakesWords Called handle calls new → new.stage ≡ Running bridge
     → IsARun handle calls bridge
 is_a_run handle new calls bridge is_new takes there = begins_run calls handle new no_line bridge is_new.stage tt takes there

@@ -4,6 +4,8 @@ use Rattle.tl_messages.specs.declared.ABeat.{ABeat}
 use Rattle.world.specs.declared.Step.{Step}
 use Rattle.world.specs.declared.Step.TheVariants as step
 use Rattle.call_words.specs.CallWords.{byte_in, flag_in, line_words, low_in}
+use Rattle.call_words.specs.declared.session.HandleCall.{HandleCall}
+use Rattle.call_words.specs.declared.session.HandleCall.TheVariants as which
 use Rattle.bridge_calls.specs.declared.kinds.CallKind.{CallKind}
 use Rattle.bridge_calls.specs.declared.kinds.CallKind.TheVariants as kind
 
@@ -41,6 +43,18 @@ kind_by number =
 
 abbrev pub kind_of : ℕ → CallKind
 kind_of head = kind_by (head % 256)
+
+-- those that every handle has
+abbrev pub call_by : CallKind → HandleCall
+call_by kind.Line = which.Line
+call_by kind.Begin = which.Begin
+call_by kind.Close = which.Close
+call_by kind.FaultLength = which.FaultLength
+call_by kind.TextByte = which.TextByte
+call_by _ = which.Own
+
+abbrev pub call_of : ℕ → HandleCall
+call_of head = call_by (kind_of head)
 
 -- how many words come behind a head, by what is called
 abbrev pub wanted_by : CallKind → ℕ → ℕ

@@ -9,14 +9,14 @@ use Rattle.world.specs.World.{WorldState, after, byte_of, drained, enabled, in_f
 use Rattle.world.specs.declared.Step.{Step}
 use Rattle.world_run.specs.Headline.{IsOneAtATime}
 use Rattle.world_run.specs.Runs.{HandedReply, answers_of, handed_in, sent_in}
-use Rattle.call_words.specs.PendingCalls.{CallState, is_whole, no_call, taken}
+use Rattle.call_words.specs.Handles.{IsNewOf}
+use Rattle.call_words.specs.PendingCalls.{CallState, is_whole, taken}
 use Rattle.call_words.specs.WordLists.{TakesWords, call_after, words_in}
+use Rattle.call_words.specs.declared.handle.Stage.TheVariants.{Running, SettingUp}
 use Rattle.bridge_calls.specs.Bridges.{BridgeState}
 use Rattle.bridge_calls.specs.CallKinds.{kind_of, step_in, words_wanted}
-use Rattle.bridge_calls.specs.Handles.{Called}
+use Rattle.bridge_calls.specs.Handles.{Called, HeldBridge}
 use Rattle.bridge_calls.specs.SetUps.{SetUpState, no_line, stage_in}
-use Rattle.bridge_calls.specs.declared.handle.BridgeHandle.{BridgeHandle}
-use Rattle.bridge_calls.specs.declared.handle.Stage.TheVariants.{Running, SettingUp}
 use Rattle.bridge_calls.specs.declared.kinds.CallKind.{CallKind}
 use Rattle.bridge_calls.specs.declared.kinds.CallKind.TheVariants as kind
 
@@ -72,19 +72,17 @@ pub record HasRun (setup : SetupLists) (steps : List Step) (bridge : BridgeState
 -- ---- a handle from its beginning
 
 -- a handle as it is made
-pub record IsNew (handle : BridgeHandle) : Type 0 where
-  pub stage : handle.stage ≡ SettingUp no_line
-  pub call : handle.call ≡ no_call
-  pub text : handle.text.items ≡ []
+abbrev pub IsNew : HeldBridge → Type 0
+IsNew = IsNewOf no_line
 
 -- words that were handed to a new handle have led to one on which a model runs: the first of them said a set-up and began it, and those behind them
 -- made steps
-pub record IsARun (handle : BridgeHandle) (calls : List (ℕ × ℕ)) (bridge : BridgeState) : Type 0 where
+pub record IsARun (handle : HeldBridge) (calls : List (ℕ × ℕ)) (bridge : BridgeState) : Type 0 where
   pub first : List (ℕ × ℕ)
   pub rest : List (ℕ × ℕ)
   pub all : calls ≡ first ++ rest
   -- what was said up to the word by which it began
-  pub before : BridgeHandle
+  pub before : HeldBridge
   pub set_up : SetUpState
   pub setup : SetupLists
   pub lines : TakesWords Called handle first before
@@ -93,5 +91,5 @@ pub record IsARun (handle : BridgeHandle) (calls : List (ℕ × ℕ)) (bridge : 
   pub run : HasRun setup (steps_of (opening_world setup) (call_after words_wanted handle.call (words_in first)) (words_in rest)) bridge
 
 -- whatever words a handle takes: where a model runs then, they were a run
-abbrev pub OnlyRuns : BridgeHandle → Type 0
-OnlyRuns handle = (new : BridgeHandle) (calls : List (ℕ × ℕ)) (bridge : BridgeState) → TakesWords Called handle calls new → new.stage ≡ Running bridge → IsARun handle calls bridge
+abbrev pub OnlyRuns : HeldBridge → Type 0
+OnlyRuns handle = (new : HeldBridge) (calls : List (ℕ × ℕ)) (bridge : BridgeState) → TakesWords Called handle calls new → new.stage ≡ Running bridge → IsARun handle calls bridge

@@ -1,8 +1,8 @@
 //! What the words of a call say: which call it is, how many words it wants, and the step that it makes.
-ghost use Rattle.std.specs.Prelude.{◌≡◌, ◌≤◌, ◌%◌, get_or};
-ghost use Rattle.bridge_calls.specs.CallKinds.{kind_of, offer_beat, short_in, step_in, words_wanted};
+ghost use Rattle.std.specs.Prelude.{◌≡◌, ◌%◌, get_or};
+ghost use Rattle.bridge_calls.specs.CallKinds.{kind_of, offer_beat, short_in, step_in};
 
-use call_words::{byte_in, flag_in, low_in, word_at, words_of};
+use call_words::{byte_in, flag_in, low_in, word_at};
 use tl_messages::ABeat;
 use world_run::Step;
 
@@ -100,18 +100,6 @@ pub(crate) fn kind_of(head: u64) -> CallKind
         25 => CallKind::ReplyFields,
         26 => CallKind::ReplyPayload,
         _ => CallKind::None,
-    }
-}
-
-/// How many words come behind a head.
-pub(crate) fn words_wanted(head: u64) -> u32
-    ensures { result ≡ words_wanted head }
-{
-    match kind_of(head) {
-        CallKind::Offer => 2,
-        CallKind::Perform => 1,
-        CallKind::Line => words_of(byte_in(head / 256)),
-        _ => 0,
     }
 }
 

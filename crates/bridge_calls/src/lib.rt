@@ -5,6 +5,7 @@ mod answers;
 mod bridge;
 mod handle;
 mod kinds;
+mod session;
 mod set_up;
 
 pub use handle::BridgeHandle;

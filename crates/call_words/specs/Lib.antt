@@ -1,4 +1,5 @@
 pub mod Answers
 pub mod CallWords
+pub mod Handles
 pub mod PendingCalls
 pub mod WordLists

@@ -6,13 +6,13 @@ use script_text::ScriptFault;
 use std::io::Write;
 
 /// More words are wanted.
-pub const PENDING: u64 = 17_179_869_184;
+pub(crate) const PENDING: u64 = 17_179_869_184;
 
 /// There is no such call, or not here.
 pub const WRONG_CALL: u64 = 8_589_934_595;
 
 /// No byte is there.
-pub const NO_BYTE: u64 = 4_294_967_296;
+const NO_BYTE: u64 = 4_294_967_296;
 
 /// A fault: 2^32 and the first wrong word, 2^33 where the set-up is refused, and one more where memory is.
 pub fn fault_answer(fault: ScriptFault) -> u64
@@ -37,7 +37,8 @@ pub fn byte_answer(byte: Option<u8>) -> u64
 }
 
 /// Writes the text of a fault, as far as there is one, and tells how many bytes it has.
-pub fn fault_length(text: &mut Vec<u8>, fault: Option<ScriptFault>) -> u64
+#[inline(never)]
+pub(crate) fn fault_length(text: &mut Vec<u8>, fault: Option<ScriptFault>) -> u64
     ensures { FaultTold text.new.items result }
 {
     text.clear();
@@ -51,7 +52,7 @@ pub fn fault_length(text: &mut Vec<u8>, fault: Option<ScriptFault>) -> u64
 }
 
 /// The byte of a text at a place; 0 behind its end.
-pub fn text_byte(text: &[u8], place: u32) -> u64
+pub(crate) fn text_byte(text: &[u8], place: u32) -> u64
     ensures { result ≡ get_or text.now place 0 }
 {
     match text.get(place as usize) {

@@ -1,6 +1,6 @@
 -- The calls of a handle judge exactly. A beat's call leaves the board that judged it, and its answer is 0 just where that found nothing wrong; so after
 -- any number of such calls the board is the one that the beats lead to, of which it is known what it finds. It knows no reply and no request.
-use Rattle.std.proofs.Common.{◌≡◌, ◌<◌, ◌^◌, ◌-◌, ◌/◌, ◌≤◌, ℕ, zero, suc, Bool, true, false, List, [], ◌∷◌, ◌++◌, Option, Some, None, Result, Ok, Err, refl, sym, ap, ◌∙◌, subst, arith, nat_lt, eqb-true}
+use Rattle.std.proofs.Common.{◌≡◌, ◌⊎◌, inl, inr, ◌<◌, ◌^◌, ◌/◌, ◌≤◌, ℕ, zero, suc, Bool, true, false, List, [], ◌∷◌, ◌++◌, Option, Some, None, Result, Ok, Err, refl, sym, ap, ◌∙◌, subst, arith, nat_lt, eqb-true}
 use Rattle.std.specs.Prelude.{◌↔◌, ⊤, if◌then◌else◌, get_or, length, map}
 use Rattle.std.specs.Option.{option_or}
 use Rattle.std.proofs.lemmas.Bool.Decides.{nat_tests}
@@ -16,8 +16,12 @@ use Rattle.bus_words.specs.Tables.{first_broken}
 use Rattle.burst_plan.specs.declared.Region.{Region}
 use Rattle.call_words.specs.Answers.{fault_answer}
 use Rattle.call_words.specs.CallWords.{byte_in, bytes_of, low_in}
-use Rattle.call_words.specs.PendingCalls.{CallState, is_whole, kept_words, taken}
+use Rattle.call_words.specs.Handles.{BeginDone, Begun, BegunLeft, CalledBy, Done, OwnMade}
+use Rattle.call_words.specs.PendingCalls.{CallState, call_begun, is_whole, taken, with_word}
 use Rattle.call_words.specs.WordLists.{AreWords, TakesWords, words_in}
+use Rattle.call_words.specs.declared.session.HandleCall.{HandleCall}
+use Rattle.call_words.specs.declared.handle.Stage.{Stage}
+use Rattle.call_words.specs.declared.handle.Stage.TheVariants.{Closed, Running, SettingUp}
 use Rattle.scoreboard.specs.AxiPorts.{wrong_axi}
 use Rattle.scoreboard.specs.Boards.{Board, ClientBoard, IsReached, a_wrong, after_seen, answer_to, d_wrong, next_to, opening_from, reply_rules, told_to, wrong_at, wrong_by, wrong_in_turn, wrong_reply, wrong_request}
 use Rattle.scoreboard.specs.Filling.{filled_beginning, filled_on}
@@ -52,12 +56,9 @@ use Rattle.script_text.specs.declared.faults.ScriptFault.{ScriptFault}
 use Rattle.script_text.specs.declared.faults.ScriptFault.TheVariants.{Script, Setup, Read, Write, NoMemory}
 use Rattle.score_calls.specs.Answers.{answer_of}
 use Rattle.score_calls.specs.CallCommands.{command_by, command_in}
-use Rattle.score_calls.specs.CallWords.{kind_of, wanted_by, words_wanted}
+use Rattle.score_calls.specs.CallWords.{call_by, call_of, kind_of, wanted_by, words_wanted}
 use Rattle.score_calls.specs.HandleRuns.{AllWentWell, Begins, HasHeard, Heard, Hears, IsExact, TakesBeat, WentWell, heard_nothing, heard_after, heard_at, heard_by, heard_with, is_plain, is_asking}
-use Rattle.score_calls.specs.Handles.{BeginDone, Begun, BegunLeft, Called, CalledBy, Commanded, FinishedBy, OtherDone}
-use Rattle.score_calls.specs.declared.handle.Handle.{Handle}
-use Rattle.score_calls.specs.declared.handle.Stage.{Stage}
-use Rattle.score_calls.specs.declared.handle.Stage.TheVariants.{Closed, Judging, SettingUp}
+use Rattle.score_calls.specs.Handles.{Called, Commanded, DoneBy, OtherDone, ScoreHandle, score_session}
 use Rattle.score_calls.specs.declared.words.CallKind.{CallKind}
 use Rattle.score_calls.specs.declared.words.CallKind.TheVariants as kind
 
@@ -282,23 +283,24 @@ module _ (errors : Errors) (heard : Heard) (old : ObservationState) (has : HasHe
       by_command command.Reset fits plain may none = absurd (cc (plain))
       by_command command.End fits plain may none = absurd (cc (plain))
 
-  hears_said : (said : Command) (new : Stage) (answer : ℕ) → FitsSaid said → is_plain said ≡ true → answer ≡ 0 → Commanded old said new answer → Hears errors (heard_with heard said) new
-  hears_said said new answer fits plain zero_is did =
-      subst (Hears errors (heard_with heard said)) (sym did.stage_is) (by_told did.told did.done did.answer_is)
+  hears_said : (said : Command) (after : ObservationState) (answer : ℕ) → FitsSaid said → is_plain said ≡ true → answer ≡ 0 → Commanded old said after answer
+      → HasHeard errors (heard_with heard said) (score_of after.score)
+  hears_said said after answer fits plain zero_is did = by_told did.told did.done did.answer_is
     where
-      by_told : (told : Result ℕ ScriptFault) → CallTold (observing_of old) said (observing_of did.after) told → answer ≡ answer_of told
-          → HasHeard errors (heard_with heard said) (score_of did.after.score)
-      by_told (Ok code) done is = hears_done said code did.after fits plain (sym is ∙ zero_is) done
+      by_told : (told : Result ℕ ScriptFault) → CallTold (observing_of old) said (observing_of after) told → answer ≡ answer_of told
+          → HasHeard errors (heard_with heard said) (score_of after.score)
+      by_told (Ok code) done is = hears_done said code after fits plain (sym is ∙ zero_is) done
       by_told (Err fault) done is = absurd (omega (arith, zero_is, is, fault_above fault))
 
   -- the answer to a beat is exact
-  exact_said : (seen : SeenBeat) (new : Stage) (answer : ℕ) → FitsBeat seen.beat → seen.unknown ≡ 0 → Commanded old (command.Observed seen) new answer → IsExact heard seen.beat answer
-  exact_said seen new answer fits known did below = by_told did.told did.done did.answer_is
+  exact_said : (seen : SeenBeat) (after : ObservationState) (answer : ℕ) → FitsBeat seen.beat → seen.unknown ≡ 0 → Commanded old (command.Observed seen) after answer
+      → IsExact heard seen.beat answer
+  exact_said seen after answer fits known did below = by_told did.told did.done did.answer_is
     where
       exact : (wrong_at AcceptanceOrder score.board.board seen.beat ≡ None) ↔ IsRight heard.beginning (heard.seen ++ seen.beat ∷ [])
       exact = right_exactly errors heard.beginning heard.seen score.board.board seen.beat has.reached
 
-      by_told : (told : Result ℕ ScriptFault) → CallTold (observing_of old) (command.Observed seen) (observing_of did.after) told → answer ≡ answer_of told
+      by_told : (told : Result ℕ ScriptFault) → CallTold (observing_of old) (command.Observed seen) (observing_of after) told → answer ≡ answer_of told
           → (answer ≡ 0) ↔ IsRight heard.beginning (heard.seen ++ seen.beat ∷ [])
       by_told (Err fault) done is = absurd (omega (arith, below, is, fault_above fault))
       by_told (Ok code) (may, after_is, code_said) is =
@@ -341,42 +343,75 @@ taken_fit call word wants fit fits = by_whole (is_whole call)
     kept_fit true = append_fit call.words fit
     kept_fit false = fit
 
-    by_whole : (whole : Bool) → AreWords (let next : CallState = if whole then record { head = word; words = []; wanted = wants } else record { head = call.head; words = kept_words call.words word; wanted = call.wanted - 1 } in next.words)
+    by_whole : (whole : Bool) → AreWords (let next : CallState = if whole then call_begun word wants else with_word call word in next.words)
     by_whole true = tt
     by_whole false = kept_fit (nat_lt (length call.words) 16)
 
 -- an asking changes nothing
-hears_asking : (errors : Errors) (heard : Heard) (old : ObservationState) (called : CallKind) (head answer : ℕ) (words text next : List ℕ) (new : Stage)
-    → HasHeard errors heard (score_of old.score) → is_asking called ≡ true → OtherDone called head words (Judging old) text new next answer → Hears errors heard new
-hears_asking errors heard old kind.Line head answer words text next new has asks did = absurd (cc (asks))
-hears_asking errors heard old kind.Close head answer words text next new has asks did = absurd (cc (asks))
-hears_asking errors heard old kind.Begin head answer words text next new has asks did = subst (Hears errors heard) (sym did.0.0) has
-hears_asking errors heard old called head answer words text next new has asks did = subst (Hears errors heard) (sym did.0) has
+hears_asking : (errors : Errors) (heard : Heard) (old after : ObservationState) (called : CallKind) (head answer : ℕ) (words : List ℕ)
+    → HasHeard errors heard (score_of old.score) → is_asking called ≡ true → OtherDone called head words old after answer → HasHeard errors heard (score_of after.score)
+hears_asking errors heard old after kind.Line head answer words has asks did = absurd (cc (asks))
+hears_asking errors heard old after called head answer words has asks did = subst (λ (seen : ObservationState). HasHeard errors heard (score_of seen.score)) (sym did.0) has
 
-hears_call : (errors : Errors) (heard : Heard) (stage new : Stage) (said : Option Command) (head answer : ℕ) (words text next : List ℕ) → Hears errors heard stage → FitsIfSaid said
-    → WentWell said (kind_of head) answer → FinishedBy said head words stage text new next answer → Hears errors (heard_by heard said) new
-hears_call errors heard (Judging old) new None head answer words text next has fits well did = hears_asking errors heard old (kind_of head) head answer words text next new has well did
-hears_call errors heard (Judging old) new (Some said) head answer words text next has fits well did = hears_said errors heard old has said new answer fits well.0 well.1 did.0
-hears_call errors heard (SettingUp set_up) new said head answer words text next has fits well did = absurd has
-hears_call errors heard Closed new said head answer words text next has fits well did = absurd has
+hears_own : (errors : Errors) (heard : Heard) (old after : ObservationState) (said : Option Command) (head answer : ℕ) (words : List ℕ) → HasHeard errors heard (score_of old.score)
+    → FitsIfSaid said → WentWell said (kind_of head) answer → DoneBy said head words old after answer → HasHeard errors (heard_by heard said) (score_of after.score)
+hears_own errors heard old after None head answer words has fits well did = hears_asking errors heard old after (kind_of head) head answer words has well did
+hears_own errors heard old after (Some said) head answer words has fits well did = hears_said errors heard old has said after answer fits well.0 well.1 did
+
+-- a call behind the set-up is the observation's own; or it says no command, and leaves the observation as it is or closes all
+module _ (old : ObservationState) (new : Stage SetUpState ObservationState) (call : CallState) (text next : List ℕ) (answer : ℕ) where
+  abbrev IsOwnOrQuiet : Type 0
+  IsOwnOrQuiet =
+      OwnMade score_session call old new answer
+      ⊎ ((command_in call.head call.words ≡ None) × ((new ≡ Running old) ⊎ (kind_of call.head ≡ kind.Close)))
+
+  own_or_quiet : Done score_session (call_of call.head) call (Running old) text new next answer → IsOwnOrQuiet
+  own_or_quiet did = by_kind (kind_of call.head) refl did
+    where
+      none : (called : CallKind) → kind_of call.head ≡ called → command_by called call.head call.words ≡ None → command_in call.head call.words ≡ None
+      none called is nothing = ap (λ (c : CallKind). command_by c call.head call.words) is ∙ nothing
+
+      by_kind : (called : CallKind) → kind_of call.head ≡ called → Done score_session (call_by called) call (Running old) text new next answer → IsOwnOrQuiet
+      by_kind kind.Begin is did = inr (none kind.Begin is refl, inl did.0.0)
+      by_kind kind.TextLength is did = inr (none kind.TextLength is refl, inl did.0)
+      by_kind kind.FaultLength is did = inr (none kind.FaultLength is refl, inl did.0)
+      by_kind kind.TextByte is did = inr (none kind.TextByte is refl, inl did.0)
+      by_kind kind.Close is did = inr (none kind.Close is refl, inr is)
+      by_kind called is did = inl did.0
+
+hears_call : (errors : Errors) (heard : Heard) (stage new : Stage SetUpState ObservationState) (call : CallState) (text next : List ℕ) (answer : ℕ) → Hears errors heard stage
+    → FitsIfSaid (command_in call.head call.words) → WentWell (command_in call.head call.words) (kind_of call.head) answer
+    → Done score_session (call_of call.head) call stage text new next answer → Hears errors (heard_by heard (command_in call.head call.words)) new
+hears_call errors heard (SettingUp set_up) new call text next answer has fits well did = absurd has
+hears_call errors heard Closed new call text next answer has fits well did = absurd has
+hears_call errors heard (Running old) new call text next answer has fits well did = by_own (own_or_quiet old new call text next answer did)
+  where
+    by_own : IsOwnOrQuiet old new call text next answer → Hears errors (heard_by heard (command_in call.head call.words)) new
+    by_own (inl made) =
+        subst (Hears errors (heard_by heard (command_in call.head call.words))) (sym made.stage_is)
+        (hears_own errors heard old made.after (command_in call.head call.words) call.head answer call.words has fits well made.done)
+    by_own (inr (none, inl same)) =
+        subst (λ (said : Option Command). Hears errors (heard_by heard said) new) (sym none) (subst (Hears errors heard) (sym same) has)
+    by_own (inr (none, inr closes)) =
+        let asks : is_asking (kind_of call.head) ≡ true = subst (λ (said : Option Command). WentWell said (kind_of call.head) answer) none well in
+        let never : is_asking kind.Close ≡ true = subst (λ (called : CallKind). is_asking called ≡ true) closes asks in absurd (cc (never))
 
 -- ---- a word
 
-hears_word : (errors : Errors) (heard : Heard) (old new : Handle) (word answer : ℕ) → Hears errors heard old.stage → AreWords new.call.words → Called old word new answer
+hears_word : (errors : Errors) (heard : Heard) (old new : ScoreHandle) (word answer : ℕ) → Hears errors heard old.stage → AreWords new.call.words → Called old word new answer
     → (is_whole new.call ≡ true → WentWell (command_in new.call.head new.call.words) (kind_of new.call.head) answer) → Hears errors (heard_at heard new.call) new.stage
 hears_word errors heard old new word answer hears fit did well = by_whole (is_whole new.call) refl did.told
   where
-    by_whole : (whole : Bool) → is_whole new.call ≡ whole → CalledBy whole old new answer
+    by_whole : (whole : Bool) → is_whole new.call ≡ whole → CalledBy score_session whole old new answer
         → Hears errors (if whole then heard_by heard (command_in new.call.head new.call.words) else heard) new.stage
     by_whole true is done =
-        hears_call errors heard old.stage new.stage (command_in new.call.head new.call.words) new.call.head answer new.call.words old.text.items new.text.items hears
-        (fits_by (kind_of new.call.head) new.call.head new.call.words fit) (well is) done
+        hears_call errors heard old.stage new.stage new.call old.text new.text answer hears (fits_by (kind_of new.call.head) new.call.head new.call.words fit) (well is) done
     by_whole false is done = subst (Hears errors heard) (sym done.0) hears
 
-hears_words : (calls : List (ℕ × ℕ)) (errors : Errors) (heard : Heard) (handle new : Handle) → Hears errors heard handle.stage → AreWords handle.call.words → AreWords (words_in calls)
+hears_words : (calls : List (ℕ × ℕ)) (errors : Errors) (heard : Heard) (handle new : ScoreHandle) → Hears errors heard handle.stage → AreWords handle.call.words → AreWords (words_in calls)
     → TakesWords Called handle calls new → AllWentWell handle.call calls → Hears errors (heard_after heard handle.call (words_in calls)) new.stage × AreWords new.call.words
 hears_words [] errors heard handle new hears fit all takes well =
-    (subst (λ (h : Handle). Hears errors heard h.stage) (sym takes) hears, subst (λ (h : Handle). AreWords h.call.words) (sym takes) fit)
+    (subst (λ (h : ScoreHandle). Hears errors heard h.stage) (sym takes) hears, subst (λ (h : ScoreHandle). AreWords h.call.words) (sym takes) fit)
 hears_words (call ∷ calls) errors heard handle new hears fit all takes well =
     let next = takes.next in
     let now = taken handle.call call.0 (words_wanted call.0) in
@@ -390,17 +425,22 @@ hears_words (call ∷ calls) errors heard handle new hears fit all takes well =
     (subst (λ (c : CallState). Hears errors (heard_after (heard_at heard c) c (words_in calls)) new.stage) is later.0, later.1)
 
 -- a beat's last word
-exact_word : (errors : Errors) (heard : Heard) (stage : Stage) (old new : Handle) (word answer : ℕ) (beat : ObservedBeat) → old.stage ≡ stage → Hears errors heard stage → AreWords new.call.words
-    → Called old word new answer → is_whole new.call ≡ true → command_in new.call.head new.call.words ≡ Some (command.Observed (record { beat = beat; unknown = 0 })) → IsExact heard beat answer
+exact_word : (errors : Errors) (heard : Heard) (stage : Stage SetUpState ObservationState) (old new : ScoreHandle) (word answer : ℕ) (beat : ObservedBeat) → old.stage ≡ stage
+    → Hears errors heard stage → AreWords new.call.words → Called old word new answer → is_whole new.call ≡ true
+    → command_in new.call.head new.call.words ≡ Some (command.Observed (record { beat = beat; unknown = 0 })) → IsExact heard beat answer
 exact_word errors heard Closed old new word answer beat there hears fit did whole said = absurd hears
 exact_word errors heard (SettingUp set_up) old new word answer beat there hears fit did whole said = absurd hears
-exact_word errors heard (Judging seen) old new word answer beat there hears fit did whole said =
-    let done : FinishedBy (command_in new.call.head new.call.words) new.call.head new.call.words old.stage old.text.items new.stage new.text.items answer =
-    subst (λ (b : Bool). CalledBy b old new answer) whole did.told in
-    let at_stage = subst (λ (s : Stage). FinishedBy (command_in new.call.head new.call.words) new.call.head new.call.words s old.text.items new.stage new.text.items answer) there done in
-    let as_said = subst (λ (c : Option Command). FinishedBy c new.call.head new.call.words (Judging seen) old.text.items new.stage new.text.items answer) said at_stage in
-    let fits = subst FitsIfSaid said (fits_by (kind_of new.call.head) new.call.head new.call.words fit) in
-    exact_said errors heard seen hears (record { beat = beat; unknown = 0 }) new.stage answer fits refl as_said.0
+exact_word errors heard (Running seen) old new word answer beat there hears fit did whole said =
+    let done : Done score_session (call_of new.call.head) new.call old.stage old.text new.stage new.text answer = subst (λ (b : Bool). CalledBy score_session b old new answer) whole did.told in
+    by_own (own_or_quiet seen new.stage new.call old.text new.text answer
+    (subst (λ (s : Stage SetUpState ObservationState). Done score_session (call_of new.call.head) new.call s old.text new.stage new.text answer) there done))
+  where
+    by_own : IsOwnOrQuiet seen new.stage new.call old.text new.text answer → IsExact heard beat answer
+    by_own (inl made) =
+        let as_said = subst (λ (c : Option Command). DoneBy c new.call.head new.call.words seen made.after answer) said made.done in
+        let fits = subst FitsIfSaid said (fits_by (kind_of new.call.head) new.call.head new.call.words fit) in
+        exact_said errors heard seen hears (record { beat = beat; unknown = 0 }) made.after answer fits refl as_said
+    by_own (inr (none, other)) = let both : None ≡ Some (command.Observed (record { beat = beat; unknown = 0 })) = sym none ∙ said in absurd (cc (both))
 
 -- ---- the beginning
 
@@ -429,7 +469,7 @@ opened_score opening None score is = ap (score_or opening) is
     score_or other (Err fault) = other
 opened_score opening (Some fault) score is = absurd (cc (is))
 
-hears_begun : (setup : RangeLists) (asked : Asked) (set_up : SetUpState) (new : Stage) (number : ℕ) (given : Result ObservationState ScriptFault) → stage_in set_up ≡ SaidSetUp setup asked
+hears_begun : (setup : RangeLists) (asked : Asked) (set_up : SetUpState) (new : Stage SetUpState ObservationState) (number : ℕ) (given : Result ObservationState ScriptFault) → stage_in set_up ≡ SaidSetUp setup asked
     → policy_of asked.policy ≡ AcceptanceOrder → asked.strict ≡ false
     → GivesWorld (λ (seen : ObservationState). score_of seen.score) (world_at score_kind (stage_in set_up) number) given → BegunLeft given new 0
     → Hears (errors_of asked.errors) (heard_nothing setup) new
@@ -441,31 +481,26 @@ hears_begun setup asked set_up new number (Ok seen) said policy strict made left
     (ap (λ (stage : Stages RangeLists Asked Score). world_at score_kind stage number) (sym said) ∙ made))
     (hears_opening setup asked policy strict))
 
-begun_hears : (setup : RangeLists) (asked : Asked) (begun : Handle) → Begins setup asked begun → Hears (errors_of asked.errors) (heard_nothing setup) begun.stage × AreWords begun.call.words
+begun_hears : (setup : RangeLists) (asked : Asked) (begun : ScoreHandle) → Begins setup asked begun → Hears (errors_of asked.errors) (heard_nothing setup) begun.stage × AreWords begun.call.words
 begun_hears setup asked begun begins = (hears_begun setup asked begins.set_up begun.stage _ did.given begins.said begins.policy begins.strict did.made did.left, subst (λ (c : CallState). AreWords c.words) (sym call_is) tt)
   where
     -- its word is a whole call
-    call_is : begun.call ≡ record { head = begins.word; words = []; wanted = 0 }
+    call_is : begun.call ≡ call_begun begins.word 0
     call_is =
         begins.called.call
-        ∙ ap (λ (whole : Bool). if whole then record { head = begins.word; words = []; wanted = words_wanted begins.word } else record {
-          head = begins.before.call.head;
-          words = kept_words begins.before.call.words begins.word;
-          wanted = begins.before.call.wanted - 1;
-        }) begins.no_pending
-        ∙ ap (λ (called : CallKind). let call : CallState = record { head = begins.word; words = []; wanted = wanted_by called begins.word } in call) begins.begin
+        ∙ ap (λ (whole : Bool). if whole then call_begun begins.word (words_wanted begins.word) else with_word begins.before.call begins.word) begins.no_pending
+        ∙ ap (λ (called : CallKind). call_begun begins.word (wanted_by called begins.word)) begins.begin
 
-    did : Begun begins.set_up begun.stage 0
+    did : Begun score_session begins.set_up begun.stage 0
     did =
-        let done : CalledBy true begins.before begun 0 = subst (λ (c : CallState). CalledBy (is_whole c) begins.before begun 0) call_is begins.called.told in
-        let by_call = subst (λ (c : CallState). FinishedBy (command_in c.head c.words) c.head c.words begins.before.stage begins.before.text.items begun.stage begun.text.items 0) call_is done in
-        let by_kind = subst (λ (called : CallKind). FinishedBy (command_by called begins.word []) begins.word [] begins.before.stage begins.before.text.items begun.stage begun.text.items 0) begins.begin by_call in
-        let other = subst (λ (called : CallKind). OtherDone called begins.word [] begins.before.stage begins.before.text.items begun.stage begun.text.items 0) begins.begin by_kind in
-        subst (λ (s : Stage). BeginDone s begun.stage 0) begins.stage other.0
+        let done : CalledBy score_session true begins.before begun 0 = subst (λ (c : CallState). CalledBy score_session (is_whole c) begins.before begun 0) call_is begins.called.told in
+        let by_call = subst (λ (c : CallState). Done score_session (call_of c.head) c begins.before.stage begins.before.text begun.stage begun.text 0) call_is done in
+        let by_kind = subst (λ (called : HandleCall). Done score_session called (call_begun begins.word 0) begins.before.stage begins.before.text begun.stage begun.text 0) (ap call_by begins.begin) by_call in
+        subst (λ (s : Stage SetUpState ObservationState). BeginDone score_session s begun.stage 0) begins.stage by_kind.0
 
 -- whatever calls a handle took since its set-up was begun that went well: the next answer to a beat is 0 exactly where what was observed with that beat
 -- is right
-pub judges_exactly : (setup : RangeLists) (asked : Asked) (begun : Handle) (calls : List (ℕ × ℕ)) (beat : ObservedBeat) (answer : ℕ) → Begins setup asked begun → TakesBeat begun calls beat answer
+pub judges_exactly : (setup : RangeLists) (asked : Asked) (begun : ScoreHandle) (calls : List (ℕ × ℕ)) (beat : ObservedBeat) (answer : ℕ) → Begins setup asked begun → TakesBeat begun calls beat answer
     → IsExact (heard_after (heard_nothing setup) begun.call (words_in calls)) beat answer
 judges_exactly setup asked begun calls beat answer begins takes =
     let at_first = begun_hears setup asked begun begins in

@@ -1,6 +1,8 @@
 -- What the words of a call say (this project's profile).
 use Rattle.std.specs.Prelude.{ℕ, ◌/◌, ◌%◌, ◌==◌, if◌then◌else◌}
 use Rattle.call_words.specs.CallWords.{byte_in, line_words}
+use Rattle.call_words.specs.declared.session.HandleCall.{HandleCall}
+use Rattle.call_words.specs.declared.session.HandleCall.TheVariants as which
 use Rattle.score_calls.specs.declared.words.CallKind.{CallKind}
 use Rattle.score_calls.specs.declared.words.CallKind.TheVariants as kind
 
@@ -37,6 +39,19 @@ kind_by number =
 
 abbrev pub kind_of : ℕ → CallKind
 kind_of head = kind_by (head % 256)
+
+-- those that every handle has
+abbrev pub call_by : CallKind → HandleCall
+call_by kind.Line = which.Line
+call_by kind.Begin = which.Begin
+call_by kind.Close = which.Close
+call_by kind.TextLength = which.TextLength
+call_by kind.FaultLength = which.FaultLength
+call_by kind.TextByte = which.TextByte
+call_by _ = which.Own
+
+abbrev pub call_of : ℕ → HandleCall
+call_of head = call_by (kind_of head)
 
 -- how many words come behind a head, by what is called
 abbrev pub wanted_by : CallKind → ℕ → ℕ

@@ -1,8 +1,11 @@
 -- What the calls of a handle come to, all of them together, where they hand over beats of which all is known, by profile `bridge` and without
 -- `axi strict`: the first answer to a beat that isn't 0 comes with the first beat that can't be right (this project's profile).
 use Rattle.std.specs.Prelude.{ℕ, ◌≡◌, ◌==◌, ◌<◌, ◌^◌, ◌↔◌, Bool, true, false, List, [], ◌∷◌, ◌++◌, Option, Some, None, ⊤, if◌then◌else◌}
-use Rattle.call_words.specs.PendingCalls.{CallState, is_whole, no_call, taken}
+use Rattle.call_words.specs.Handles.{IsNewOf}
+use Rattle.call_words.specs.PendingCalls.{CallState, is_whole, taken}
 use Rattle.call_words.specs.WordLists.{AreWords, TakesWords, words_in}
+use Rattle.call_words.specs.declared.handle.Stage.{Stage}
+use Rattle.call_words.specs.declared.handle.Stage.TheVariants.{Closed, Running, SettingUp}
 use Rattle.script_text.specs.Stages.{SettingUp as SaidSetUp}
 use Rattle.scoreboard.specs.Boards.{Beginning, IsReached, beginning_of, opening_from}
 use Rattle.scoreboard.specs.Filling.{filled_beginning}
@@ -11,7 +14,7 @@ use Rattle.scoreboard.specs.Unknown.{some_begun}
 use Rattle.scoreboard.specs.declared.Errors.{Errors}
 use Rattle.scoreboard.specs.declared.ObservedBeat.{ObservedBeat}
 use Rattle.scoreboard.specs.declared.Policy.TheVariants.{AcceptanceOrder}
-use Rattle.score_script.specs.Observations.{SetUpState, stage_in}
+use Rattle.score_script.specs.Observations.{ObservationState, SetUpState, stage_in}
 use Rattle.score_script.specs.Profiles.{policy_of}
 use Rattle.score_script.specs.ScoreStates.{score_of}
 use Rattle.score_script.specs.Scores.{Score}
@@ -21,18 +24,13 @@ use Rattle.score_script.specs.declared.score.Command.TheVariants as command
 use Rattle.score_setup.specs.ScoreSetups.{RangeLists}
 use Rattle.score_calls.specs.CallCommands.{command_in}
 use Rattle.score_calls.specs.CallWords.{kind_of, words_wanted}
-use Rattle.score_calls.specs.Handles.{Called, no_line}
-use Rattle.score_calls.specs.declared.handle.Handle.{Handle}
-use Rattle.score_calls.specs.declared.handle.Stage.{Stage}
-use Rattle.score_calls.specs.declared.handle.Stage.TheVariants.{Closed, Judging, SettingUp}
+use Rattle.score_calls.specs.Handles.{Called, ScoreHandle, no_line}
 use Rattle.score_calls.specs.declared.words.CallKind.{CallKind}
 use Rattle.score_calls.specs.declared.words.CallKind.TheVariants as kind
 
 -- a handle as it is made
-pub record IsNew (handle : Handle) : Type 0 where
-  pub stage : handle.stage ≡ SettingUp no_line
-  pub call : handle.call ≡ no_call
-  pub text : handle.text.items ≡ []
+abbrev pub IsNew : ScoreHandle → Type 0
+IsNew = IsNewOf no_line
 
 -- ---- what was heard
 
@@ -102,8 +100,8 @@ pub record HasHeard (errors : Errors) (heard : Heard) (score : Score) : Type 0 w
   pub begins : score.begins ≡ true → heard.seen ≡ []
 
 -- a handle on which one is judged
-abbrev pub Hears : Errors → Heard → Stage → Type 0
-Hears errors heard (Judging seen) = HasHeard errors heard (score_of seen.score)
+abbrev pub Hears : Errors → Heard → Stage SetUpState ObservationState → Type 0
+Hears errors heard (Running seen) = HasHeard errors heard (score_of seen.score)
 Hears errors heard (SettingUp set_up) = ⊥
 Hears errors heard Closed = ⊥
 
@@ -112,8 +110,8 @@ abbrev pub IsExact : Heard → ObservedBeat → ℕ → Type 0
 IsExact heard beat answer = answer < 2 ^ 32 → (answer ≡ 0) ↔ IsRight heard.beginning (heard.seen ++ beat ∷ [])
 
 -- a set-up was begun by a word, by profile `bridge` and without `axi strict`
-pub record Begins (setup : RangeLists) (asked : Asked) (begun : Handle) : Type 0 where
-  pub before : Handle
+pub record Begins (setup : RangeLists) (asked : Asked) (begun : ScoreHandle) : Type 0 where
+  pub before : ScoreHandle
   pub set_up : SetUpState
   pub word : ℕ
   pub stage : before.stage ≡ SettingUp set_up
@@ -125,9 +123,9 @@ pub record Begins (setup : RangeLists) (asked : Asked) (begun : Handle) : Type 0
   pub called : Called before word begun 0
 
 -- words that went well, and behind them the last word of a call that says a beat of which all is known, with its answer
-pub record TakesBeat (begun : Handle) (calls : List (ℕ × ℕ)) (beat : ObservedBeat) (answer : ℕ) : Type 0 where
-  pub old : Handle
-  pub new : Handle
+pub record TakesBeat (begun : ScoreHandle) (calls : List (ℕ × ℕ)) (beat : ObservedBeat) (answer : ℕ) : Type 0 where
+  pub old : ScoreHandle
+  pub new : ScoreHandle
   pub word : ℕ
   pub words : AreWords (words_in calls)
   pub word_fits : word < 2 ^ 64
@@ -144,5 +142,5 @@ heard_nothing setup = record { beginning = beginning_of setup; seen = [] }
 -- whatever calls go well that a handle takes since a set-up was begun: the next answer to a beat is exact
 abbrev pub OnlyExact : Type 0
 OnlyExact =
-    (setup : RangeLists) (asked : Asked) (begun : Handle) (calls : List (ℕ × ℕ)) (beat : ObservedBeat) (answer : ℕ) → Begins setup asked begun → TakesBeat begun calls beat answer
+    (setup : RangeLists) (asked : Asked) (begun : ScoreHandle) (calls : List (ℕ × ℕ)) (beat : ObservedBeat) (answer : ℕ) → Begins setup asked begun → TakesBeat begun calls beat answer
     → IsExact (heard_after (heard_nothing setup) begun.call (words_in calls)) beat answer

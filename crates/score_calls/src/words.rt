@@ -1,8 +1,6 @@
 //! The words of a call: its head, which says what is called, and those behind it.
-ghost use Rattle.std.specs.Prelude.{◌≡◌, ◌≤◌};
-ghost use Rattle.score_calls.specs.CallWords.{kind_of, words_wanted};
-
-use call_words::{byte_in, words_of};
+ghost use Rattle.std.specs.Prelude.{◌≡◌};
+ghost use Rattle.score_calls.specs.CallWords.{kind_of};
 
 /// What is called.
 #[derive(Clone, Copy)]
@@ -95,18 +93,5 @@ pub(crate) fn kind_of(head: u64) -> CallKind
         24 => CallKind::Compared,
         25 => CallKind::Byte,
         _ => CallKind::None,
-    }
-}
-
-/// How many words come behind a head.
-pub(crate) fn words_wanted(head: u64) -> u32
-    ensures value { result ≡ words_wanted head }
-    ensures most { result ≤ 16 }
-{
-    match kind_of(head) {
-        CallKind::A => 2,
-        CallKind::D | CallKind::Aw | CallKind::W | CallKind::Ar | CallKind::R | CallKind::Time => 1,
-        CallKind::Fill | CallKind::Line => words_of(byte_in(head / 256)),
-        _ => 0,
     }
 }

@@ -4,9 +4,8 @@ ghost use Rattle.std.specs.Borrow.{full_share, sem};
 ghost use Rattle.std.specs.Ptr.{lies_at};
 ghost use base.Fml.{fex};
 ghost use Rattle.score_calls.specs.HandleRuns.{IsNew};
-ghost use Rattle.score_calls.specs.Handles.{Called};
+ghost use Rattle.score_calls.specs.Handles.{Called, ScoreHandle};
 ghost use Rattle.score_calls.specs.contracts.handle.Handle.{the_row};
-ghost use Rattle.score_calls.specs.declared.handle.Handle as declared;
 ghost use Rattle.zuldegei.specs.Opened.{HandedOut};
 
 use score_calls::Handle;
@@ -41,9 +40,9 @@ fn called(handle: &mut Handle, word: u64) -> u64
 /// Takes a word of a call to the scoreboard that lies there. The answer to all but a call's last word is that more are wanted.
 #[unsafe(no_mangle)]
 pub unsafe extern "C" fn tlscore_call(at: *mut u8, word: u64) -> u64
-    ghost old: { declared.Handle }
+    ghost old: { ScoreHandle }
     requires* { sem 𝓛 (lies_at the_row full_share at old) }
-    ensures* { sem 𝓛 (fex declared.Handle (λ new. fex (Called old word new result) (λ done. lies_at the_row full_share at new))) }
+    ensures* { sem 𝓛 (fex ScoreHandle (λ new. fex (Called old word new result) (λ done. lies_at the_row full_share at new))) }
 {
     called(&mut *(at as *mut Handle), word)
 }

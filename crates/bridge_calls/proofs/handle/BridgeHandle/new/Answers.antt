@@ -1,8 +1,6 @@
 -- What all calls of a new handle come to.
-use Rattle.std.proofs.Common.{rules}
 use Rattle.bridge_calls.proofs.CallRuns.{is_a_run}
 use Rattle.bridge_calls.proofs.handle.BridgeHandle.new.Goals as goal
 
 pub returns-clause-runs : goal.returns-clause-runs
-returns-clause-runs c = λ new calls bridge takes there.
-    is_a_run _ new calls bridge (record { stage = search (rules, c.new.ensures.stage, c.new.ensures.number); call = c.new-2.ensures; text = c.new-3.ensures.items }) takes there
+returns-clause-runs c = λ new calls bridge takes there. is_a_run _ new calls bridge c.new.ensures takes there
