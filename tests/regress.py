@@ -23,10 +23,10 @@ from pathlib import Path
 from typing import Iterator, List, Optional, Tuple
 from xml.etree import ElementTree
 
-from cover import long_run
 from ends import told
 from waves import RTL, TOP, command
 from zuldegei.beside import Beside, Helpers, Request
+from zuldegei.regress import Runner
 from zuldegei.reports import Job, Outcome, State
 
 RIGHT = TOP / "examples/scoreboard/right.in"
@@ -35,7 +35,6 @@ READ = """import junitparser, sys
 for suite in junitparser.JUnitXml.fromfile(sys.argv[1]):
     print(*(f"{it.name}: {it.value}" for it in suite.properties()), *(it.system_out for it in suite), sep="\\n")
 """
-LONG, TOO_SHORT = 600_000, 3  # beats, and seconds in which no process reads so many
 RUNS = sorted((RTL / "runs").glob("*.lines"))
 Case = Tuple[str, Optional[str]]
 
@@ -462,17 +461,18 @@ def counted(folder: Path, last: str) -> Iterator[Case]:
 def uncovered(folder: Path, score: str) -> Iterator[Case]:
     """Runs that can't count in what was reached: they are named, with the reason."""
     (folder / "nothing.lines").write_text("config 2 4 16 2 16 12 hh\n")
-    text = f"case {{seed}} in 1) cat '{RUNS[0]}';; 2) head -n 20 '{RUNS[0]}'; echo it broke >&2; exit 3;; *) cat '{RUNS[0]}'; sleep 60;; esac"
-    words = ["--command", text, "--seeds", "1-3", "--timeout", 9, "--cover", "some.cover"]
-    made = Made(folder, score, "nothing.lines", "none.lines", *words)
+    text = f"case {{seed}} in 1) cat '{RUNS[0]}';; *) head -n 20 '{RUNS[0]}'; echo it broke >&2; exit 3;; esac"
+    made = Made(folder, score, "nothing.lines", "none.lines", "--command", text, "--seeds", "1-2", "--cover", "some.cover")
     due = ["none.lines: none.lines: No such file or directory", "seed 2: the command ended with status 3: it broke"]
-    due += ["seed 3: it took longer than 9 s"]
     found = re.findall(r"(?m)^not covered: (.*)$", made.ran.stdout)
-    yield "runs that don't count", made.wrong(1, ["nothing", "failed", "wrong", "failed", "late"]) or (None if found == due else f"{found}")
+    yield "runs that don't count", made.wrong(1, ["nothing", "failed", "wrong", "failed"]) or (None if found == due else f"{found}")
     yield "runs that do", None if json.loads((folder / "some.cover").read_text())["runs"] == 2 else "it isn't two"
     said = [it.get("uncovered") for it in made.runs]
     in_junit = [it.text.partition("not covered: ")[2] for it in made.suite.iter("system-out")]
-    yield "why, in both files", None if said == in_junit and [bool(it) for it in said] == [0, 1, 0, 1, 1] else f"{said}, {in_junit}"
+    yield "why, in both files", None if said == in_junit and [bool(it) for it in said] == [0, 1, 0, 1] else f"{said}, {in_junit}"
+    made = Made(folder, score, "--command", f"cat '{RUNS[0]}'; sleep 60", "--timeout", 0.5, "--cover", "some.cover")
+    is_well = "\nnot covered: cat " in made.ran.stdout and ": it took longer than 0.5 s\ncovered: 0 runs" in made.ran.stdout
+    yield "a run that is cut", made.wrong(2, ["late"]) or (None if is_well else made.ran.stdout)
     right = stand_in(folder, "cat >/dev/null; printf '= judged 5 wrong 0 outstanding 0 open 0 compared 8 of 8\\n'")
     (folder / "bare.lines").write_text("A 0 4 0 3 5 00000008 ff 0000000000000000 0\n")
     made = Made(folder, "", "bare.lines", "--cover", "some.cover", "--score", right)
@@ -502,15 +502,14 @@ def beside(folder: Path, score: str) -> Iterator[Case]:
     reading.join(30)
     is_well = found and found[0].late > 3 and found[0].cover.beats == 65
     yield "an observation that can be read once", None if is_well else f"{found}"
-    (folder / "long.lines").write_text("".join(long_run(LONG)))
-    last = "= judged 5 wrong {} outstanding 0 open 0 compared 8 of 8\\n"
-    verdicts = {"late": f"printf '{last.format(0)}'", "wrong": f"printf '= wrong 9 axi 8 WLAST\\n{last.format(1)}'; exit 1"}
-    for state, text in verdicts.items():
-        began, quick = time.monotonic(), stand_in(folder, f"head -c 1 >/dev/null; {text}")
-        made = Made(folder, "", "long.lines", "--cover", "some.cover", "--timeout", TOO_SHORT, "--score", quick)
-        is_told = f"not covered: long.lines: it took longer than {TOO_SHORT} s" in made.ran.stdout and time.monotonic() - began < 30
-        why = made.wrong(2 - (state == "wrong"), [state])
-        yield f"what takes too long beside its verdict: {state}", why or (None if is_told else made.ran.stdout)
+    os.mkfifo(folder / "stuck")  # nobody writes there
+    for state, ends in ((State.RIGHT, State.LATE), (State.WAIVED, State.LATE), (State.WRONG, State.WRONG)):
+        runner = Runner(score, b"", 0.5, None, Beside(None, None, True))
+        asked = Request(runner.beside, Outcome(Job(0, "a run"), state), folder / "stuck", "")
+        got = runner.with_beside(asked, time.monotonic() + runner.timeout)
+        runner.helpers.close()
+        is_well = (got.state, got.why, got.uncovered) == (ends, *["it took longer than 0.5 s"] * 2)
+        yield f"what takes too long beside its verdict: {state}", None if is_well else str(got)
     helpers = Helpers()
     helper = helpers.one()
     helper.end()
