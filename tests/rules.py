@@ -2,9 +2,9 @@
 in a clock, some of which wait, and resets between. The rule that the assertions tell of each beat has to be tlscore's, or none for both,
 and each rule has to be broken so often. Lots are drawn beside plain models of the tables of docs/RULES.md, which go on behind a wrong beat
 as docs/SCOREBOARD.md says, and replies tell what the set-up's pages let them tell, so that nothing is wrong by the memory alone. AXI4
-ports of 128 bits and more, which tlscore doesn't take, are judged by the plain model. Then the wires: what is offered, waits and changes;
-and beats with x, which nothing is told of. The labels are compared with the proved names, and beside the testbench of examples/testbench/rtl the assertions tell what tlscore finds. One
-shape of the ports is played by Verilator too, and yosys reads the file. What isn't installed of these is named.
+ports of 128 bits and more, which tlscore doesn't take, are judged by the plain model. Then by hand what is offered, waits and changes, and
+beats with x. The labels are compared with the proved names, and beside the testbench of examples/testbench/rtl the assertions tell what
+tlscore finds. One shape of the ports is played by Verilator too, and yosys reads the file. What isn't installed of these is named.
 
     python3 tests/rules.py TLSCORE [--seed WORD] [--clocks N] [--rounds N]
 """
