@@ -59,13 +59,19 @@ told_by : (old new : Observing) (line : List ℕ) (said : Command) (wrong : Opti
 told_by old new line said None (Ok code) done none (may, score, text, number, is) =
     (done ∙ rw none (ap₂ (λ (t : List ℕ) (s : Score). Ok (t, Running s)) (sym text) (sym score)), number, is)
 told_by old new line said (Some word) (Ok code) done some (may, score, text, number, is) = absurd (search (rules, some, may))
-told_by old new line said None (Err fault) done none (why, stops) =
-    let is : fault ≡ NoMemory = subst (λ (w : Option ℕ). FailsBy (next_number old.number) w fault) none why in
-    subst (λ (f : ScriptFault). LineTold old line new (Err f)) (sym is)
+told_by old new line said None (Err (Script at word)) done none (why, stops) = absurd (search (rules, none, why))
+told_by old new line said (Some wrong) (Err (Script at word)) done some (why, stops) =
+    let fault : Script at word ≡ Script (next_number old.number) wrong = subst (λ (w : Option ℕ). FailsBy (next_number old.number) w (Script at word)) some why in
+    (done ∙ rw some (ap (λ (f : ScriptFault). Err f) (sym fault)), stops)
+told_by old new line said None (Err NoMemory) done none (why, stops) =
     (subst (λ (step : LineStep (Stage RangeLists Asked Score)). IsOk step) (sym done) (command_goes old.score (next_number old.number) said none), stops)
-told_by old new line said (Some wrong) (Err fault) done some (why, stops) =
-    let is : fault ≡ Script (next_number old.number) wrong = subst (λ (w : Option ℕ). FailsBy (next_number old.number) w fault) some why in
-    subst (λ (f : ScriptFault). LineTold old line new (Err f)) (sym is) (done ∙ rw some refl, stops)
+told_by old new line said (Some wrong) (Err NoMemory) done some (why, stops) = absurd (search (rules, some, why))
+told_by old new line said None (Err (Setup fault)) done none (why, stops) = absurd (search (rules, none, why))
+told_by old new line said (Some wrong) (Err (Setup fault)) done some (why, stops) = absurd (search (rules, some, why))
+told_by old new line said None (Err Read) done none (why, stops) = absurd (search (rules, none, why))
+told_by old new line said (Some wrong) (Err Read) done some (why, stops) = absurd (search (rules, some, why))
+told_by old new line said None (Err Write) done none (why, stops) = absurd (search (rules, none, why))
+told_by old new line said (Some wrong) (Err Write) done some (why, stops) = absurd (search (rules, some, why))
 
 pub line_told : (old new : Observing) (line : List ℕ) (said : Command) (told : Result ℕ ScriptFault) → line_done old line ≡ command_step score_kind (Ok old.score) (next_number old.number) said
     → TakeTold old (next_number old.number) said new told → LineTold old line new told

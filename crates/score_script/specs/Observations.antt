@@ -119,8 +119,10 @@ abbrev pub LineTold : Observing → List ℕ → Observing → Result ℕ Script
 LineTold old line new (Ok code) =
     (line_done old line ≡ Ok (observing_text new, Running new.score)) × (new.number ≡ next_number old.number) × (code ≡ observing_code new)
 LineTold old line new (Err (Script at word)) = (line_done old line ≡ Err (Script at word)) × (new ≡ old)
+LineTold old line new (Err (Setup fault)) = ⊥
+LineTold old line new (Err Read) = ⊥
+LineTold old line new (Err Write) = ⊥
 LineTold old line new (Err NoMemory) = IsOk (line_done old line) × (new ≡ old)
-LineTold old line new _ = ⊥
 
 -- ---- a command that is called
 

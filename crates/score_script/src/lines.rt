@@ -1,13 +1,14 @@
 //! The lines of observed beats, and of the answers between them.
-ghost use Rattle.std.specs.Prelude.{◌≡◌, ◌<◌, IfOk, Ok, true};
+ghost use Rattle.std.specs.Prelude.{◌≡◌, ◌<◌, ◌||◌, IfOk, Ok, true};
 ghost use Rattle.score_script.specs.declared.score.Command.TheVariants.{Answer, Observed};
-ghost use Rattle.line_text.specs.Fields.{Reads};
+ghost use Rattle.line_text.specs.Fields.{Reads, address_field, byte_field, flag_field};
 ghost use Rattle.line_text.specs.Words.{word_at};
-ghost use Rattle.score_script.specs.ObservedLines.{Stands, a_line, address_line, answer_command, ar_line, asked_command, aw_line, b_line, channel_command, channel_of, command_of, d_line, is_answer, is_settling, is_withdrawal, known, only_settles, r_line, resp_field, resp_in, seen_line, time_line, unknown_a, unknown_address, unknown_b, unknown_d, unknown_line, unknown_r, unknown_w, w_line};
+ghost use Rattle.score_script.specs.UnknownDigits.{StandsAt, payload_field, unknown_field};
+ghost use Rattle.score_script.specs.ObservedLines.{Stands, a_line, address_line, answer_command, ar_line, asked_command, aw_line, b_line, channel_command, channel_of, command_of, d_line, is_answer, is_settling, is_withdrawal, known, mask_field, only_settles, r_line, resp_field, resp_in, seen_line, time_line, unknown_a, unknown_address, unknown_b, unknown_d, unknown_line, unknown_r, unknown_w, w_line};
 
 use crate::fills::fill_line;
 use crate::score::Command;
-use crate::unknown::{loose, payload_at};
+use crate::unknown::{or_unknown, payload_at};
 use crate::waits::waited_line;
 use axi_beats::{ArBeat, AwBeat, BBeat, RBeat, Resp, WBeat};
 use axi_checker::AxiBeat;
@@ -243,19 +244,67 @@ fn seen_line(channel: Channel, words: &Words<'_>) -> Result<SeenBeat, u32>
     }
 }
 
+/// That word `n` is a byte, or one that nobody knows.
+fn loose_byte(words: &Words<'_>, n: u32) -> Result<(), u32>
+    requires { 0 < n }
+    ensures { StandsAt (byte_field (word_at words.now n) || unknown_field (word_at words.now n)) n result }
+{
+    or_unknown(words, n, words.byte(n).is_ok())
+}
+
+/// The same of an address.
+fn loose_address(words: &Words<'_>, n: u32) -> Result<(), u32>
+    requires { 0 < n }
+    ensures { StandsAt (address_field (word_at words.now n) || unknown_field (word_at words.now n)) n result }
+{
+    or_unknown(words, n, words.address(n).is_ok())
+}
+
+/// The same of a mask.
+fn loose_mask(words: &Words<'_>, n: u32) -> Result<(), u32>
+    requires { 0 < n }
+    ensures { StandsAt (mask_field (word_at words.now n) || unknown_field (word_at words.now n)) n result }
+{
+    or_unknown(words, n, words.mask(n).is_ok())
+}
+
+/// The same of a payload.
+fn loose_payload(words: &Words<'_>, n: u32) -> Result<(), u32>
+    requires { 0 < n }
+    ensures { StandsAt (payload_field (word_at words.now n) || unknown_field (word_at words.now n)) n result }
+{
+    or_unknown(words, n, payload_at(words, n).is_ok())
+}
+
+/// The same of a flag.
+fn loose_flag(words: &Words<'_>, n: u32) -> Result<(), u32>
+    requires { 0 < n }
+    ensures { StandsAt (flag_field (word_at words.now n) || unknown_field (word_at words.now n)) n result }
+{
+    or_unknown(words, n, words.flag(n).is_ok())
+}
+
+/// The same of a response.
+fn loose_resp(words: &Words<'_>, n: u32) -> Result<(), u32>
+    requires { 0 < n }
+    ensures { StandsAt (resp_field (word_at words.now n) || unknown_field (word_at words.now n)) n result }
+{
+    or_unknown(words, n, resp(words, n).is_ok())
+}
+
 /// The client of an A beat, if each of its fields is right or nobody knows it.
 fn unknown_a(words: &Words<'_>) -> Result<u8, u32>
     ensures { result ≡ unknown_a words.now }
 {
     let client = words.byte(2)?;
-    loose(words, 3, words.byte(3).is_ok())?;
-    loose(words, 4, words.byte(4).is_ok())?;
-    loose(words, 5, words.byte(5).is_ok())?;
-    loose(words, 6, words.byte(6).is_ok())?;
-    loose(words, 7, words.address(7).is_ok())?;
-    loose(words, 8, words.mask(8).is_ok())?;
-    loose(words, 9, payload_at(words, 9).is_ok())?;
-    loose(words, 10, words.flag(10).is_ok())?;
+    loose_byte(words, 3)?;
+    loose_byte(words, 4)?;
+    loose_byte(words, 5)?;
+    loose_byte(words, 6)?;
+    loose_address(words, 7)?;
+    loose_mask(words, 8)?;
+    loose_payload(words, 9)?;
+    loose_flag(words, 10)?;
     words.end(10)?;
     Ok(client)
 }
@@ -265,13 +314,13 @@ fn unknown_d(words: &Words<'_>) -> Result<u8, u32>
     ensures { result ≡ unknown_d words.now }
 {
     let client = words.byte(2)?;
-    loose(words, 3, words.byte(3).is_ok())?;
-    loose(words, 4, words.byte(4).is_ok())?;
-    loose(words, 5, words.byte(5).is_ok())?;
-    loose(words, 6, words.byte(6).is_ok())?;
-    loose(words, 7, words.flag(7).is_ok())?;
-    loose(words, 8, payload_at(words, 8).is_ok())?;
-    loose(words, 9, words.flag(9).is_ok())?;
+    loose_byte(words, 3)?;
+    loose_byte(words, 4)?;
+    loose_byte(words, 5)?;
+    loose_byte(words, 6)?;
+    loose_flag(words, 7)?;
+    loose_payload(words, 8)?;
+    loose_flag(words, 9)?;
     words.end(9)?;
     Ok(client)
 }
@@ -280,11 +329,11 @@ fn unknown_d(words: &Words<'_>) -> Result<u8, u32>
 fn unknown_address(words: &Words<'_>) -> Result<(), u32>
     ensures { Stands (unknown_address words.now) result }
 {
-    loose(words, 2, words.byte(2).is_ok())?;
-    loose(words, 3, words.address(3).is_ok())?;
-    loose(words, 4, words.byte(4).is_ok())?;
-    loose(words, 5, words.byte(5).is_ok())?;
-    loose(words, 6, words.byte(6).is_ok())?;
+    loose_byte(words, 2)?;
+    loose_address(words, 3)?;
+    loose_byte(words, 4)?;
+    loose_byte(words, 5)?;
+    loose_byte(words, 6)?;
     words.end(6)
 }
 
@@ -292,9 +341,9 @@ fn unknown_address(words: &Words<'_>) -> Result<(), u32>
 fn unknown_w(words: &Words<'_>) -> Result<(), u32>
     ensures { Stands (unknown_w words.now) result }
 {
-    loose(words, 2, payload_at(words, 2).is_ok())?;
-    loose(words, 3, words.mask(3).is_ok())?;
-    loose(words, 4, words.flag(4).is_ok())?;
+    loose_payload(words, 2)?;
+    loose_mask(words, 3)?;
+    loose_flag(words, 4)?;
     words.end(4)
 }
 
@@ -302,8 +351,8 @@ fn unknown_w(words: &Words<'_>) -> Result<(), u32>
 fn unknown_b(words: &Words<'_>) -> Result<(), u32>
     ensures { Stands (unknown_b words.now) result }
 {
-    loose(words, 2, words.byte(2).is_ok())?;
-    loose(words, 3, resp(words, 3).is_ok())?;
+    loose_byte(words, 2)?;
+    loose_resp(words, 3)?;
     words.end(3)
 }
 
@@ -311,10 +360,10 @@ fn unknown_b(words: &Words<'_>) -> Result<(), u32>
 fn unknown_r(words: &Words<'_>) -> Result<(), u32>
     ensures { Stands (unknown_r words.now) result }
 {
-    loose(words, 2, words.byte(2).is_ok())?;
-    loose(words, 3, payload_at(words, 3).is_ok())?;
-    loose(words, 4, resp(words, 4).is_ok())?;
-    loose(words, 5, words.flag(5).is_ok())?;
+    loose_byte(words, 2)?;
+    loose_payload(words, 3)?;
+    loose_resp(words, 4)?;
+    loose_flag(words, 5)?;
     words.end(5)
 }
 

@@ -149,8 +149,8 @@ fn is_unknown_field(word: &[u8]) -> bool
     has_unknown(word) && are_digits(word)
 }
 
-/// That word `n` is right, by a test of it, or one that nobody knows.
-pub(crate) fn loose(words: &Words<'_>, n: u32, right: bool) -> Result<(), u32>
+/// That word `n` is right, as it is said, or one that nobody knows.
+pub(crate) fn or_unknown(words: &Words<'_>, n: u32, right: bool) -> Result<(), u32>
     requires { 0 < n }
     ensures { StandsAt (right || unknown_field (word_at words.now n)) n result }
 {
