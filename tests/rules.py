@@ -219,7 +219,7 @@ class Lot:
         source = replies.begun.source if replies.begun else rng.choice(sources) if sources else -1
         if source < 0 and not self.is_rare(8):
             return None
-        if source < 0 or self.is_rare(12):
+        if source < 0 or self.is_rare(6 if replies.begun else 12):
             source = rng.choice(sources or [0]) if self.is_rare(2) else rng.getrandbits(self.shape.source_bits)
         due = replies.next(source)
         goes_on = bool(replies.begun)
@@ -236,7 +236,7 @@ class Lot:
         changes = [{"opcode": self.rng.randrange(8)}, {"param": self.rng.randrange(4)}, {"size": self.rng.randrange(16)}, by_itself]
         if goes_on:
             changes += [{"denied": 1 - due.denied, "corrupt": int(due.opcode == 1)}] * 4
-        for _ in range(self.is_rare(8) + self.is_rare(48)):
+        for _ in range(self.is_rare(4 if goes_on else 8) + self.is_rare(48)):
             fields.update(self.rng.choice(changes))
         return (fields["opcode"], fields["param"], fields["size"], source, fields["denied"], 0, fields["corrupt"])
 
