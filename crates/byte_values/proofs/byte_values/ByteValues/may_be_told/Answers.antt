@@ -1,5 +1,5 @@
 -- What isn't told is blamed rightly.
-use Rattle.std.proofs.Common.{◌≡◌, ◌∙◌, sym}
+use Rattle.std.proofs.Common.{◌∙◌, sym}
 use Rattle.byte_orders.proofs.RunsRightly.{as_whole, runs_rightly}
 use Rattle.byte_orders.proofs.ShortLists.{short_rightly}
 use Rattle.byte_values.proofs.byte_values.ByteValues.may_be_told.Goals as goal
