@@ -29,7 +29,7 @@ def lines(stretches: Iterator[Stretch], base: int) -> Iterator[str]:
             first = base + address + at
             if not 0 <= first <= TOP - len(known):
                 raise Fault(f"address {first:x}: addresses of the AXI4 port have 32 bits here")
-            yield f"fill {first:x} {' '.join(f'{it:02x}' for it in known)}\n"
+            yield f"fill {first:x} {bytes(known).hex(' ')}\n"
             at += len(known)
 
 
