@@ -19,7 +19,7 @@ import time
 from concurrent.futures import FIRST_COMPLETED, ThreadPoolExecutor, wait
 from pathlib import Path
 
-ROOM, LANES, TABLES = Path("out/build"), os.cpu_count() or 1, (Path(".ci/seconds"), Path("out/seconds"))
+ROOM, LANES, TABLES = Path("out/build"), len(os.sched_getaffinity(0)), (Path(".ci/seconds"), Path("out/seconds"))
 # The ways to a program, and to the library, that need no proof.
 OTHER_WAYS = "an archive needs no proof (docs/INSTALL.md); ./{0} --unproved .. answers in a minute or two, and proves nothing"
 OTHER_WAY = "an archive has the library, and needs no proof (docs/INSTALL.md)"

@@ -132,13 +132,18 @@ def told(file: Path = TOOK) -> str:
     return f"{sum(minutes.values()):.0f} processor minutes, {taken:.0f} of the clock: {kinds}"
 
 
-def clock(processors: int) -> float:
+def processors() -> int:
+    """How many processors this process may use: those of the machine, or fewer where it was given some of them alone."""
+    return len(os.sched_getaffinity(0))
+
+
+def clock(lanes: int) -> float:
     """How many minutes a whole test takes on so many processors, by KEPT. What ran alone there takes as long here, the rest is shared."""
     kinds, taken = sums(KEPT)
     whole, machine = sum(kinds.values()), MACHINE.search(KEPT.read_text())
     there = int(machine[1]) if machine else PROCESSORS
     alone = max((there * taken - whole) / (there - 1), 0) if there > 1 else 0
-    return alone + (whole - alone) / processors
+    return alone + (whole - alone) / lanes
 
 
 def called() -> str:
@@ -150,14 +155,14 @@ def of_whole() -> str:
     """How long the whole of it takes, where that is known: who doesn't prove anew has most of it kept, unless it is the first time."""
     if not KEPT.exists() or called() == PROGRAMS:
         return ""
-    return f" of {'' if called() == ANEW else 'at most '}some {clock(os.cpu_count() or 1):.0f}"
+    return f" of {'' if called() == ANEW else 'at most '}some {clock(processors()):.0f}"
 
 
 def ahead() -> Optional[str]:
     """How long ./test will take, where KEPT is there."""
     if not KEPT.exists():
         return None
-    kinds, here = sums(KEPT)[0], os.cpu_count() or 1
+    kinds, here = sums(KEPT)[0], processors()
     if called() == PROGRAMS:
         return f"./test program takes some {kinds['programs']:.0f} minutes"
     whole = f"some {clock(here):.0f} minutes on {here} processor{'s' if here > 1 else ''} ({sum(kinds.values()):.0f} processor minutes)"
@@ -175,7 +180,7 @@ def keep() -> int:
     Path(".ci/seconds").write_text("".join(f"{it} {known[it]}\n" for it in sorted(names)))
     minutes, taken = sums(TOOK)
     rows = (f"{60 * it:.0f} {60 * taken if kind == 'proofs' else 0:.0f} {kind}\n" for kind, it in minutes.items())
-    KEPT.write_text("".join([f"# on {os.cpu_count() or 1} processors\n", *rows]))
+    KEPT.write_text("".join([f"# on {processors()} processors\n", *rows]))
     print(told())
     return 0
 

@@ -264,6 +264,14 @@ AXI_ROWS = {
         W 0 ff 0 -> 8 WLAST
         B 0 OKAY
     """),
+    "data that say too soon that they are the last": (8, """
+        AW 0 10000 2 3 1
+        W 0 ff 0
+        W 0 ff 1 -> 8 WLAST
+        B 0 OKAY -> 9 B_WITHOUT_WRITE
+        W 0 ff 1
+        B 0 OKAY
+    """),
     "a bus of four bytes has four lanes": (4, """
         AR 0 10008 0 3 1 -> 1 SIZE
         AW 0 10008 1 2 1

@@ -12,6 +12,8 @@ from pathlib import Path
 
 TOP = Path(__file__).resolve().parent.parent
 CANNOT = 70
+# The processors that this process, and what it starts, may use.
+LANES = len(os.sched_getaffinity(0))
 
 # The stand-in. Each call is noted; what else it does, the variable DOES says, to the tree at the path TREE.
 RT = """#!/bin/sh
@@ -130,7 +132,7 @@ def cannot(answer, words):
 
 def first_use(copy):
     status, output, errors, noted = copy.call()
-    lanes = f"{os.cpu_count()} processor{'s' if os.cpu_count() > 1 else ''}"
+    lanes = f"{LANES} processor{'s' if LANES > 1 else ''}"
     wanted = [
         f"tlbridge: 2 crates to prove and build first, which takes some 1 min on {lanes}, by the table .ci/seconds",
         "tlbridge: an archive needs no proof (docs/INSTALL.md); ./tlbridge --unproved .. answers in a minute or two, and proves nothing",
@@ -228,7 +230,7 @@ def times_kept(copy):
     copy.source("out/took", f"# ./test anew\n{noted}")
     ran = subprocess.run(keep, cwd=copy.root, stdout=subprocess.PIPE, text=True, timeout=60)
     seconds, took = (Path(os.fsdecode(copy.file(it))).read_text() for it in (".ci/seconds", ".ci/took"))
-    rows = f"# on {os.cpu_count()} processors\n300 180 proofs\n60 0 tests\n120 0 wrong bodies\n120 0 programs\n"
+    rows = f"# on {LANES} processors\n300 180 proofs\n60 0 tests\n120 0 wrong bodies\n120 0 programs\n"
     is_right = refused == 1 and (seconds, took) == ("low 600\nother 5\ntlbridge 9\n", rows)
     is_right = is_right and ran.stdout == "10 processor minutes, 3 of the clock: proofs 5, tests 1, wrong bodies 2, programs 2\n"
     return None if is_right else f"status {refused}, then {ran.stdout!r}, {seconds!r}, {took!r}"
@@ -236,15 +238,15 @@ def times_kept(copy):
 
 def time_of_a_test(copy):
     """What ran alone on two processors, 20 minutes of 60, runs alone here; the other 80 minutes of a processor are shared."""
-    ahead, lanes = [sys.executable, TOP / ".ci/took.py", "--ahead"], os.cpu_count()
+    ahead = [sys.executable, TOP / ".ci/took.py", "--ahead"]
     printed = lambda words: subprocess.run(words, cwd=copy.root, stdout=subprocess.PIPE, text=True, timeout=60).stdout
     copy.source("out/took", "# ./test anew\n")
     unknown = printed(ahead)
     copy.source(".ci/took", "# on 2 processors\n3000 3600 proofs\n600 0 tests\n1200 0 wrong bodies\n1200 0 programs\n")
-    took = f"some {20 + 80 / lanes:.0f} minutes"
+    took = f"some {20 + 80 / LANES:.0f} minutes"
     wanted = {
-        "# ./test anew\n": (f"./test anew takes {took} on {lanes} processor", f"of {took.rpartition(' ')[0]} minutes"),
-        "# ./test \n": (f"./test takes {took} on {lanes} processor", f"of at most {took.rpartition(' ')[0]} minutes"),
+        "# ./test anew\n": (f"./test anew takes {took} on {LANES} processor", f"of {took.rpartition(' ')[0]} minutes"),
+        "# ./test \n": (f"./test takes {took} on {LANES} processor", f"of at most {took.rpartition(' ')[0]} minutes"),
         "# ./test program\n": ("./test program takes some 20 minutes", "after 0 minutes"),
     }
     for called, (first, far) in wanted.items():

@@ -55,7 +55,7 @@ ENTRY, DEFINED = re.compile(r'"([^"]+)"'), re.compile(r"`(\w+)`")
 WANTED = {".script": ".trace", ".in": ".out"}
 # A table of a page, with its head; in docs/RULES.md the rule of a row, and a wrong body that is another rule's.
 TABLE = re.compile(r"(?m)^\| (.*) \|\n\|[-|]+\|\n((?:\| .* \|\n)+)")
-RULE, OTHERS = re.compile(r"^\| (\d+ \w+)"), re.compile(r"as (\d+): (.*)")
+RULE, OTHERS = re.compile(r"^\| (\d+ \w+)"), re.compile(r"as (\d+): (`[^`]*`)")
 # A rule's number where it is defined, its name, both, and both of what is missing at the end.
 NUMBERED, CALLED = re.compile(r"(?m)^\w+ (\w+) = (\d+)$"), re.compile(r'(?m)^\w+ (\w+) = codes "(\w+)"$')
 SAID = re.compile(r'(\w+) = rule_words number \(codes "(?:request|axi)"\) (\d+) \(codes "(\w+)"\)')
@@ -286,10 +286,10 @@ def untold(cell, rule):
 
 
 def unturned(cell, others):
-    """How a cell doesn't name wrong bodies that turn a line of a function; another rule's is the one that its own row has."""
-    other = OTHERS.match(cell)
-    if other and others.get(other[1]) != other[2]:
-        return f"that of rule {other[1]} is another"
+    """How a cell doesn't name wrong bodies that turn a line of a function; another rule's is what its own row has."""
+    for rule, other in OTHERS.findall(cell):
+        if others.get(rule) != other:
+            return f"that of rule {rule} is another"
     try:
         edits = [body_edits.read((TOP / path).parent.parent, TOP / path) for path, _ in PLACE.findall(cell)]
     except body_edits.Unusable as why:
