@@ -13,7 +13,7 @@ from typing import Dict, Iterable, Optional
 
 HERE = Path(__file__).resolve().parent
 LIBRARY = HERE.parent / "out/libzuldegei.so"
-PACKED = ("*.py", "*.html", "*.js", "maps/*.map")  # of the package
+PACKED = ("*.py", "*.html", "*.js", "*.sv", "maps/*.map")  # of the package
 BEGAN = (1980, 1, 1, 0, 0, 0)  # the time of each file in a wheel
 
 

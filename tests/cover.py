@@ -150,7 +150,7 @@ def tables() -> Iterator[Case]:
     seen = Observation("")
     for line in lines:
         seen.set_up(0, line.split())
-    names = bins_of(Setup(config_of(lines[0].split(), 1), seen), ["time", "waited"])
+    names = bins_of(Setup(config_of(lines[0].split()[1:]), seen), ["time", "waited"])
     yield "each bin has one name", None if len(names) == len({*names}) else "some have the same"
     yield "each group has bins", ", ".join(it.name for it in GROUPS if not any(name.startswith(f"{it.name}/") for name in names)) or None
     for rule, patterns in CORNERS.items():
@@ -240,7 +240,7 @@ def outputs(folder: Path) -> Iterator[Case]:
     yield "the last line", None if (int(last[2]), int(last[3])) == (len(bins) - counts["never"], len(bins)) else last[0]
     yield from page((folder / "all.html"), bins, counts)
     yield from lcov(folder, bins)
-    again = command("cover", "--merge", "all.json", "--json", "again.json", cwd=folder)
+    again = command("cover", "all.json", "--json", "again.json", cwd=folder)
     same = (folder / "again.json").read_text() == (folder / "all.json").read_text()
     yield "the file alone, merged", None if again.returncode == 0 and same and again.stdout == ran.stdout else again.stderr or "another"
 
@@ -329,11 +329,11 @@ def faults(folder: Path) -> Iterator[Case]:
     }  # fmt: skip
     for name, text in odd.items():
         (folder / name).write_text(text)
-        ran = command("cover", *["--merge"] * name.endswith("json"), name, cwd=folder)
-        yield name, fault(ran, 2, due.get(name, f"{name} isn't what zuldegei-cover --json writes"))
+        ran = command("cover", name, cwd=folder)
+        yield name, fault(ran, 2, due.get(name, f"{name} isn't what zuldegei-cover --json writes, or zuldegei-regress --cover"))
     yield "no such file", fault(command("cover", "nothing.lines", cwd=folder), 3, "nothing.lines: No such file")
     yield "no words", fault(command("cover", cwd=folder), 6, "RUN")
-    yield "a clock of nothing", fault(command("cover", "--clock", "0", RUNS[0], cwd=folder), 6, "--clock 0")
+    yield "a clock of nothing", fault(command("cover", "--clock", "0", RUNS[0], cwd=folder), 6, "--clock: '0'")
     yield "a full disc", fault(command("cover", RUNS[0], "--json", "/dev/full", cwd=folder), 3, "/dev/full: No space left")
     text = (CASES / "gap.lines").read_text()
     slow = Reader(5).read(text.splitlines(True)).hits.found

@@ -210,6 +210,7 @@ class Inputs:
         files["set.lines"] = changed(self.setup, lot) if lot.randrange(2) else self.setup
         words = ["--score", "cat", "run.told"] if lot.randrange(2) else ["--score", self.score, "run.lines"]
         words += lot.choice(([], ["--setup", "set.lines"], ["--keep", "kept"], ["--late", "300"], ["--waive", "known.waivers"]))
+        words += lot.choice(([], ["--cover", "night.cover"]))
         files["known.waivers"] = changed(WAIVERS, lot) if lot.randrange(2) else WAIVERS
         return Call([*words, "--json", "runs.json", "--junit", "junit.xml", "-j", "1"], files)
 
@@ -218,7 +219,7 @@ class Inputs:
         files = {"run.lines": changed(lot.choice(self.runs)[0], lot), "other.lines": lot.choice(self.runs)[0]}
         files["counts.json"] = changed(self.counts, lot) if lot.randrange(4) else self.counts
         files["without.lines"] = changed(b"without id/*/7 six slots\nwithout reset/* none\n", lot)
-        words = lot.choice((["run.lines", "other.lines"], ["other.lines", "run.lines"], ["--merge", "counts.json"]))
+        words = lot.choice((["run.lines", "other.lines"], ["other.lines", "run.lines"], ["counts.json"], ["counts.json", "other.lines"]))
         words += lot.choice(([], ["--missed"], ["--clock", "10"], ["--without", "without.lines"]))
         return Call([*words, "--json", "cover.json", "--html", "cover.html", "--lcov", "cover.info"], files)
 
@@ -319,6 +320,10 @@ def unreadable(command: str, call: Call, status: int) -> Optional[str]:
             text, info = Path("cover.json").read_text(), Path("cover.info").read_text()
             is_same = cover_of_json(text, "").json() == text and Path("cover.html").read_text().endswith("</html>\n")
             return None if is_same and info.count("end_of_record\n") == info.count("TN:\n") else "its files aren't whole"
+        if command == "regress" and "--cover" in call.words and Path("runs.json").exists():
+            text = Path("night.cover").read_text()
+            if cover_of_json(text, "").json() != text:
+                return "night.cover isn't whole"
         if command == "regress" and Path("runs.json").exists():
             states = [it["status"] for it in json.loads(Path("runs.json").read_text())["runs"]]
             tags = [it[0].tag for it in ElementTree.parse("junit.xml").iter("testcase")]
@@ -332,7 +337,7 @@ def unreadable(command: str, call: Call, status: int) -> Optional[str]:
 def tried(inputs: Inputs, command: str, seed: int, number: int) -> Tuple[int, Optional[str]]:
     """Makes a case in the folder in which it is, and calls the command; gives the status, and what is wrong with it."""
     call = getattr(inputs, command)(random.Random(f"{seed} {command} {number}"))
-    for name in ("runs.json", "junit.xml", "run.html", "cover.json", "cover.html", "cover.info", *call.files):
+    for name in ("runs.json", "junit.xml", "night.cover", "run.html", "cover.json", "cover.html", "cover.info", *call.files):
         Path(name).unlink(missing_ok=True)
     for name, data in call.files.items():
         Path(name).write_bytes(data)

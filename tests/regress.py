@@ -1,7 +1,8 @@
 """What zuldegei-regress makes of runs: of the stored ones of examples/testbench/rtl the first wrong lines that are stored, in its table, in
 JUnit XML and in JSON; of right ones, of ones that can't be judged, and of ones that take too long their statuses; and runs side by side.
 Scoreboards whose verdict isn't whole, files that can't be written, and calls that are interrupted: no run is right that wasn't judged, and
-what was judged is told.
+what was judged is told. What runs reached: the file of --cover is that of zuldegei-cover, in whatever order and parts they were run, and runs
+that can't count are named; junitparser reads how much it was, where that is installed.
 
     python3 tests/regress.py TLSCORE
 """
@@ -9,21 +10,32 @@ what was judged is told.
 import json
 import os
 import pty
+import random
 import re
 import resource
 import signal
 import subprocess
 import sys
 import tempfile
+import threading
 import time
 from pathlib import Path
 from typing import Iterator, List, Optional, Tuple
 from xml.etree import ElementTree
 
+from cover import long_run
 from ends import told
 from waves import RTL, TOP, command
+from zuldegei.beside import Beside, Helpers, Request
+from zuldegei.reports import Job, Outcome, State
 
 RIGHT = TOP / "examples/scoreboard/right.in"
+PYTHONS = (sys.executable, "/usr/bin/python3")  # of which one may have junitparser
+READ = """import junitparser, sys
+for suite in junitparser.JUnitXml.fromfile(sys.argv[1]):
+    print(*(f"{it.name}: {it.value}" for it in suite.properties()), *(it.system_out for it in suite), sep="\\n")
+"""
+LONG, TOO_SHORT = 600_000, 3  # beats, and seconds in which no process reads so many
 RUNS = sorted((RTL / "runs").glob("*.lines"))
 Case = Tuple[str, Optional[str]]
 
@@ -189,7 +201,7 @@ def untrusted(folder: Path, score: str) -> Iterator[Case]:
 def early(folder: Path, score: str) -> Iterator[Case]:
     """Files that can't be written: told ahead of the first run."""
     (folder / "a-file").write_text("")
-    for word in ("--junit", "--json", "--keep"):
+    for word in ("--junit", "--json", "--cover", "--keep"):
         path = "a-file/kept" if word == "--keep" else "none/file"
         ran = command("regress", "--command", "touch ran", word, path, "--score", score, cwd=folder)
         why = f"status {ran.returncode}, {ran.stderr[-300:]!r}" if ran.returncode != 3 or path not in ran.stderr else None
@@ -243,9 +255,10 @@ def unkept(folder: Path, score: str) -> Optional[str]:
 def halfway(folder: Path, score: str) -> Iterator[Case]:
     """A call that gets a signal in its third run of 40: what was judged is told, and the rest is named."""
     text = f"case {{seed}} in 1) cat '{RIGHT}';; 2) cat '{RUNS[0]}';; *) touch began; sleep 60;; esac"
-    words = ["--command", text, "--seeds", "1-40", "-j", "1", "--junit", "junit.xml", "--json", "runs.json", "--score", score]
+    files = {"--junit": "junit.xml", "--json": "runs.json", "--cover": "night.cover"}
+    words = ["--command", text, "--seeds", "1-40", "-j", "1", "--score", score, *(word for it in files.items() for word in it)]
     for by in (signal.SIGINT, signal.SIGTERM):
-        for name in ("junit.xml", "runs.json"):
+        for name in files.values():
             (folder / name).unlink(missing_ok=True)
         with begun(folder, *words, stdout=subprocess.PIPE) as program:
             printed, said = stopped(folder, program, by)
@@ -261,6 +274,8 @@ def lacking(folder: Path, status: int, printed: str, said: str) -> Optional[str]
     runs = json.loads(taken(folder / "runs.json") or '{"runs": []}')["runs"]
     if [it["status"] for it in runs] != ["right", "wrong"] + ["unjudged"] * 38 or runs[-1]["run"] != "seed 40":
         return f"JSON has {runs[:3]}"
+    if json.loads(taken(folder / "night.cover") or '{"runs": 0}')["runs"] != 2:
+        return "its cover isn't of two runs"
     suite = ElementTree.parse(folder / "junit.xml").getroot().find("testsuite")
     counts = [suite.get(it) for it in ("tests", "failures", "errors")]
     counts += [len(suite.findall(it)) for it in ("testcase", "*/failure", "*/error")]
@@ -403,6 +418,109 @@ def late(folder: Path, score: str) -> Iterator[Case]:
     yield "--late 0", ended(Made(folder, score, "wrong.lines", "--late", 0), 6, "--late")
 
 
+def covered(folder: Path, score: str) -> Iterator[Case]:
+    """What runs reached: the file is that of zuldegei-cover, and the table and both files say how much it is."""
+    runs, lot = [*RUNS, RIGHT], random.Random(1)
+    ran = command("cover", *runs, "--json", "due.cover", cwd=folder)
+    due, last = (folder / "due.cover").read_text(), ran.stdout.splitlines()[-1]
+    made = Made(folder, score, *runs, "--cover", "night.cover", "-j", 3)
+    states = ["wrong"] * len(RUNS) + ["right"]
+    yield "what runs reached", made.wrong(1, states) or (None if (folder / "night.cover").read_text() == due else "another file than due")
+    yield "the table of what they reached", None if f"\ncovered: {last}\n" in made.ran.stdout else made.ran.stdout[-300:]
+    yield from counted(folder, last)
+    for number in range(4):
+        shuffled, at = lot.sample(runs, len(runs)), lot.randrange(1, len(runs))
+        for name, part in (("one.cover", shuffled[:at]), ("other.cover", shuffled[at:])):
+            command("regress", *part, "--cover", name, "--score", score, "-j", 1 + number, cwd=folder)
+        command("cover", *lot.sample(["one.cover", "other.cover"], 2), "--json", "both.cover", cwd=folder)
+        yield f"in parts, {number}", None if (folder / "both.cover").read_text() == due else "another file than of all at once"
+    command("regress", "--command", f"cat '{RUNS[0]}' # {{seed}}", "--seeds", "3-4", "--cover", "seeds.cover", "--score", score, cwd=folder)
+    names = {it[1] for it in json.loads((folder / "seeds.cover").read_text())["bins"].values() if it[0]}
+    yield "the names of runs", None if names == {"seed 3"} else f"they are {names}"
+    (folder / "out.lines").write_text("without wait/* none\nwithout request/* all of them\n")
+    again = ["regress", *runs, "--cover", "night.cover", "--score", score]
+    both = (command(*it, "--without", "out.lines", cwd=folder) for it in (["cover", "due.cover"], again))
+    shown, made_again = (it.stdout.splitlines() for it in both)
+    is_well = made_again[-4:-1] == [*shown[-3:-1], f"covered: {shown[-1]}"] and "request/" not in shown[-1] and shown[-1] != last
+    yield "bins that are left out", None if is_well and (folder / "night.cover").read_text() == due else f"{shown[-3:]}, {made_again[-4:]}"
+
+
+def counted(folder: Path, last: str) -> Iterator[Case]:
+    """How much was reached, in JSON and for a reader of JUnit."""
+    runs, beats, hit, bins = (int(it) for it in re.findall(r"\d+", last)[:4])
+    found = json.loads((folder / "runs.json").read_text())["covered"]
+    yield "how much it is, in JSON", None if found == {"runs": runs, "beats": beats, "bins": bins, "hit": hit} else str(found)
+    python = next((it for it in PYTHONS if subprocess.run([it, "-c", "import junitparser"], capture_output=True).returncode == 0), None)
+    if python is None:
+        print("skipped: what junitparser reads: Debian's package python3-junitparser isn't installed", flush=True)
+        return
+    ran = subprocess.run([python, "-c", READ, folder / "junit.xml"], capture_output=True, text=True)
+    lines, due = ran.stdout.splitlines(), f"covered: {last.partition(': ')[2]}"
+    yield "what junitparser reads", None if lines[:1] == [due] and len(lines) == 1 + runs else f"{lines[:2]}, {ran.stderr[-300:]}"
+
+
+def uncovered(folder: Path, score: str) -> Iterator[Case]:
+    """Runs that can't count in what was reached: they are named, with the reason."""
+    (folder / "nothing.lines").write_text("config 2 4 16 2 16 12 hh\n")
+    text = f"case {{seed}} in 1) cat '{RUNS[0]}';; 2) head -n 20 '{RUNS[0]}'; echo it broke >&2; exit 3;; *) cat '{RUNS[0]}'; sleep 60;; esac"
+    words = ["--command", text, "--seeds", "1-3", "--timeout", 9, "--cover", "some.cover"]
+    made = Made(folder, score, "nothing.lines", "none.lines", *words)
+    due = ["none.lines: none.lines: No such file or directory", "seed 2: the command ended with status 3: it broke"]
+    due += ["seed 3: it took longer than 9 s"]
+    found = re.findall(r"(?m)^not covered: (.*)$", made.ran.stdout)
+    yield "runs that don't count", made.wrong(1, ["nothing", "failed", "wrong", "failed", "late"]) or (None if found == due else f"{found}")
+    yield "runs that do", None if json.loads((folder / "some.cover").read_text())["runs"] == 2 else "it isn't two"
+    said = [it.get("uncovered") for it in made.runs]
+    in_junit = [it.text.partition("not covered: ")[2] for it in made.suite.iter("system-out")]
+    yield "why, in both files", None if said == in_junit and [bool(it) for it in said] == [0, 1, 0, 1, 1] else f"{said}, {in_junit}"
+    right = stand_in(folder, "cat >/dev/null; printf '= judged 5 wrong 0 outstanding 0 open 0 compared 8 of 8\\n'")
+    (folder / "bare.lines").write_text("A 0 4 0 3 5 00000008 ff 0000000000000000 0\n")
+    made = Made(folder, "", "bare.lines", "--cover", "some.cover", "--score", right)
+    said = "not covered: bare.lines: line 1 of the observation, 'A 0 4 0 3 5 00000008 ff 0000000000000000 0', no config line stands ahead"
+    is_well = said in made.ran.stdout and "\ncovered: 0 runs, 0 beats: 0 of 0 bins, 0.0 %\n" in made.ran.stdout
+    yield "a right run that can't be covered", made.wrong(0, ["right"]) or (None if is_well else made.ran.stdout)
+    (folder / "timeless.lines").write_text(RIGHT.read_text())
+    made = Made(folder, score, "timeless.lines", "--late", 5, "--cover", "some.cover")
+    count = json.loads((folder / "some.cover").read_text())["runs"]
+    yield "a run without times is covered", made.wrong(2, ["failed"]) or (None if count == 1 else f"{count} runs")
+    (folder / "large.lines").write_text(RUNS[0].read_text() + "# and no beat\n" * 3000)
+    small = lambda: resource.setrlimit(resource.RLIMIT_FSIZE, (20_000, 20_000))  # noqa: E731
+    ran = command("regress", "large.lines", "--cover", "/dev/null", "--score", score, cwd=folder, preexec_fn=small)
+    yield "a run without room", None if re.search(r"(?m)^not covered: large.lines: .*joined.lines: ", ran.stdout) else ran.stdout
+    for word in ("--without", "--clock"):
+        yield f"{word} without --cover", ended(Made(folder, score, RIGHT, word, 5), 6, "--cover")
+
+
+def beside(folder: Path, score: str) -> Iterator[Case]:
+    """What is asked beside a verdict: it is read once for all that ask, and ends with the time of the run."""
+    os.mkfifo(folder / "once")
+    threading.Thread(target=lambda: (folder / "once").write_text(RUNS[0].read_text()), daemon=True).start()
+    found = []
+    made = Outcome(Job(0, "once"), State.RIGHT)
+    reading = threading.Thread(target=lambda: found.append(Beside(200, None, True).applied(made, folder / "once", "")), daemon=True)
+    reading.start()
+    reading.join(30)
+    is_well = found and found[0].late > 3 and found[0].cover.beats == 65
+    yield "an observation that can be read once", None if is_well else f"{found}"
+    (folder / "long.lines").write_text("".join(long_run(LONG)))
+    last = "= judged 5 wrong {} outstanding 0 open 0 compared 8 of 8\\n"
+    verdicts = {"late": f"printf '{last.format(0)}'", "wrong": f"printf '= wrong 9 axi 8 WLAST\\n{last.format(1)}'; exit 1"}
+    for state, text in verdicts.items():
+        began, quick = time.monotonic(), stand_in(folder, f"head -c 1 >/dev/null; {text}")
+        made = Made(folder, "", "long.lines", "--cover", "some.cover", "--timeout", TOO_SHORT, "--score", quick)
+        is_told = f"not covered: long.lines: it took longer than {TOO_SHORT} s" in made.ran.stdout and time.monotonic() - began < 30
+        why = made.wrong(2 - (state == "wrong"), [state])
+        yield f"what takes too long beside its verdict: {state}", why or (None if is_told else made.ran.stdout)
+    helpers = Helpers()
+    helper = helpers.one()
+    helper.end()
+    helpers.idle.put(helper)
+    asked = Request(Beside(None, None, True), Outcome(Job(0, "a run"), State.RIGHT), RUNS[0], "")
+    answers = [helpers.answer(asked, time.monotonic() + 60) for _ in range(2)]
+    helpers.close()
+    yield "a process that ended, and the next one", None if answers[0] is None and answers[1].cover.beats == 65 else f"{answers}"
+
+
 def setup_of(folder: Path) -> Path:
     """The set-up of the right run, by itself."""
     path = folder / "setup.lines"
@@ -435,6 +553,9 @@ def cases(folder: Path, score: str) -> Iterator[Case]:
     yield from lists(folder, score)
     yield from waived(folder, score)
     yield from late(folder, score)
+    yield from covered(folder, score)
+    yield from uncovered(folder, score)
+    yield from beside(folder, score)
 
 
 if __name__ == "__main__":

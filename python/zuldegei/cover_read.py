@@ -1,7 +1,7 @@
-"""Reads an observation in one pass, line by line, and notes which bins its beats reach. What it keeps grows with what is in flight, and not
+"""Takes an observation in one pass, line by line, and notes which bins its beats reach. What it keeps grows with what is in flight, and not
 with the run."""
 
-from typing import Callable, Dict, Iterable, List, Optional, Sequence, Tuple
+from typing import Callable, Dict, Iterable, List, Optional
 
 from .command import Fault
 from .cover_bins import CLOCKS_WAITED, OTHERS_WAITED, TIMES, WAITS, bins_of, clocks
@@ -9,15 +9,14 @@ from .cover_port import Port
 from .cover_requests import Requests
 from .cover_setup import Config, Setup, config_of
 from .cover_times import Hits, Times
-from .forms import check_words
-from .observation import A, AR, AW, B, D, FIELDS, NOT_TAKEN, R, W, Observation
+from .observation import A, AR, AW, B, D, DRAINED, EVENT, FIELDS, R, RESET, TIME, W, Beat, Observation
+from .one_pass import read
 
 SET_UP = ("region", "page", "bad", "profile", "errors")  # lines that stand ahead of all beats
-SHOWN = 80  # characters of a line that a fault shows
 
 
 class Reader:
-    """The lines of an observation, in their order."""
+    """Takes the lines of an observation, in their order."""
 
     def __init__(self, clock: Optional[int] = None):
         self.hits = Hits()
@@ -27,49 +26,32 @@ class Reader:
         self.setup: Optional[Setup] = None  # whole from the first beat on
         self.requests: Optional[Requests] = None
         self.port: Optional[Port] = None
-        self.waiting: Optional[Tuple[List[str], int, Optional[int]]] = None  # an A beat that the next line may withdraw
         self.waited: Dict[str, int] = {}  # by port the clocks for which its next beat waited
         self.unwaited: Dict[str, List[int]] = {}  # by port how many beats had no such line ahead, and which was the first
         self.has_waits = False
         self.beats = 0
-        self.takers: Dict[str, Callable[[Sequence[str], int], None]] = {
-            "time": self.time, "waited": self.wait, "config": self.configure, "fill": self.skip, "=": self.event, "mem": self.skip,
+        self.takers: Dict[str, Callable[[Beat], None]] = {
+            TIME: self.time, WAITS: self.wait, "config": self.configure, "fill": self.skip, EVENT: self.event, "mem": self.skip,
         }  # fmt: skip
 
     def read(self, lines: Iterable[str]) -> "Reader":
-        """Takes all lines; a fault names the line that can't be one."""
-        for number, line in enumerate(lines, 1):
-            words = line.split()
-            if words and words[0][0] != "#":
-                try:
-                    check_words(words)
-                    self.take(words, number)
-                except (ValueError, IndexError) as why:
-                    raise Fault(f"line {number} of the observation, {line.strip()[:SHOWN]!r}, isn't what tlscore reads") from why
-        self.finish()
+        """Takes a whole observation."""
+        read(lines, self)
         return self
 
-    def take(self, words: List[str], number: int) -> None:
-        """Takes a line that isn't empty."""
-        if self.waiting:
-            waiting, self.waiting = self.waiting, None
-            if not (words[0] == "=" and words[1:2] and words[1] in NOT_TAKEN):
-                self.beat(A, *waiting)
-        if words[0] == A:
-            self.waiting = words[1:], number, self.times.now
-        elif words[0] in FIELDS:
-            self.beat(words[0], words[1:], number, self.times.now)
-        elif words[0] in self.takers:
-            self.takers[words[0]](words, number)
+    def take(self, it: Beat) -> None:
+        """Takes a line."""
+        if it.kind in FIELDS:
+            self.beat(it)
+        elif it.kind in self.takers:
+            self.takers[it.kind](it)
         elif self.setup is None:
-            self.seen.set_up(number, words)
-        elif words[0] in SET_UP:
+            self.seen.set_up(it.line, [it.kind, *it.words])
+        elif it.kind in SET_UP:
             raise ValueError("a line of the set-up behind a beat")
 
     def finish(self) -> None:
         """The observation is over."""
-        if self.waiting:
-            self.beat(A, *self.waiting)
         if self.setup is None:
             self.begin()
         self.times.finish()
@@ -78,66 +60,67 @@ class Reader:
 
     # ---- lines
 
-    def skip(self, words: Sequence[str], number: int) -> None:
+    def skip(self, it: Beat) -> None:
         """A line that plays no part here."""
 
-    def time(self, words: Sequence[str], _: int) -> None:
-        self.times.at(int(words[1]))
+    def time(self, it: Beat) -> None:
+        self.times.at(it.time)
 
-    def configure(self, words: Sequence[str], number: int) -> None:
+    def configure(self, it: Beat) -> None:
         """Takes the config line."""
         if self.config is not None:
-            raise Fault(f"line {number} of the observation is a second config line")
-        self.seen.set_up(number, list(words))
-        self.config = config_of(words, number)
+            raise Fault("is a second config line")
+        self.seen.set_up(it.line, [it.kind, *it.words])
+        self.config = config_of(it.words)
 
-    def wait(self, words: Sequence[str], _: int) -> None:
+    def wait(self, it: Beat) -> None:
         """A line `waited`: the clocks for which the port's next beat waited."""
         self.has_waits = True
-        self.waited[words[1]] = int(words[2])
+        self.waited[it.words[0]] = int(it.words[1])
 
-    def event(self, words: Sequence[str], number: int) -> None:
+    def event(self, it: Beat) -> None:
         """A reset, or a port of which beats weren't seen."""
-        name = words[1] if len(words) > 1 else ""
-        if name not in ("reset", "drained"):
+        name = it.words[0] if it.words else ""
+        if name not in (RESET, DRAINED):
             return
         if self.setup is None:
             self.begin()
-        if name == "drained":
+        if name == DRAINED:
             self.port.clear()
             return
         found, also = [*self.requests.reset()], [*self.port.reset()]
         is_idle = "idle" in found and "idle" in also
-        for state in ["idle"] if is_idle else [it for it in found + also if it != "idle"]:
-            self.hits.hit(f"reset/{state}", number)
+        for state in ["idle"] if is_idle else [state for state in found + also if state != "idle"]:
+            self.hits.hit(f"reset/{state}", it.line)
 
     # ---- beats
 
     def begin(self) -> None:
         """The set-up is whole."""
         if self.config is None:
-            raise Fault("the observation has no config line")
+            raise Fault("no config line stands ahead of the first beat or reset")
         self.setup = Setup(self.config, self.seen)
         self.requests = Requests(self.setup, self.hits, self.times)
         self.port = Port(self.setup, self.hits, self.times)
 
-    def beat(self, kind: str, words: List[str], number: int, time: Optional[int]) -> None:
+    def beat(self, it: Beat) -> None:
         """Takes a beat; one with an unknown field changes nothing."""
         if self.setup is None:
             self.begin()
+        kind, words = it.kind, it.words
         self.beats += 1
         port = kind + str(int(words[0])) if kind in (A, D) else kind
-        self.times.seen(port, number)
-        self.ready(port, number)
+        self.times.seen(port, it.line)
+        self.ready(port, it.line)
         try:
             if kind == A:
-                self.requests.ask(words, number, time)
+                self.requests.ask(words, it.line, it.time)
             elif kind == D:
-                self.requests.reply(words, number, time)
+                self.requests.reply(words, it.line, it.time)
             elif kind in (AW, AR):
-                self.port.address(kind, words, number, time)
+                self.port.address(kind, words, it.line, it.time)
             else:
-                {W: self.port.write, B: self.port.answer, R: self.port.read}[kind](words, number, time)
+                {W: self.port.write, B: self.port.answer, R: self.port.read}[kind](words, it.line, it.time)
         except ValueError:  # a digit that nobody knows
             pass
 

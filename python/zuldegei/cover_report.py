@@ -92,7 +92,7 @@ def cover_of_json(text: str, name: str) -> Cover:
         counts = [{a_name(it): count_of(entry) for it, entry in found[part].items()} for part in ("bins", "beside")]
         return Cover(natural(found["runs"]), natural(found["beats"]), *counts)
     except (ValueError, TypeError, KeyError, AttributeError, RecursionError) as why:
-        raise Fault(f"{name} isn't what zuldegei-cover --json writes") from why
+        raise Fault(f"{name} isn't what zuldegei-cover --json writes, or zuldegei-regress --cover") from why
 
 
 def a_name(name: str) -> str:
@@ -202,11 +202,19 @@ class Shown:
         """The bins that were never reached."""
         return [it for it, count in self.counts.items() if not count.count]
 
+    @property
+    def hit(self) -> int:
+        """How many bins were reached."""
+        return len(self.counts) - len(self.missed)
+
+    def reached(self) -> str:
+        """How many bins were reached of how many."""
+        count = len(self.counts)
+        return f"{self.hit} of {plural(count, 'bin')}, {percent(self.hit, count)} %"
+
     def total(self) -> str:
         """The last line."""
-        count, hit = len(self.counts), len(self.counts) - len(self.missed)
-        read = f"{plural(self.cover.runs, 'run')}, {plural(self.cover.beats, 'beat')}"
-        return f"{read}: {hit} of {plural(count, 'bin')}, {percent(hit, count)} %"
+        return f"{plural(self.cover.runs, 'run')}, {plural(self.cover.beats, 'beat')}: {self.reached()}"
 
     def notes(self) -> Iterator[str]:
         """What is said of bins that are left out, and of those that no set-up has."""
@@ -255,8 +263,8 @@ class Shown:
 
 
 def percent(hit: int, count: int) -> str:
-    """Per cent, to a tenth and never rounded up."""
-    tenths = 1000 * hit // count if count else 1000
+    """Per cent, to a tenth and never rounded up; nothing of nothing is nothing."""
+    tenths = 1000 * hit // count if count else 0
     return f"{tenths // 10}.{tenths % 10}"
 
 

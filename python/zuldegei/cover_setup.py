@@ -37,15 +37,15 @@ class Place(NamedTuple):
     kind: str
 
 
-def config_of(words: Sequence[str], line: int) -> Config:
-    """Reads a config line."""
-    numbers = [int(it) for it in words[1:7]]
+def config_of(words: Sequence[str]) -> Config:
+    """Reads what stands behind the first word of a config line."""
+    numbers = [int(it) for it in words[:6]]
     for (name, least, most), value in zip(RANGES, numbers):
         if not least <= value <= most:
-            raise Fault(f"line {line} of the observation: {name} is {value}, and may be {least} to {most}")
-    if len(words[7]) != numbers[0]:
-        raise Fault(f"line {line} of the observation: LEVELS needs a letter for each of {numbers[0]} clients")
-    return Config(*numbers, words[7], int(words[8]) if len(words) > 8 else WORD)
+            raise Fault(f"can't be: {name} is {value}, and may be {least} to {most}")
+    if len(words[6]) != numbers[0]:
+        raise Fault(f"can't be: LEVELS needs a letter for each of {numbers[0]} clients")
+    return Config(*numbers, words[6], int(words[7]) if len(words) > 7 else WORD)
 
 
 class Setup:

@@ -7,16 +7,14 @@ one with an x where it would have to be known, is passed over."""
 from collections import Counter, OrderedDict, deque
 from dataclasses import dataclass, field
 from enum import Enum
-from typing import Deque, Dict, Iterable, Iterator, List, Optional, Tuple
+from typing import Deque, Dict, Iterable, List, Optional, Tuple
 
 from .command import Fault
-from .forms import check_words
 from .observation import (
-    A, AR, AW, B, D, FIELDS, GET, INTENT, LAST_PUT, LAST_WITH_DATA, NOT_TAKEN, OPERATIONS, R, W, WORD, Beat, number,
+    A, AR, AW, B, D, DRAINED, EVENT, FIELDS, GET, INTENT, LAST_PUT, LAST_WITH_DATA, OPERATIONS, R, RESET, TIME, W, WORD, Beat, number,
 )  # fmt: skip
+from .one_pass import read
 
-TIME, RESET, DRAINED, END = "time", "reset", "drained", "end"  # kinds of lines beside the beats
-EVENTS = (RESET, DRAINED, END)
 MOST_SIZE, MOST_TRANSFER = 12, 3  # binary logarithms of the bytes of a request, and of a burst's transfer
 READ, WRITE = "AXI4 read", "AXI4 write"
 FINE = 6  # binary digits of a time that a histogram tells apart
@@ -148,7 +146,7 @@ class Latencies:
         self.sides: Dict[str, Load] = {}
         self.watch = Watch(late, most) if late is not None else None
         self.first: Optional[int] = None  # the first time at which a beat passed
-        self.now = 0
+        self.now = 0  # the latest time
         self.step: Optional[int] = None  # the least between two times
         self.under_way: Dict[Transaction, None] = {}
         self.begun: Dict[int, Transaction] = {}  # by client, while its beats come
@@ -158,23 +156,34 @@ class Latencies:
 
     def take_all(self, lines: Iterable[str]) -> "Latencies":
         """Takes a whole observation."""
-        for it in passed(lines):
-            self.take(it)
+        read(lines, self)
+        return self
+
+    def take(self, it: Beat) -> None:
+        """Takes a line."""
+        if it.kind in FIELDS:
+            self.check_time(it)
+            self.first = it.time if self.first is None else self.first
+            if it.kind in self.takers:
+                self.takers[it.kind](it)
+        elif it.kind == TIME:
+            self.pass_to(it.time)
+        elif it.kind == EVENT and it.words[:1] in ([RESET], [DRAINED]):
+            self.cut(it.words[0] == RESET)
+
+    def check_time(self, it: Beat) -> None:
+        """A W beat that was held back until its AW came has an earlier time than the beats ahead of it; no other may."""
+        if it.time is None:
+            raise Fault("has no time: no line `time T` stands ahead of it")
+        if it.time < self.now and it.kind != W:
+            raise Fault(f"goes back to {it.time}, and it was {self.now}: no beat but W may")
+
+    def finish(self) -> None:
+        """The observation is over."""
         if self.first is None:
             raise Fault("it has no beat")
         for it in self.under_way:
             self.sides[it.side].end(it.took(self.now))
-        return self
-
-    def take(self, it: Beat) -> None:
-        if it.kind == TIME:
-            self.pass_to(it.time)
-        elif it.kind in FIELDS:
-            self.first = it.time if self.first is None else self.first
-            if it.kind in self.takers:
-                self.takers[it.kind](it)
-        elif it.kind != END:
-            self.cut(it.kind == RESET)
 
     def cut(self, are_all: bool) -> None:
         """A reset ends all that is under way, a drained port its bursts."""
@@ -186,7 +195,10 @@ class Latencies:
             self.due.clear()
 
     def pass_to(self, time: int) -> None:
-        if self.first is not None and time > self.now:
+        """A line `time`; one that goes back changes nothing."""
+        if time <= self.now:
+            return
+        if self.first is not None:
             self.step = min(self.step or time, time - self.now)
         self.now = time
         if self.watch:
@@ -281,64 +293,3 @@ def burst_of(beat: Beat, address: int, length: int, size: int) -> Transaction:
     """The burst that this address opens; of its first transfer the bytes below the address aren't counted."""
     side, each = WRITE if beat.kind == AW else READ, 1 << size
     return Transaction(beat, side, side, (length + 1) * each - address % each, 0, 1 if beat.kind == AW else length + 1)
-
-
-class Clock:
-    """The times of an observation's lines. A W beat that was held back until its AW came has an earlier one than the beats ahead of it."""
-
-    def __init__(self):
-        self.now: Optional[int] = None
-        self.latest = -1
-
-    def pass_to(self, words: List[str]) -> bool:
-        """Takes a line `time T`; whether it is later than all before."""
-        self.now = int(words[1])
-        is_later = self.now > self.latest
-        self.latest = max(self.now, self.latest)
-        return is_later
-
-    def of(self, kind: str) -> int:
-        """The time of a beat."""
-        if self.now is None:
-            raise Fault("has no time: no line `time T` stands ahead of it")
-        if self.now < self.latest and kind != W:
-            raise Fault(f"goes back to {self.now}, and it was {self.latest}: no beat but W may")
-        return self.now
-
-
-def passed(lines: Iterable[str]) -> Iterator[Beat]:
-    """The beats, later times and events of an observation as they come; an A line is a beat once the next one doesn't say that it wasn't
-    taken."""
-    clock, waiting = Clock(), None
-    for place, line in enumerate(lines, 1):
-        words = line.split()
-        if not words or words[0].startswith("#"):
-            continue
-        if waiting and not (words[0] == "=" and words[1:2] and words[1] in NOT_TAKEN):
-            yield waiting
-        waiting = None
-        try:
-            it = read(place, words, clock)
-        except (ValueError, Fault) as why:
-            said = why if isinstance(why, Fault) else "isn't what tlscore reads"
-            raise Fault(f"line {place} of the observation, {line.strip()[:80]!r}, {said}") from why
-        if it and it.kind == A:
-            waiting = it
-        elif it:
-            yield it
-    if waiting:
-        yield waiting
-
-
-def read(place: int, words: List[str], clock: Clock) -> Optional[Beat]:
-    """The beat, the later time or the event of a line, if it has one."""
-    kind = words[0]
-    if kind in FIELDS:
-        check_words(words)
-        return Beat(place, clock.of(kind), kind, words[1:])
-    if kind == TIME:
-        check_words(words)
-        return Beat(place, clock.now, TIME, []) if clock.pass_to(words) else None
-    if kind == "=" and words[1:2] and words[1] in EVENTS:
-        return Beat(place, clock.latest, words[1], [])
-    return None

@@ -1,14 +1,18 @@
 """An observation as tlscore reads it, and its verdict: lines of set-up, beats with their times, and what was told wrong of them."""
 
 import re
-from typing import Dict, Iterator, List, NamedTuple, Optional, Sequence, Set, Tuple
+from itertools import islice
+from typing import Dict, Iterable, Iterator, List, NamedTuple, Optional, Sequence, Set, Tuple
 
 from .command import Fault
 from .forms import check_words, may_be_told
 
 A, D, AW, AR, W, B, R = BEATS = ("A", "D", "AW", "AR", "W", "B", "R")
 FIELDS = {A: 9, D: 8, AW: 5, AR: 5, W: 3, B: 2, R: 4}
+TIME, EVENT = "time", "="  # the first words of other lines
+RESET, DRAINED, END = EVENTS = ("reset", "drained", "end")
 NOT_TAKEN = ("noclient", "refused", "notready", "exhausted")
+SHOWN = 80  # characters of a line that a fault shows
 GET, INTENT, LAST_WITH_DATA, LAST_PUT = 4, 5, 3, 1
 OPERATIONS = ("PutFull", "PutPartial", "Arithmetic", "Logical", "Get", "Intent")
 BUS, PAGE, WORD = 8, 4096, 8  # bytes
@@ -110,31 +114,18 @@ class Observation:
         self.read()
 
     def read(self) -> None:
-        """Takes each line; an A line is a beat once the next one doesn't say that it wasn't taken."""
-        now, waiting = None, None
-        for number, line in enumerate(self.lines):
-            words = line.split()
-            if not words or words[0].startswith("#"):
-                continue
-            if waiting and not (words[0] == "=" and words[1:2] and words[1] in NOT_TAKEN):
-                self.entries.append(waiting)
-            waiting = None
+        """Takes each line."""
+        for it in passed(islice(self.lines, 1, None)):
+            self.times[it.line] = it.time
             try:
-                check_words(words)
-                now = int(words[1]) if words[0] == "time" else now
-                self.times[number] = now
-                if words[0] == A:
-                    waiting = Beat(number, now, A, words[1:])
-                elif words[0] in FIELDS:
-                    self.entries.append(Beat(number, now, words[0], words[1:]))
-                elif words[0] == "=" and words[1:2] and words[1] in ("reset", "drained", "end"):
-                    self.entries.append(Event(number, now, words[1]))
+                if it.kind in FIELDS:
+                    self.entries.append(it)
+                elif it.kind == EVENT and it.words[:1] and it.words[0] in EVENTS:
+                    self.entries.append(Event(it.line, it.time, it.words[0]))
                 else:
-                    self.set_up(number, words)
+                    self.set_up(it.line, [it.kind, *it.words])
             except (ValueError, IndexError) as why:
-                raise Fault(f"line {number} of the observation, {line[:80]!r}, isn't what tlscore reads") from why
-        if waiting:
-            self.entries.append(waiting)
+                raise fault_of(it, why) from why
 
     def set_up(self, number: int, words: List[str]) -> None:
         """Takes what is looked at of a set-up line."""
@@ -176,6 +167,37 @@ class Observation:
         """A line's number with its time."""
         time = self.times[line] if line < len(self.times) else None
         return f"line {line}" + (f" at {time}" if time is not None else "")
+
+
+def passed(lines: Iterable[str]) -> Iterator[Beat]:
+    """The lines of an observation that say something, in their order, each in the form of a beat, with its first word for its kind. One of
+    channel A comes once the next one doesn't say that it wasn't taken."""
+    now, waiting = None, None
+    for number, line in enumerate(lines, 1):
+        words = line.split()
+        if not words or words[0][0] == "#":
+            continue
+        kind, *rest = words
+        if waiting and not (kind == EVENT and rest and rest[0] in NOT_TAKEN):
+            yield waiting
+        waiting = None
+        try:
+            check_words(words)
+            now = int(rest[0]) if kind == TIME else now
+        except ValueError as why:
+            raise fault_of(Beat(number, now, kind, rest), why) from why
+        if kind == A:
+            waiting = Beat(number, now, kind, rest)
+        else:
+            yield Beat(number, now, kind, rest)
+    if waiting:
+        yield waiting
+
+
+def fault_of(it: Beat, why: Exception) -> Fault:
+    """What is at fault with a line."""
+    said = str(why) if isinstance(why, Fault) else "isn't what tlscore reads"
+    return Fault(f"line {it.line} of the observation, {' '.join((it.kind, *it.words))[:SHOWN]!r}, {said}")
 
 
 def number(text: str, base: int = 10) -> Optional[int]:

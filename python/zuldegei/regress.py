@@ -17,13 +17,16 @@ import time
 from collections import Counter
 from concurrent.futures import FIRST_COMPLETED, Future, ThreadPoolExecutor, wait
 from pathlib import Path
-from typing import BinaryIO, Callable, Dict, Iterator, List, NamedTuple, Optional, Sequence, Set, TextIO, Tuple
+from typing import BinaryIO, Callable, Dict, Iterator, List, Optional, Sequence, Set, TextIO, Tuple
 from urllib.parse import quote_plus
 
+from .beside import Beside, Helpers, Request
 from .command import Fault, Status, Words, ended, naming, one_line, reason, tell, unexpected, words_of
+from .cover import CLOCK
+from .cover_report import Cover, withouts_of
 from .observation import Verdict, plural, verdict_of
-from .reports import Asked, Job, Outcome, Report, State
-from .times import counting, latencies_of
+from .reports import Asked, Covered, Job, Outcome, Report, State
+from .times import counting
 from .waivers import Waivers
 
 NAME = "zuldegei-regress"
@@ -40,7 +43,7 @@ turn. The set-up of --setup is put ahead of each. A run is
   nothing    it has no beat, so that nothing was judged
   failed     its command failed, or its observation is at fault, or its verdict: one without its last line, with another count of wrong
              lines than that line says, or with another status than its lines have
-  late       it took longer than --timeout
+  late       it took longer than --timeout, with its verdict, and with what --late, --waive and --cover ask of it
   slow       nothing is wrong, and by --late N a request or a burst in it took longer than N units of its `time` lines
   waived     all that is wrong in it is waived by --waive FILE
   unjudged   the call was interrupted, or couldn't go on, before this run was judged
@@ -56,6 +59,11 @@ A line of --waive FILE is `KIND RULE client N REASON`, or `KIND RULE pages FIRST
   axi CROSS_4K pages 10010 4 its bursts cross pages, and that memory takes them
 
 What each waived, and which met nothing, stands in the table and both files.
+
+With --cover FILE it counts which of the cases that their set-ups allow the runs reached, and writes that for zuldegei-cover. The table
+and both files say how many there are and how many were reached. Wrong runs count as right ones do. A run that can't count, as one that
+failed or took longer than --timeout, is named with the reason. Lines of --without FILE are `without PATTERN REASON`, as zuldegei-cover
+has them.
 
 With --keep FOLDER the observation and the verdict of each run that isn't right are kept there, for zuldegei-explain, as NAME.lines and
 NAME.told: NAME is the run's, with + for a space and %2F for /, and so for other characters; of a name of more than 100 characters it
@@ -112,54 +120,13 @@ def copied(source: Path, target: BinaryIO, its_name: Path, until: float = float(
                 target.write(chunk)
 
 
-class Beside(NamedTuple):
-    """What a run is asked beside its verdict: that nothing takes longer than `late`, and which wrong lines are waived."""
-
-    late: Optional[int] = None
-    waivers: Optional[Waivers] = None
-
-    def applied(self, made: Outcome, observation: Path, verdict: str) -> Outcome:
-        """A wrong run without what is waived of it, and a right one that may be slow."""
-        if made.state is State.WRONG and self.waivers:
-            made = without_waived(made, self.waivers, observation, verdict)
-        if self.late is not None and made.state in (State.RIGHT, State.WRONG, State.WAIVED):
-            made = with_late(made, self.late, observation)
-        return made
-
-
-def without_waived(made: Outcome, waivers: Waivers, observation: Path, verdict: str) -> Outcome:
-    """A wrong run without the lines that are waived; where it can't be said which are, none is."""
-    try:
-        found = waivers.applied(observation, verdict)
-    except Fault as why:
-        return made._replace(why=f"nothing was waived: {why}")
-    first = found.left[0] if found.left else None
-    told = (first.text[2:], first.line, first.time) if first else ("", None, None)
-    state = State.WRONG if found.left else State.WAIVED
-    made = made._replace(state=state, wrong=len(found.left), waivers=tuple(sorted(found.counts.items())))
-    return made._replace(first=told[0], line=told[1], time=told[2])
-
-
-def with_late(made: Outcome, late: int, observation: Path) -> Outcome:
-    """A run with what took too long; where that can't be said of one in which nothing is wrong, it isn't right either."""
-    try:
-        found = latencies_of(str(observation), late, 1)
-    except Fault as why:
-        why = str(why).replace(f"{observation}: ", "", 1)
-        return made._replace(state=made.state if made.state is State.WRONG else State.FAILED, why=f"no times: {why}")
-    if not found.watch.count:
-        return made
-    first = found.watch.first[0]
-    state = made.state if made.state is State.WRONG else State.SLOW
-    return made._replace(state=state, late=found.watch.count, first_late=f"line {first.beat.line} {first.text(found.now)}")
-
-
 class Runner:
     """Makes runs and has them judged."""
 
     def __init__(self, score: str, setup: bytes, timeout: float, keeper: Optional[Keeper], beside: Beside):
         self.score, self.setup, self.timeout, self.keeper, self.beside = score, setup, timeout, keeper, beside
         self.running: Set[int] = set()  # the commands that go on, each with all that it began
+        self.helpers = Helpers()
         self.is_stopped = False
 
     def outcome(self, job: Job) -> Outcome:
@@ -174,19 +141,39 @@ class Runner:
             said = "out of memory"
         except Exception as why:
             said = unexpected(why)
-        return Outcome(job, State.FAILED, time.monotonic() - began, why=said)
+        return Outcome(job, State.FAILED, time.monotonic() - began, why=said, uncovered=said if self.beside.is_covered else "")
 
     def made(self, job: Job, joined: Path, began: float) -> Outcome:
         """Makes a run, whose observation goes into a file, has it judged, and keeps it where it isn't right."""
+        until = began + self.timeout
         try:
-            why = self.observed(job, joined, began + self.timeout)
+            why = self.observed(job, joined, until)
             state, verdict, why = (State.FAILED, "", why) if why else self.judged(joined, began)
         except subprocess.TimeoutExpired:
-            state, verdict, why = State.LATE, "", f"it took longer than {self.timeout:g} s"
-        made = self.beside.applied(told(job, state, verdict, why, time.monotonic() - began), joined, verdict)
+            state, verdict, why = State.LATE, "", self.too_long()
+        made = told(job, state, verdict, why, time.monotonic() - began)
+        made = self.with_beside(Request(self.beside, made, joined, verdict), until)
         if self.keeper and made.state is not State.RIGHT:
             return made._replace(unkept=self.keeper.keep(job.name, joined, verdict))
         return made
+
+    def too_long(self) -> str:
+        return f"it took longer than {self.timeout:g} s"
+
+    def with_beside(self, asked: Request, until: float) -> Outcome:
+        """A run with what is asked of it beside its verdict."""
+        made, beside = asked.made, self.beside
+        if not beside.asks(made.state):
+            return made._replace(uncovered=made.why) if beside.is_covered else made
+        try:
+            answer = self.helpers.answer(asked, until)
+        except OSError as why:
+            return beside.unsaid(made, State.FAILED, reason(why))
+        if answer is not None:
+            return answer
+        if time.monotonic() > until:
+            return beside.unsaid(made, State.LATE, self.too_long())
+        return beside.unsaid(made, State.FAILED, "the process ended that reads it for what was asked beside its verdict")
 
     def observed(self, job: Job, joined: Path, until: float) -> str:
         """Puts an observation behind its set-up; why it can't, if it can't."""
@@ -222,6 +209,7 @@ class Runner:
     def stop(self) -> None:
         """Ends all commands that go on, and those that begin from here on."""
         self.is_stopped = True
+        self.helpers.stop()
         for group in list(self.running):
             with contextlib.suppress(ProcessLookupError):  # it has ended by itself
                 os.killpg(group, signal.SIGKILL)
@@ -312,23 +300,26 @@ class Progress:
             print("\r\x1b[K", end="", file=self.stream, flush=True)
 
 
-def all_made(asked: Asked, runner: Runner, at_once: int) -> Tuple[Report, Optional[BaseException]]:
+def all_made(asked: Asked, runner: Runner, at_once: int, covered: Optional[Covered]) -> Tuple[Report, Optional[BaseException]]:
     """What came of all runs, and what ended them ahead of their end, if anything did."""
     began, progress, stopped = time.monotonic(), Progress(len(asked), sys.stderr), None
     made: Dict[int, Outcome] = {}
 
     def take(outcome: Outcome) -> None:
-        made[outcome.job.place] = outcome
+        if covered and outcome.cover:
+            covered.cover.add(outcome.cover)
+        made[outcome.job.place] = outcome._replace(cover=None)
         progress.show(outcome)
 
     try:
         make(asked, runner, at_once, take)
     except BaseException as why:
         stopped = why
+    runner.helpers.close()
     progress.close()
     name = "" if stopped is None else "interrupted" if isinstance(stopped, KeyboardInterrupt) else type(stopped).__name__
     waivers = runner.beside.waivers.all if runner.beside.waivers else ()
-    return Report(asked, made, time.monotonic() - began, f"regress ended before it was judged: {name}", waivers), stopped
+    return Report(asked, made, time.monotonic() - began, f"regress ended before it was judged: {name}", waivers, covered), stopped
 
 
 class Output:
@@ -417,11 +408,14 @@ def all_words() -> Words:
     words.add_argument("-j", "--jobs", type=int, default=os.cpu_count() or 1, help="how many runs at once (one a processor)")
     words.add_argument("--score", help="the scoreboard (what TLSCORE names, else tlscore)")
     words.add_argument("--setup", metavar="FILE", help="set-up lines that are put ahead of each run")
-    words.add_argument("--timeout", type=float, default=600, metavar="SECONDS", help="for a run and its verdict (600)")
+    words.add_argument("--timeout", type=float, default=600, metavar="SECONDS", help="for a run, its verdict and what else is asked of it (600)")
     words.add_argument("--junit", metavar="FILE", help="where JUnit XML goes")
     words.add_argument("--json", metavar="FILE", help="where JSON goes")
     words.add_argument("--late", type=counting, metavar="N", help="a run in which something took longer than N units of time is slow")
     words.add_argument("--waive", metavar="FILE", help="wrong lines that are let pass, by rule and client or pages, each with a reason")
+    words.add_argument("--cover", metavar="FILE", help="where the counts go of what the runs reached, for zuldegei-cover")
+    words.add_argument("--without", type=Path, metavar="FILE", help="which bins are left out of the numbers of --cover, and why")
+    words.add_argument("--clock", type=counting, metavar="UNITS", help=f"for --cover, {CLOCK}")
     words.add_argument("--keep", metavar="FOLDER", help="where runs that aren't right are kept")
     return words
 
@@ -432,6 +426,8 @@ def given_of(arguments: Sequence[str]) -> argparse.Namespace:
     given = words.parse_args(arguments)
     if not given.runs and given.command is None or given.seeds and "{seed}" not in (given.command or ""):
         words.error("it takes a RUN or a --command, with {seed} where there are --seeds")
+    if given.cover is None and (given.without, given.clock) != (None, None):
+        words.error("--without and --clock are for --cover")
     if not 1 <= given.jobs <= MOST_AT_ONCE or not 0 < given.timeout <= MOST_SECONDS:
         words.error(f"it makes 1 to {MOST_AT_ONCE:,} runs at once, and a run takes some time, of {MOST_SECONDS:,} seconds at the most")
     return given
@@ -441,11 +437,12 @@ def work(arguments: Sequence[str]) -> int:
     """Does what the words ask for. What was judged is told, however it ends."""
     given = given_of(arguments)
     score, setup = score_of(given.score), setup_of(given.setup) if given.setup else b""
-    beside = Beside(given.late, Waivers(given.waive) if given.waive else None)
-    junit, json, keeper = Output(given.junit), Output(given.json), Keeper(Path(given.keep)) if given.keep else None
-    runner = Runner(score, setup, given.timeout, keeper, beside)
-    report, stopped = all_made(Asked(given.runs, given.command, given.seeds), runner, given.jobs)
-    failures = [junit.write(report.junit()), json.write(report.json()), printed(report.table()), unkept(report)]
+    beside = Beside(given.late, Waivers(given.waive) if given.waive else None, bool(given.cover), given.clock)
+    covered = Covered(Cover(), withouts_of(given.without) if given.without else []) if given.cover else None
+    junit, json, cover = Output(given.junit), Output(given.json), Output(given.cover)
+    runner = Runner(score, setup, given.timeout, Keeper(Path(given.keep)) if given.keep else None, beside)
+    report, stopped = all_made(Asked(given.runs, given.command, given.seeds), runner, given.jobs, covered)
+    failures = [junit.write(report.junit()), json.write(report.json()), cover.write(report.reached()), printed(report.table()), unkept(report)]
     said = "; ".join(filter(None, failures))
     if stopped is not None:
         if said:

@@ -6,10 +6,12 @@ import json
 import textwrap
 from collections import Counter
 from dataclasses import dataclass
-from typing import Dict, Iterator, NamedTuple, Optional, Sequence, Tuple
+from functools import cached_property
+from typing import Dict, Iterator, List, NamedTuple, Optional, Sequence, Tuple
 from xml.etree import ElementTree
 
 from .command import Status, one_line
+from .cover_report import Cover, Shown, Without
 from .waivers import Waiver
 
 MOST_NAMED, LONGEST = 20, 4096  # runs that weren't judged and that the table names, and characters of a name
@@ -82,6 +84,8 @@ class Outcome(NamedTuple):
     waivers: Tuple[Tuple[int, int], ...] = ()  # of each waiver that waived any line its place, and how many
     late: int = 0  # requests and bursts that took too long
     first_late: str = ""  # the first of them
+    cover: Optional[Cover] = None  # what it reached, where that is asked for
+    uncovered: str = ""  # why that can't be said
 
     @property
     def waived(self) -> int:
@@ -96,9 +100,26 @@ class Outcome(NamedTuple):
 
     def entry(self) -> Dict[str, object]:
         """What the JSON has of it."""
-        names = ("beats", "wrong", "compared", "told", "first", "line", "time", "why", "waived", "late", "first_late")
+        names = ("beats", "wrong", "compared", "told", "first", "line", "time", "why", "waived", "late", "first_late", "uncovered")
         kept = {name: getattr(self, name) for name in names}
         return {"run": self.job.name, "seed": self.job.seed, "status": self.state.value, "seconds": round(self.seconds, 3), **kept}
+
+
+@dataclass
+class Covered:
+    """What all runs reached, and which bins aren't counted."""
+
+    cover: Cover
+    withouts: Sequence[Without]
+
+    @cached_property
+    def shown(self) -> Shown:
+        """What is shown of it, once all runs have ended."""
+        return Shown(self.cover, self.withouts)
+
+    def entry(self) -> Dict[str, object]:
+        """What the JSON has of it."""
+        return {"runs": self.cover.runs, "beats": self.cover.beats, "bins": len(self.shown.counts), "hit": self.shown.hit}
 
 
 @dataclass
@@ -110,6 +131,7 @@ class Report:
     seconds: float
     stopped: str = ""
     waivers: Sequence[Waiver] = ()
+    covered: Optional[Covered] = None
 
     def outcomes(self) -> Iterator[Outcome]:
         """What came of each run, in the order in which they were asked for."""
@@ -148,7 +170,20 @@ class Report:
         yield from self.unjudged()
         for waiver, count in self.met():
             yield f"{f'waived {count}' if count else 'met nothing'}: {waiver_text(waiver)}\n"
+        yield from self.coverage()
         yield f"{len(self.asked)} runs: {self.counts()}\n"
+
+    def coverage(self) -> Iterator[str]:
+        """What the runs reached, where that is asked for; first the runs that don't count in it."""
+        if self.covered is None:
+            return
+        lacking = sorted((it for it in self.made.values() if it.uncovered), key=lambda it: it.job.place)
+        for it in lacking[:MOST_NAMED]:
+            yield f"not covered: {name_of(it)}: {one_line(it.uncovered)}\n"
+        if len(lacking) > MOST_NAMED:
+            yield f"not covered: {len(lacking) - MOST_NAMED} more\n"
+        yield from (f"{it}\n" for it in self.covered.shown.notes())
+        yield f"covered: {self.covered.shown.total()}\n"
 
     def unjudged(self) -> Iterator[str]:
         """The names of the runs that weren't judged, and how many more there are."""
@@ -169,21 +204,33 @@ class Report:
 
     def junit(self) -> Iterator[str]:
         """JUnit XML: a wrong run or a slow one is a failure, one that is waived is skipped, and one that couldn't be judged, or wasn't, an
-        error. What each waiver waived is a property."""
+        error. What each waiver waived is a property, and so is what the runs reached."""
         bad, waived, count = self.count(State.WRONG) + self.count(State.SLOW), self.count(State.WAIVED), len(self.asked)
         errors = count - bad - waived - self.count(State.RIGHT)
         counts = f'tests="{count}" failures="{bad}" errors="{errors}" time="{self.seconds:.3f}"'
         yield f'<?xml version="1.0" encoding="utf-8"?>\n<testsuites {counts}>\n<testsuite name="tlscore" {counts} skipped="{waived}">\n'
-        if self.waivers:
-            yield f"{ElementTree.tostring(properties_of(self.met()), encoding='unicode')}\n"
+        found = self.properties()
+        if found:
+            yield f"{ElementTree.tostring(properties_of(found), encoding='unicode')}\n"
         for it in self.outcomes():
             yield f"{ElementTree.tostring(case_of(it), encoding='unicode')}\n"
         yield "</testsuite>\n</testsuites>\n"
 
+    def properties(self) -> List[Tuple[str, str]]:
+        """What is said of all runs together: each a name and a value."""
+        found = [(waiver_text(waiver), f"waived {count}" if count else "met nothing") for waiver, count in self.met()]
+        return found + ([("covered", self.covered.shown.reached())] if self.covered else [])
+
+    def reached(self) -> Iterator[str]:
+        """What the runs reached, for zuldegei-cover."""
+        if self.covered is not None:
+            yield self.covered.cover.json()
+
     def json(self) -> Iterator[str]:
-        """JSON: the seconds of all, what each waiver waived, and an entry for each run."""
+        """JSON: the seconds of all, what each waiver waived, what the runs reached, and an entry for each run."""
         waivers = [{"place": it.place, "what": it.what(), "reason": it.reason, "waived": count} for it, count in self.met()]
         listed = f' "waivers": {json.dumps(waivers)},\n' if self.waivers else ""
+        listed += f' "covered": {json.dumps(self.covered.entry())},\n' if self.covered else ""
         yield f'{{\n "seconds": {round(self.seconds, 3)},\n{listed} "runs": ['
         for at, it in enumerate(self.outcomes()):
             yield f"{',' if at else ''}\n{textwrap.indent(json.dumps(it.entry(), indent=1), '  ')}"
@@ -200,11 +247,11 @@ def waiver_text(it: Waiver) -> str:
     return one_line(f"{it.place}, {it.what()}: {it.reason}")
 
 
-def properties_of(met: Iterator[Tuple[Waiver, int]]) -> ElementTree.Element:
-    """What each waiver waived, in JUnit XML."""
+def properties_of(found: Sequence[Tuple[str, str]]) -> ElementTree.Element:
+    """Properties in JUnit XML."""
     properties = ElementTree.Element("properties")
-    for waiver, count in met:
-        ElementTree.SubElement(properties, "property", {"name": waiver_text(waiver), "value": f"waived {count}" if count else "met nothing"})
+    for name, value in found:
+        ElementTree.SubElement(properties, "property", {"name": name, "value": value})
     return properties
 
 
@@ -218,5 +265,6 @@ def case_of(it: Outcome) -> ElementTree.Element:
         kind = "failure" if it.state in (State.WRONG, State.SLOW) else "error"
         ElementTree.SubElement(case, kind, {"type": it.state.value, "message": it.said()}).text = it.said()
     out = f"beats {it.beats}, wrong {it.wrong}, compared {it.compared} of {it.told} bytes"
-    ElementTree.SubElement(case, "system-out").text = out + (f", seed {it.job.seed}" if it.job.seed is not None else "")
+    out += f", seed {it.job.seed}" if it.job.seed is not None else ""
+    ElementTree.SubElement(case, "system-out").text = out + (f", not covered: {one_line(it.uncovered)}" if it.uncovered else "")
     return case

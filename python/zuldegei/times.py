@@ -9,6 +9,7 @@ from typing import Dict, Iterator, List, Optional, Sequence
 from .command import Fault, Status, Words, ended, words_of
 from .latency import Latencies, Times
 from .observation import plural
+from .one_pass import opened
 from .whole import written
 
 NAME = "zuldegei-times"
@@ -116,7 +117,7 @@ class Tables:
 
 def latencies_of(path: str, late: Optional[int], most: int) -> Latencies:
     """How long what a file has took."""
-    with open(path, encoding="ascii", errors="replace", newline="\n") as file:
+    with opened(path) as file:
         try:
             return Latencies(late, most).take_all(file)
         except Fault as why:
