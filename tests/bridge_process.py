@@ -75,7 +75,7 @@ REFUSED = {
     "a set-up that is refused": (lambda it: Bridge("config 2 4 99 2 16 12 hh", it._library), Error.SETUP, "set-up fault: BadConfig 0"),
 }  # fmt: skip
 # Lines that the scoreboard alone knows, as docs/SCOREBOARD.md has them ("Lines").
-SCOREBOARDS = "profile tilelink\n errors any\naxi strict\nx data\nfill 10000 1 2 3\ntime 5\n= said\n"
+SCOREBOARDS = "profile tilelink\n errors any\naxi strict\nx data\nfill 10000 1 2 3\ntime 5\nwaited A0 1\n= said\n"
 
 
 # A beat that breaks each rule of channel A alone, by its name in docs/RULES.md, and the client that offers it: the port of client 1 is

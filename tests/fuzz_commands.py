@@ -47,7 +47,7 @@ SECONDS, WAITED, MEMORY = 10, 120, 2 << 30  # of a processor and of the clock, f
 STATUSES = {"waves": (0, 2, 3), **dict.fromkeys(("fill", "cover"), (0, 2)), **dict.fromkeys(("explain", "wave_of", "times", "regress"), (0, 1, 2))}
 WORDS = (
     *(b"0 1 -1 2 3 7 8 255 256 x z X zzzz ff 00000000 ffffffff 100000000 99999999999999 18446744073709551616 1e5 0x10".split()),
-    *(b"A D AW AR W B R = time fill config region page reset end wrong judged expected at client of part".split()),
+    *(b"A D AW AR W B R = time waited fill config region page reset end wrong judged expected at client of part".split()),
     *(b"#0 #5 @ @ffffffff /* */ //".split()),
     *(b"$end $var $scope $upscope $enddefinitions $dumpoff $dumpvars $comment b101 bx use clock layout width renumber axi flat a".split()),
     *(b"", b"9" * 5000, b"f" * 400, "\u0663".encode(), b"\xff\xfe", b"\0", b"\x1b[2J"),

@@ -35,6 +35,7 @@ UNOPTIMIZED = ["OPT_FAST=-O0", "OPT_GLOBAL=-O0"]
 TOLD = re.compile(r"(?m)(= (?:wrong|judged) .*)$")
 TIMED = re.compile(r"(?m)^\[(\d+)\] %Error: .*zuldegei: (= wrong .*|the run failed: \d+ wrong)$")
 LATE = re.compile(r"zuldegei: late: no reply after \d+ to client (\d+) source (\d+), which asked at (\d+)")
+WAITED = re.compile(r"(?m)^waited .*\n")
 TOO_LONG = (300, 900)
 NO_LIMIT = "+verilator+error+limit+1000000"  # each $error and $fatal goes on, as far as Verilator is asked
 LONG_LINES = ("# a line of a set-up\n", "fill 10000 00 00 00 00\n")
@@ -95,6 +96,16 @@ def whole_wrong(ran: Simulated, judged: str) -> Optional[str]:
     wrong = int(due[-1].split()[4])
     how = f"the run failed: {wrong} wrong" if wrong else "the run is right"
     return failed_wrong(ran, int(wrong > 0), how)
+
+
+def written_wrong(text: str, due: str, ran: Simulated, score: Path) -> Optional[str]:
+    """How what the judging monitor writes isn't what the other one prints, with waits, or isn't judged as its run was."""
+    if WAITED.sub("", text) != due:
+        return f"it isn't what is printed: {text[-200:]!r}"
+    if not WAITED.search(text):
+        return "no beat waited"
+    got, said = TOLD.findall(run.judged(score, "", text)), TOLD.findall(ran.text)
+    return None if got == said else f"tlscore tells {got[-3:]}, and the run {said[-3:]}"
 
 
 def failed_wrong(ran: Simulated, status: int, how: str, module: str = "scoreboard") -> Optional[str]:
@@ -211,9 +222,11 @@ def tried(bug: str, bench: Path, given: argparse.Namespace) -> Iterator[Case]:
         for seed in range(1, given.seeds + 1):
             name = f"{bug}, seed {seed}, by profile {profile}"
             x = [f"+verilator+seed+{seed}", "+verilator+rand+reset+2"] if bug in run.SHOWN_BY_X else []
-            whole = simulated(bench, seed, setup, NO_LIMIT, *x)
+            written = bench.parent / f"written-{profile}-{seed}.lines"
+            whole = simulated(bench, seed, setup, NO_LIMIT, f"+zuldegei_observed={written}", *x)
             judged = run.judged(given.score, asked.setup, f"{whole.lines}= end\n")
             yield f"{name}, whole", whole_wrong(whole, judged)
+            yield f"{name}, written", written_wrong(written.read_text(errors="replace"), f"{asked.setup}{whole.lines}= end\n", whole, given.score)
             first = run.first_wrong(asked.setup, whole.lines, judged)
             if not first or first.name.endswith("UNANSWERED") or seed == 1:
                 yield from late_told(name, bench, seed, setup)

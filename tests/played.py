@@ -26,7 +26,7 @@ PUT, ACK = "A 0 0 0 3 5 00000008 ff 1122334455667788 0\n", "D 0 0 0 3 5 0 000000
 HALF = "A 0 0 0 4 5 00000010 ff 1122334455667788 0\n"
 IN_FLIGHT = "the run failed: a reset while a request is under way"
 # The lines of a set-up that the scoreboard alone knows, and which aren't the model's.
-SCOREBOARDS = "profile tilelink\nerrors any\nx data\naxi strict\nfill 10008 01\ntime 1\n"
+SCOREBOARDS = "profile tilelink\nerrors any\nx data\naxi strict\nfill 10008 01\ntime 1\nwaited A0 1\n"
 Case = Tuple[str, Optional[str]]
 
 

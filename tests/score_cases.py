@@ -93,6 +93,26 @@ BY_EACH = {
         R 0 0 OKAY 0
         -> outstanding 0 open 2
         """,
+    "waits are passed over, whatever the port: one settles the beat ahead of it, and nothing else comes of it": """
+        waited A0 3
+        A 0 0 0 3 5 8 ff 1122334455667788 0
+        waited D0 0
+        = noclient
+        waited D7 18446744073709551615
+        D 0 0 0 3 5 0 0 0
+        waited AW 1
+        waited W 2
+        waited B 3
+        waited AR 4
+        waited R 5
+        A 1 9 0 3 7 8 ff 0 0 -> request 1 OPCODE
+        waited A7 00000000000000000001
+        = refused
+        A 1 4 0 3 7 8 ff 0 0
+        waited D1 12
+        D 1 1 0 3 7 0 1122334455667789 0 -> reply 7 PAYLOAD expected D 1 1 0 3 7 0 1122334455667788 0
+        -> outstanding 0 open 0
+        """,
     "AXI4 beats that went unobserved": """
         A 0 0 0 3 5 8 ff 1122334455667788 0
         AW 0 10008 0 3 1
@@ -415,6 +435,10 @@ INPUTS = {
     "a line of more pages than there are": f"{CONFIG}\npage 0 1048577 good -> fault at word 3: a number out of range",
     "a reset behind the end": f"{SETUP}\n= end\n= reset -> {MISPLACED}",
     "a reset behind the set-up, and a fill behind it": f"{SETUP}\n= reset\nfill 10000 0 -> {MISPLACED}",
+    "a wait before the config line": f"waited A0 1 -> {MISPLACED}\n{CONFIG}",
+    "a wait behind the set-up, and a fill behind it": f"{SETUP}\nwaited A0 1\nfill 10000 0 -> {MISPLACED}",
+    "a wait among set-up lines is the first line behind them": f"{SETUP}\nwaited A0 1\nprofile bridge -> {MISPLACED}",
+    "a wait behind the end": f"{SETUP}\n= end\nwaited A0 1\n-> outstanding 0 open 0",
     "a reset among set-up lines is the first line behind them": f"{SETUP}\n= reset\nprofile bridge -> {MISPLACED}",
     "places before the config line": f"axi strict -> {MISPLACED}\n{CONFIG}",
     "places a second time": f"{SETUP}\naxi strict\naxi strict -> {MISPLACED}",

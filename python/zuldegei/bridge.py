@@ -27,7 +27,7 @@ RULES = ("", "OPCODE", "LEVEL", "SIZE", "ATOMIC_SIZE", "ALIGN", "PARAM", "MASK",
 # The kinds of steps that bridge and memory make, by the words of a script.
 KINDS = ("", "pump", "do", "b", "r")
 # The lines of a scoreboard's set-up that a model doesn't know, by their first words: they are left out.
-SCOREBOARDS = (b"profile", b"axi", b"errors", b"x", b"fill", b"time", b"=")
+SCOREBOARDS = (b"profile", b"axi", b"errors", b"x", b"fill", b"time", b"waited", b"=")
 
 
 class BridgeError(ScoreboardError):

@@ -17,7 +17,7 @@ FLAG = field("01", 1)
 ADDRESS, LANES, PAYLOAD = (field(HEXADECIMAL, most) for most in (8, 2, 16))
 CLIENT, RESPONSE = r"0*\d{1,3}", r"(?:OKAY|EXOKAY|SLVERR|DECERR|[xXzZ]+)"
 HEX, DEC = rf"[{HEXADECIMAL}]{{1,16}}", r"\d{1,20}"
-# What stands behind the first word of a beat, a time, a wait (which tlscore doesn't read), or a line of the set-up that is looked at.
+# What stands behind the first word of a beat, a time, a wait, or a line of the set-up that is looked at.
 LINES = {
     A: (CLIENT, DECIMAL, DECIMAL, DECIMAL, DECIMAL, ADDRESS, LANES, PAYLOAD, FLAG),
     D: (CLIENT, DECIMAL, DECIMAL, DECIMAL, DECIMAL, FLAG, PAYLOAD, FLAG),

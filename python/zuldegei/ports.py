@@ -24,6 +24,7 @@ class Port:
         self.lacks_corrupt = channel.key.channel == "d" and "corrupt" in channel.lacking
         self.valid, self.ready = Level(channel.fields["valid"]), Level(channel.fields["ready"])
         self.beats = self.waits = 0  # edges at which a beat passed, and at which valid was high and ready low
+        self.waited = self.last_wait = 0  # such edges in a row, and the number of the last of them
 
     def read(self, values: Sequence[bytes], time: int) -> Dict[str, str]:
         """The digits of each field, none of more bits than a line has for it."""
@@ -39,6 +40,23 @@ class Port:
         """Whether a beat passes where valid isn't low; None where that isn't known."""
         ready = self.ready.look(values)
         return True if self.valid.digit == ready == "1" else False if ready == "0" else None
+
+    def wait(self, edge: int) -> None:
+        """Ready is low at the edge of this number."""
+        self.waits += 1
+        if self.valid.digit == "1":
+            self.waited = self.waited + 1 if self.last_wait == edge - 1 else 1
+            self.last_wait = edge
+
+    def take(self, edge: int) -> None:
+        """A beat passes at the edge of this number."""
+        self.beats += 1
+        self.waited = self.waited if self.last_wait == edge - 1 else 0
+
+    def ahead(self) -> str:
+        """The line ahead of a beat that waited for ready, if it did."""
+        client = "" if self.key.client is None else self.key.client
+        return f"waited {self.key.channel.upper()}{client} {self.waited}\n" if self.waited else ""
 
 
 class Domain:
@@ -70,8 +88,8 @@ class Domain:
 class Observer:
     """Prints the beats that pass, in the order that tlscore asks for."""
 
-    def __init__(self, the_map: SignalMap, domains: List[Domain], write: Callable[[str], object]):
-        self.map, self.domains, self.write = the_map, domains, write
+    def __init__(self, the_map: SignalMap, domains: List[Domain], write: Callable[[str], object], has_waits: bool = False):
+        self.map, self.domains, self.write, self.has_waits = the_map, domains, write, has_waits
         self.beats = self.unknown = 0
         self.unknown_at: Optional[int] = None
         self.last_time: Optional[int] = None
@@ -90,20 +108,20 @@ class Observer:
                         passes = port.is_passing(values)
                         if passes:
                             passing.append(port)
-                            port.beats += 1
+                            port.take(domain.edges)
                         elif passes is None:
                             self.note_unknown(time)
                         else:
-                            port.waits += 1
+                            port.wait(domain.edges)
         passing.sort(key=lambda it: (ORDER.index(it.key.channel), it.key.client or 0))
         sent = [it for it in passing if it.key.channel not in BEHIND_W]
         for port in sent:
-            self.beat(time, port.key, port.read(values, time), port.is_narrow)
+            self.beat(time, port, port.read(values, time))
         while self.held and self.lacking:
             self.line(*self.held.popleft())
             self.lacking -= 1
         for port in passing[len(sent) :]:
-            self.beat(time, port.key, port.read(values, time), port.is_narrow)
+            self.beat(time, port, port.read(values, time))
 
     def is_up(self, domain: Domain, values: Sequence[bytes]) -> bool:
         """Whether beats pass in a domain. Where the first of several is reset, the others' beats are gone until they are reset too,
@@ -134,25 +152,27 @@ class Observer:
         self.unknown_at = time if self.unknown_at is None else self.unknown_at
 
     def line(self, time: int, text: str) -> None:
-        """Prints a line, behind one of its time where that is another."""
+        """Prints a beat's lines, behind one of its time where that is another."""
         if time != self.last_time:
             self.write(f"time {time}\n")
             self.last_time = time
         self.write(text)
         self.beats += 1
 
-    def beat(self, time: int, key: Key, read: Dict[str, str], is_narrow: bool) -> None:
-        """Prints a beat, or holds it, if it is of W: they wait for their AW."""
+    def beat(self, time: int, port: Port, read: Dict[str, str]) -> None:
+        """Prints a beat, behind how long it waited for ready, or holds it, if it is of W: they wait for their AW."""
+        key, ahead = port.key, port.ahead() if self.has_waits else ""
         if key.channel == "w":
-            self.held.append((time, w_line(read)))
+            self.held.append((time, ahead + w_line(read)))
         elif key.channel == "a":
-            self.line(time, self.a_line(time, key.client, read, is_narrow))
+            self.line(time, ahead + self.a_line(time, key.client, read, port.is_narrow))
         elif key.channel == "d":
-            self.line(time, self.d_line(key.client, read, is_narrow))
+            self.line(time, ahead + self.d_line(key.client, read, port.is_narrow))
         else:
             if key.channel == "aw":
                 self.lacking += (int(read["len"], 2) if is_known(read["len"]) else 0) + 1
-            self.line(time, answer_line(key.channel, read, self.map.ids) if key.channel in "br" else address_line(key, read, self.map.ids))
+            its = answer_line(key.channel, read, self.map.ids) if key.channel in "br" else address_line(key, read, self.map.ids)
+            self.line(time, ahead + its)
 
     def a_line(self, time: int, client: int, read: Dict[str, str], is_narrow: bool) -> str:
         """The line of a beat on channel A."""

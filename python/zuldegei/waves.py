@@ -48,14 +48,14 @@ def values_of(dump: Dump, finder: Finder, the_map: SignalMap) -> Dict[bytes, int
     return dump.want([it.signal for it in finder.all_of(the_map.clocks)])
 
 
-def observe(dump: Dump, the_map: SignalMap, write: Callable[[str], object], size: int = 0) -> Observer:
-    """Prints what passed at the ports that a map names."""
+def observe(dump: Dump, the_map: SignalMap, write: Callable[[str], object], size: int = 0, has_waits: bool = False) -> Observer:
+    """Prints what passed at the ports that a map names, and if that is asked for how long it waited there."""
     names = Names(dump.head)
     names.layouts = the_map.layouts
     finder = Finder(names)
     slots = values_of(dump, finder, the_map)
     domains = [Domain(it, finder, slots) for it in the_map.clocks if it.channels]
-    observer = Observer(the_map, domains, write)
+    observer = Observer(the_map, domains, write, has_waits)
     progress = Progress(dump, size)
     try:
         sample(dump, domains, observer, [b"x"] * len(slots), progress)
@@ -153,13 +153,15 @@ def work(arguments: Sequence[str]) -> int:
     words.add_argument("dump", help="a VCD (.gz too), or an FST")
     words.add_argument("--setup", help="a file of set-up lines that is printed first", metavar="FILE")
     words.add_argument("--end", action="store_true", help="a line `= end` is printed last: all should be quiet there")
+    words.add_argument("--waits", action="store_true", help="a line `waited PORT CLOCKS` is printed ahead of each beat that waited for ready")
     given = words.parse_args(arguments)
     the_map = Reader(given.map).read(Path(given.map).read_text(errors="replace"))
     write = sys.stdout.write
     if given.setup:
         write("".join(f"{line}\n" for line in Path(given.setup).read_text(errors="replace").splitlines()))
     with opened(given.dump) as stream:
-        observer = observe(Dump(stream), the_map, write, Path(given.dump).stat().st_size if given.dump.endswith(".vcd") else 0)
+        size = Path(given.dump).stat().st_size if given.dump.endswith(".vcd") else 0
+        observer = observe(Dump(stream), the_map, write, size, given.waits)
     if given.end:
         write("= end\n")
     for remark in remarks(observer):

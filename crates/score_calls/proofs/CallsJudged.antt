@@ -278,6 +278,7 @@ module _ (errors : Errors) (heard : Heard) (old : ObservationState) (has : HasHe
       by_command (command.Byte address) fits plain may none = absurd (cc (plain))
       by_command command.Withdrawal fits plain may none = absurd (cc (plain))
       by_command command.Answer fits plain may none = absurd (cc (plain))
+      by_command command.Waited fits plain may none = absurd (cc (plain))
       by_command command.Reset fits plain may none = absurd (cc (plain))
       by_command command.End fits plain may none = absurd (cc (plain))
 

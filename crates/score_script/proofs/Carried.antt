@@ -28,6 +28,7 @@ left_text score number command.Withdrawal = refl
 left_text score number command.Answer = refl
 left_text score number (command.Fill address bytes) = refl
 left_text score number (command.Time time) = refl
+left_text score number command.Waited = refl
 left_text score number command.Reset = refl
 left_text score number command.End = refl
 

@@ -43,6 +43,7 @@ abbrev pub other_lines : List (List ℕ × List FieldKind)
 other_lines =
     (codes "fill", Place ∷ [])
     ∷ (codes "time", Decimal ∷ [])
+    ∷ (codes "waited", Name ∷ Decimal ∷ [])
     ∷ (codes "mem", Hexadecimal ∷ [])
     ∷ (codes "=", [])
     ∷ []

@@ -9,3 +9,4 @@ pub mod ScoreStates
 pub mod Scores
 pub mod UnansweredTexts
 pub mod UnknownDigits
+pub mod WaitLines

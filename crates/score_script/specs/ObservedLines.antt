@@ -15,6 +15,7 @@ use Rattle.line_text.specs.OfferLines.{beat_in}
 use Rattle.line_text.specs.Words.{dec_at, hex_at, is_dec_to, is_hex_to, word_at}
 use Rattle.score_script.specs.FillLines.{fill_line}
 use Rattle.score_script.specs.UnknownDigits.{or_unknown, payload_at, payload_field, unknown_lanes}
+use Rattle.score_script.specs.WaitLines.{waited_line}
 use Rattle.score_script.specs.declared.lines.Channel.{Channel}
 use Rattle.score_script.specs.declared.lines.Channel.TheVariants as channel
 use Rattle.score_script.specs.declared.lines.SeenBeat.{SeenBeat}
@@ -271,7 +272,7 @@ is_settling _ = false
 abbrev pub only_settles : List (List ℕ) → Bool
 only_settles words = is_answer words && is_settling (answer_command (word_at words 2))
 
--- what a line of a channel, or else a question, a filling or a time, says, or the first wrong word
+-- what a line of a channel, or else a question, a filling, a time or a wait, says, or the first wrong word
 abbrev pub asked_command : List (List ℕ) → Option Channel → Result Command ℕ
 asked_command words (Some channel) = channel_command channel words
 asked_command words None =
@@ -280,7 +281,10 @@ asked_command words None =
     else
     (if bytes_eq (word_at words 1) (codes "fill")
     then fill_line words
-    else (if bytes_eq (word_at words 1) (codes "time") then told_as (λ time. command.Time time) (time_line words) else Err 1))
+    else
+    (if bytes_eq (word_at words 1) (codes "time")
+    then told_as (λ time. command.Time time) (time_line words)
+    else (if bytes_eq (word_at words 1) (codes "waited") then waited_line words else Err 1)))
 
 -- what a line says that isn't one of the set-up, or the first wrong word; there are no other commands
 abbrev pub command_of : List (List ℕ) → Result Command ℕ

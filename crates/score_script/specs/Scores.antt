@@ -224,7 +224,8 @@ abbrev pub over : Option Finding × Score → ℕ → Finds
 over settled number =
     record (settled_alone settled) { unanswered = unanswered_text (line_at settled.1 number) settled.1.board.board; after = ended_score settled.1 }
 
--- what a line of this number finds. The held beat is judged first, but where the line withdraws it; another answer finds nothing of its own
+-- what a line of this number finds. The held beat is judged first, but where the line withdraws it; another answer and a wait find nothing of
+-- their own
 abbrev pub finds : Score → ℕ → Command → Finds
 finds score number (command.Observed seen) = observing (settling score) (line_at score number) seen
 finds score number (command.Unknown port client) = unclear (settling score) (line_at score number) port client
@@ -234,6 +235,7 @@ finds score number command.Withdrawal = finds_nothing (record score { held = Non
 finds score number command.Answer = settled_alone (settling score)
 finds score number (command.Fill address bytes) = finds_nothing (record score { board = filled_in score.board address bytes })
 finds score number (command.Time time) = record (settled_alone (settling score)) { after = record (settling score).1 { time = Some time } }
+finds score number command.Waited = settled_alone (settling score)
 finds score number command.Reset = reset_behind (settling score)
 finds score number command.End = over (settling score) number
 

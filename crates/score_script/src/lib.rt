@@ -11,6 +11,7 @@ mod score;
 mod script;
 mod unanswered;
 mod unknown;
+mod waits;
 
 pub use fills::FillBytes;
 pub use lines::{Channel, SeenBeat};

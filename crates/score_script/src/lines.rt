@@ -9,6 +9,7 @@ ghost use Rattle.score_script.specs.ObservedLines.{Stands, a_line, address_line,
 use crate::fills::fill_line;
 use crate::score::Command;
 use crate::unknown::{or_unknown, payload_at};
+use crate::waits::waited_line;
 use axi_beats::{ArBeat, AwBeat, BBeat, RBeat, Resp, WBeat};
 use axi_checker::AxiBeat;
 use line_text::Words;
@@ -465,7 +466,7 @@ pub(crate) fn only_settles(words: &Words<'_>) -> bool
     is_answer(words) && settles(words.at(2))
 }
 
-/// What a line of a channel, or else a question, a filling or a time, says, or its first wrong word.
+/// What a line of a channel, or else a question, a filling, a time or a wait, says, or its first wrong word.
 fn asked_command(words: &Words<'_>, channel: Option<Channel>) -> Result<Command, u32>
     ensures { result ≡ asked_command words.now channel }
 {
@@ -476,6 +477,7 @@ fn asked_command(words: &Words<'_>, channel: Option<Channel>) -> Result<Command,
         b"mem" => Ok(Command::Byte(address_line(words)?)),
         b"fill" => fill_line(words),
         b"time" => Ok(Command::Time(time_line(words)?)),
+        b"waited" => waited_line(words),
         _ => Err(1),
     }
 }

@@ -177,6 +177,9 @@ fn other_fields(first: &[u8]) -> Option<&'static [FieldKind]>
     if first == b"time".as_slice() {
         return Some(&[Decimal]);
     }
+    if first == b"waited".as_slice() {
+        return Some(&[Name, Decimal]);
+    }
     if first == b"mem".as_slice() {
         return Some(&[Hexadecimal]);
     }

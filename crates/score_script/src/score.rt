@@ -51,6 +51,8 @@ pub enum Command {
     Fill(u32, FillBytes),
     /// What is observed from there on is of this time.
     Time(u64),
+    /// The next beat of a port waited until it was taken: it settles the beat before it.
+    Waited,
     /// The bridge was reset, with all that is connected to it.
     Reset,
     /// The observation is over: all that was asked has its answer.
@@ -526,7 +528,7 @@ impl Score {
                 self.withdraw();
                 *findings = Findings::none();
             }
-            Command::Answer => {
+            Command::Answer | Command::Waited => {
                 self.settle(&mut findings.held)?;
                 findings.own = None;
             }

@@ -1,0 +1,206 @@
+"""How long beats wait for ready, on wires by hand (tests/waits.sv): what the monitor of examples/testbench/rtl prints by each simulator
+that is installed, what zuldegei-waves reads from a dump of the same wires, and what the monitor in the process writes under Verilator is
+said here line by line, and tlscore judges it as the run was judged, also where the run is stopped. A file that can't be written ends the
+run at its begin. What zuldegei-cover, zuldegei-explain and zuldegei-wave-of make of such lines. A simulator that isn't installed is named.
+
+    python3 tests/waits.py TLSCORE [--library FOLDER]
+"""
+
+import argparse
+import json
+import re
+import shutil
+import subprocess
+import sys
+import tempfile
+from pathlib import Path
+from typing import Iterator, List, Optional, Tuple
+
+from ends import told
+from in_process_rtl import ABORTED, NO_LIMIT, SYSTEMVERILOG, TOLD, TOP, UNOPTIMIZED, Simulated, built, run, started
+from waves import command
+
+MONITOR, WIRES = TOP / "examples/testbench/rtl/monitor.sv", TOP / "tests/waits.sv"
+JUDGES = [SYSTEMVERILOG / f"zuldegei_{it}.sv" for it in ("pkg", "monitor")]
+SETUP = "# two clients\nconfig 2 4 16 2 16 12 hh\nregion 0 4 10 gpah\npage 10 4 good\n"
+# What passes by the tables of waits.sv. The Get of client 1 is withdrawn once, and waits anew behind that; W data come ahead of their AW; and
+# a request that waits ahead of a reset is offered anew behind it.
+LINES = """time 35
+waited A0 2
+A 0 0 0 3 5 00000008 ff 1122334455667788 0
+time 65
+waited A1 1
+A 1 4 0 3 7 00000010 ff 0000000000000000 0
+time 75
+waited AW 1
+AW 2 00010008 0 3 1
+time 55
+waited W 1
+W 1122334455667788 ff 1
+time 105
+AR 3 00010010 0 3 1
+waited B 2
+B 2 OKAY
+time 125
+waited R 1
+R 3 0000000000000000 OKAY 1
+waited D0 1
+D 0 0 0 3 5 0 0000000000000000 0
+time 135
+D 1 1 0 3 7 0 0000000000000000 0
+= reset
+time 165
+A 0 4 0 3 5 00000010 ff 0000000000000000 0
+time 175
+D 0 1 0 3 5 0 0000000000000000 0
+"""
+WITHOUT = re.sub(r"(?m)^waited .*\n", "", LINES)
+LAST = "D 0 1 0 3 5 0 0000000000000000 0\n"
+WRONG = LAST.replace("0 0\n", "1 0\n")
+RIGHT_END = "= judged 11 wrong 0 outstanding 0 open 0 compared 16 of 16"
+WRONG_TOLD = f"= wrong 32 reply 7 PAYLOAD expected {LAST.strip()} at 175"
+WRONG_END = RIGHT_END.replace("wrong 0", "wrong 1")
+# Bins of the group `wait`, with how often they are reached and in which line first.
+BINS = ("A0/0 1 30", "A0/2-7 1 7", "A1/1 1 10", "AW/1 1 13", "W/1 1 16", "AR/0 1 18", "B/2-7 1 20", "R/1 1 23", "D0/0 1 32", "D0/1 1 25", "D1/0 1 27")
+# Commands, and what each is given of a run.
+COMMANDS = {"explain": ("lines", "told"), "wave_of": ("lines", "told", "vcd"), "times": ("lines",)}
+MAP = """clock testbench.clock
+reset testbench.reset
+client 0 flat testbench.monitor. part 0 of 2
+client 1 flat testbench.monitor. part 1 of 2
+axi flat testbench.monitor.
+"""
+Case = Tuple[str, Optional[str]]
+
+
+def unlike(got: object, due: object) -> Optional[str]:
+    return None if got == due else f"{got!r}, not {due!r}"
+
+
+def judged(score: Path, text: str) -> List[str]:
+    """What tlscore tells of an observation."""
+    return TOLD.findall(subprocess.run([score], input=text, capture_output=True, text=True).stdout)
+
+
+def printed(words: List[str], folder: Path, *more: str) -> str:
+    """What the monitor prints in a run."""
+    seen = folder / "seen.lines"
+    run.simulated([*words, f"+observed={seen}", *more])
+    return seen.read_text()
+
+
+def by_print(name: str, words: List[str], folder: Path) -> Iterator[Case]:
+    """The monitor that prints, with waits and without; and a dump of the same wires."""
+    yield f"lines by {name}", unlike(printed(words, folder, "+waits", f"+dump={folder / 'run.vcd'}"), LINES)
+    yield f"lines by {name}, without waits", unlike(printed(words, folder), WITHOUT)
+    (folder / "ports.map").write_text(MAP)
+    for said, due in (((), WITHOUT), (("--waits",), LINES)):
+        ran = command("waves", folder / "ports.map", folder / "run.vcd", *said)
+        yield f"a dump by {name}, {said}", unlike((ran.returncode, ran.stdout), (0, due))
+
+
+def by_icarus() -> Iterator[Case]:
+    if not shutil.which("iverilog"):
+        print("skipped: waits by Icarus, as iverilog isn't installed")
+        return
+    with tempfile.TemporaryDirectory() as room:
+        program = f"{room}/bench.vvp"
+        run.simulated(["iverilog", "-g2012", "-s", "testbench", "-o", program, str(WIRES), str(MONITOR)])
+        yield from by_print("Icarus", ["vvp", "-n", program], Path(room))
+
+
+def bench(folder: Path, library: Path) -> Path:
+    """The wires with both monitors under Verilator."""
+    words = ["verilator", "--cc", "--exe", "--main", "--timing", "--trace", "-Wno-fatal", "-DJUDGES", "--top-module", "testbench"]
+    words += ["-Mdir", str(folder), "-o", "bench", *map(str, (*JUDGES, MONITOR, WIRES)), str(library / "libzuldegei.a")]
+    built(words, folder, "waits")
+    built(["make", "-s", "-f", "Vtestbench.mk", *UNOPTIMIZED], folder, "waits")
+    return folder / "bench"
+
+
+def written(program: Path, *words: str) -> Tuple[Simulated, str]:
+    """A run whose monitor in the process writes what it judges."""
+    setup, seen = program.parent / "setup.lines", program.parent / "written.lines"
+    setup.write_text(SETUP.rstrip("\n"))
+    ran = started(program, f"+zuldegei_setup={setup}", f"+zuldegei_observed={seen}", f"+observed={program.parent / 'seen.lines'}", *words)
+    return ran, seen.read_text()
+
+
+def by_verilator(score: Path, library: Path) -> Iterator[Case]:
+    if not shutil.which("verilator"):
+        print("skipped: waits by Verilator, as verilator isn't installed")
+        return
+    with tempfile.TemporaryDirectory() as room:
+        program = bench(Path(room), library)
+        setup = Path(room) / "setup.lines"
+        setup.write_text(SETUP)
+        yield from by_print("Verilator", [str(program), f"+zuldegei_setup={setup}"], Path(room))
+        yield from in_process(score, program)
+        yield from refused(program)
+
+
+def in_process(score: Path, program: Path) -> Iterator[Case]:
+    """What the monitor in the process writes, of a run that is right, of one that is wrong, and where that is stopped."""
+    ran, text = written(program)
+    yield "what is written", unlike(text, f"{SETUP}{LINES}")
+    yield "what is written is judged as the run", unlike((ran.status, TOLD.findall(ran.text), judged(score, text)), (0, [RIGHT_END], [RIGHT_END]))
+    ran, text = written(program, "+zuldegei_end")
+    yield "what is written with its end", unlike((TOLD.findall(ran.text), text, judged(score, text)), ([RIGHT_END], f"{SETUP}{LINES}= end\n", [RIGHT_END]))
+    wrong = f"{SETUP}{LINES.removesuffix(LAST)}{WRONG}"
+    ran, text = written(program, "+wrong", NO_LIMIT)
+    due = [WRONG_TOLD, WRONG_END]
+    yield "a wrong run", unlike((ran.status, TOLD.findall(ran.text), text, judged(score, text)), (1, due, wrong, due))
+    for name, words, status in (("stopped", ["+zuldegei_stop=1", NO_LIMIT], 1), ("ended by Verilator", [], ABORTED)):
+        ran, text = written(program, "+wrong", "+zuldegei_end", *words)
+        yield f"a wrong run that is {name}", unlike((ran.status, TOLD.findall(ran.text)[0], text, judged(score, text)), (status, due[0], wrong, due))
+
+
+def refused(program: Path) -> Iterator[Case]:
+    """Files that nobody can write."""
+    setup = program.parent / "setup.lines"
+    for word, why in (("=no/such.lines", "no/such.lines can't be written"), ("=", "the file of +zuldegei_observed= can't be written")):
+        ran = started(program, f"+zuldegei_setup={setup}", f"+zuldegei_observed{word}", NO_LIMIT)
+        last = f"zuldegei: the run failed: {why} (TOP.testbench.scoreboard)"
+        yield f"the file {word}", unlike((ran.status, ran.text.splitlines()[-1]), (1, last))
+
+
+def made(name: str, folder: Path, of: str, words: Tuple[str, ...]) -> Tuple[int, str]:
+    """The status of a command, and what it prints and writes."""
+    ran = command(name, *(folder / f"{of}.{word}" for word in words))
+    vcd = folder / f"{of}.vcd"
+    return ran.returncode, ran.stdout + (vcd.read_text() if "vcd" in words else "")
+
+
+def by_command(score: Path) -> Iterator[Case]:
+    """What tlscore and the commands make of the lines: they pass over waits as over comments, but that zuldegei-cover counts them."""
+    wrong = f"{SETUP}{LINES.removesuffix(LAST)}{WRONG}"
+    with tempfile.TemporaryDirectory() as room:
+        folder = Path(room)
+        for name, text in (("waits", wrong), ("comments", re.sub("(?m)^waited", "# waited", wrong))):
+            (folder / f"{name}.lines").write_text(text)
+            (folder / f"{name}.told").write_text("".join(f"{it}\n" for it in judged(score, text)))
+        yield "waits beside comments, by tlscore", unlike(*((folder / f"{it}.told").read_text() for it in ("waits", "comments")))
+        for name, words in COMMANDS.items():
+            yield f"zuldegei-{name}", unlike(*(made(name, folder, it, words) for it in ("waits", "comments")))
+        ran = command("cover", folder / "waits.lines", "--json", folder / "waits.json")
+        bins = json.loads((folder / "waits.json").read_text())["bins"].items()
+        found = [f"{name[5:]} {it[0]} {it[2]}" for name, it in bins if name.startswith("wait/") and it[0]]
+        yield "bins of waits", unlike((ran.returncode, sorted(found)), (0, sorted(BINS)))
+
+
+def cases(score: Path, library: Path) -> Iterator[Case]:
+    yield from by_command(score)
+    yield from by_icarus()
+    yield from by_verilator(score, library)
+
+
+def main() -> int:
+    asked = argparse.ArgumentParser(description=__doc__)
+    asked.add_argument("score", metavar="TLSCORE", type=lambda it: Path(it).resolve())
+    asked.add_argument("--library", help="where libzuldegei.a stands (out)")
+    given = asked.parse_args()
+    return told(cases(given.score, Path(given.library or TOP / "out").resolve()))
+
+
+if __name__ == "__main__":
+    sys.exit(main())
