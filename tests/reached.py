@@ -61,7 +61,7 @@ def rtl(simulator: str, folder: Path) -> Testbench:
     words, seen = run.compiled(simulator, bench, folder), folder / "seen.lines"
 
     def observed(seed: int, corners: int) -> str:
-        run.simulated([*words, f"+seed={seed}", *bench._replace(corners=corners).words, f"+observed={seen}"])
+        run.simulated([*words, f"+seed={seed}", *bench._replace(corners=corners).words, "+waits", f"+observed={seen}"])
         return f"{bench.asked.setup}{seen.read_text()}"
 
     return Testbench("the bridge in RTL", RTL / "without.lines", 85, observed)
