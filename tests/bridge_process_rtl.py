@@ -77,7 +77,8 @@ def made(bench: Bench, library: Path, folder: Path) -> Path:
 def simulated(bench: Path, seed: int, *more: str) -> Tuple[int, str, str]:
     """The status of a run, what it printed, and the lines of the monitor that prints them."""
     seen = bench.parent / "seen.lines"
-    words = [bench, f"+seed={seed}", f"+zuldegei_seed={seed}", f"+observed={seen}", f"+zuldegei_setup={run.HERE / 'setup.lines'}", *more]
+    asked = [f"+seed={seed}", f"+zuldegei_seed={seed}", "+corners=0"]  # plain lots, of which interfaces/README.md tells
+    words = [bench, *asked, f"+observed={seen}", f"+zuldegei_setup={run.HERE / 'setup.lines'}", *more]
     ran = subprocess.run(words, cwd=bench.parent, stdout=subprocess.PIPE, stderr=subprocess.STDOUT, text=True, timeout=300, check=False)
     return ran.returncode, ran.stdout, f"{seen.read_text()}= end\n"
 

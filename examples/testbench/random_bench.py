@@ -5,8 +5,8 @@ out the requests whole, one at a time, in the order in which they were accepted.
 
 Of 16 requests so many as --corners says (4) look for a corner: the edge of a page or a region, a page that fails or isn't there, a bad
 word, masks that are empty, a message that is corrupt in all beats; and for a while replies are taken soon, or none is taken, no answer is
-given or no burst is sent. With 0 there are plain lots. --observed writes what tlscore and zuldegei-cover read of the run. With --in-process the
-model is that of the library (interfaces/README.md), and else the program's. Both give the same.
+given or no burst is sent. With 0 there are plain lots. --observed writes what tlscore and zuldegei-cover read of the run. With
+--in-process the model is that of the library (interfaces/README.md), and else the program's. Both give the same.
 """
 
 import argparse
