@@ -9,7 +9,7 @@ ghost use Rattle.score_script.specs.ObservedLines.{Stands, a_line, address_line,
 use crate::fills::fill_line;
 use crate::score::Command;
 use crate::unknown::{or_unknown, payload_at};
-use crate::waits::waited_line;
+use crate::waits::{is_wait, waited_line};
 use axi_beats::{ArBeat, AwBeat, BBeat, RBeat, Resp, WBeat};
 use axi_checker::AxiBeat;
 use line_text::Words;
@@ -473,11 +473,13 @@ fn asked_command(words: &Words<'_>, channel: Option<Channel>) -> Result<Command,
     if let Some(channel) = channel {
         return channel_command(channel, words);
     }
+    if is_wait(words) {
+        return waited_line(words);
+    }
     match words.at(1) {
         b"mem" => Ok(Command::Byte(address_line(words)?)),
         b"fill" => fill_line(words),
         b"time" => Ok(Command::Time(time_line(words)?)),
-        b"waited" => waited_line(words),
         _ => Err(1),
     }
 }
