@@ -15,7 +15,7 @@ use Rattle.line_text.specs.OfferLines.{beat_in}
 use Rattle.line_text.specs.Words.{dec_at, hex_at, is_dec_to, is_hex_to, word_at}
 use Rattle.score_script.specs.FillLines.{fill_line}
 use Rattle.score_script.specs.UnknownDigits.{or_unknown, payload_at, payload_field, unknown_lanes}
-use Rattle.score_script.specs.WaitLines.{waited_line}
+use Rattle.score_script.specs.WaitLines.{is_wait, waited_line}
 use Rattle.score_script.specs.declared.lines.Channel.{Channel}
 use Rattle.score_script.specs.declared.lines.Channel.TheVariants as channel
 use Rattle.score_script.specs.declared.lines.SeenBeat.{SeenBeat}
@@ -272,19 +272,20 @@ is_settling _ = false
 abbrev pub only_settles : List (List ℕ) → Bool
 only_settles words = is_answer words && is_settling (answer_command (word_at words 2))
 
--- what a line of a channel, or else a question, a filling, a time or a wait, says, or the first wrong word
-abbrev pub asked_command : List (List ℕ) → Option Channel → Result Command ℕ
-asked_command words (Some channel) = channel_command channel words
-asked_command words None =
+-- what a question, a filling or a time says, or the first wrong word
+abbrev pub other_command : List (List ℕ) → Result Command ℕ
+other_command words =
     if bytes_eq (word_at words 1) (codes "mem")
     then told_as (λ address. command.Byte address) (address_line words)
     else
     (if bytes_eq (word_at words 1) (codes "fill")
     then fill_line words
-    else
-    (if bytes_eq (word_at words 1) (codes "time")
-    then told_as (λ time. command.Time time) (time_line words)
-    else (if bytes_eq (word_at words 1) (codes "waited") then waited_line words else Err 1)))
+    else (if bytes_eq (word_at words 1) (codes "time") then told_as (λ time. command.Time time) (time_line words) else Err 1))
+
+-- what a line of a channel, or else a wait, a question, a filling or a time, says, or the first wrong word
+abbrev pub asked_command : List (List ℕ) → Option Channel → Result Command ℕ
+asked_command words (Some channel) = channel_command channel words
+asked_command words None = if is_wait words then waited_line words else other_command words
 
 -- what a line says that isn't one of the set-up, or the first wrong word; there are no other commands
 abbrev pub command_of : List (List ℕ) → Result Command ℕ

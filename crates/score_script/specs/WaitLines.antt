@@ -2,7 +2,7 @@
 use Rattle.std.specs.Prelude.{ℕ, ◌-◌, ◌^◌, ◌==◌, Bool, false, ◌&&◌, ◌||◌, List, [], ◌∷◌, Result, codes, nat_le}
 use Rattle.std.specs.Str.{bytes_eq}
 use Rattle.line_text.specs.Fields.{Field, read_as}
-use Rattle.line_text.specs.Words.{is_dec_to}
+use Rattle.line_text.specs.Words.{is_dec_to, word_at}
 use Rattle.score_script.specs.declared.score.Command.{Command}
 use Rattle.score_script.specs.declared.score.Command.TheVariants.{Waited}
 
@@ -24,6 +24,10 @@ axi_port_field word =
 -- a port's name
 abbrev pub port_field : Field
 port_field word = client_port_field word || axi_port_field word
+
+-- whether a line is one
+abbrev pub is_wait : List (List ℕ) → Bool
+is_wait words = bytes_eq (word_at words 1) (codes "waited")
 
 -- nothing but that it stands, or the first wrong word
 abbrev pub waited_line : List (List ℕ) → Result Command ℕ

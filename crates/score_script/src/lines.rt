@@ -4,12 +4,12 @@ ghost use Rattle.score_script.specs.declared.score.Command.TheVariants.{Answer, 
 ghost use Rattle.line_text.specs.Fields.{Reads, address_field, byte_field, flag_field};
 ghost use Rattle.line_text.specs.Words.{word_at};
 ghost use Rattle.score_script.specs.UnknownDigits.{StandsAt, payload_field, unknown_field};
-ghost use Rattle.score_script.specs.ObservedLines.{Stands, a_line, address_line, answer_command, ar_line, asked_command, aw_line, b_line, channel_command, channel_of, command_of, d_line, is_answer, is_settling, is_withdrawal, known, mask_field, only_settles, r_line, resp_field, resp_in, seen_line, time_line, unknown_a, unknown_address, unknown_b, unknown_d, unknown_line, unknown_r, unknown_w, w_line};
+ghost use Rattle.score_script.specs.ObservedLines.{Stands, a_line, address_line, answer_command, ar_line, asked_command, aw_line, b_line, channel_command, channel_of, command_of, d_line, is_answer, is_settling, is_withdrawal, known, mask_field, only_settles, other_command, r_line, resp_field, resp_in, seen_line, time_line, unknown_a, unknown_address, unknown_b, unknown_d, unknown_line, unknown_r, unknown_w, w_line};
 
 use crate::fills::fill_line;
 use crate::score::Command;
 use crate::unknown::{or_unknown, payload_at};
-use crate::waits::waited_line;
+use crate::waits::{is_wait, waited_line};
 use axi_beats::{ArBeat, AwBeat, BBeat, RBeat, Resp, WBeat};
 use axi_checker::AxiBeat;
 use line_text::Words;
@@ -466,20 +466,29 @@ pub(crate) fn only_settles(words: &Words<'_>) -> bool
     is_answer(words) && settles(words.at(2))
 }
 
-/// What a line of a channel, or else a question, a filling, a time or a wait, says, or its first wrong word.
+/// What a question, a filling or a time says, or its first wrong word.
+fn other_command(words: &Words<'_>) -> Result<Command, u32>
+    ensures { result ≡ other_command words.now }
+{
+    match words.at(1) {
+        b"mem" => Ok(Command::Byte(address_line(words)?)),
+        b"fill" => fill_line(words),
+        b"time" => Ok(Command::Time(time_line(words)?)),
+        _ => Err(1),
+    }
+}
+
+/// What a line of a channel, or else a wait, a question, a filling or a time, says, or its first wrong word.
 fn asked_command(words: &Words<'_>, channel: Option<Channel>) -> Result<Command, u32>
     ensures { result ≡ asked_command words.now channel }
 {
     if let Some(channel) = channel {
         return channel_command(channel, words);
     }
-    match words.at(1) {
-        b"mem" => Ok(Command::Byte(address_line(words)?)),
-        b"fill" => fill_line(words),
-        b"time" => Ok(Command::Time(time_line(words)?)),
-        b"waited" => waited_line(words),
-        _ => Err(1),
+    if is_wait(words) {
+        return waited_line(words);
     }
+    other_command(words)
 }
 
 /// What a line says that isn't one of the set-up, or its first wrong word.

@@ -2,7 +2,7 @@
 ghost use Rattle.std.specs.Prelude.{◌≡◌, ◌<◌};
 ghost use Rattle.line_text.specs.Words.{word_at};
 ghost use Rattle.score_script.specs.UnknownDigits.{StandsAt};
-ghost use Rattle.score_script.specs.WaitLines.{port_field, waited_line};
+ghost use Rattle.score_script.specs.WaitLines.{is_wait, port_field, waited_line};
 
 use crate::score::Command;
 use line_text::Words;
@@ -17,6 +17,13 @@ fn is_port(word: &[u8]) -> bool
         [b'W' | b'B' | b'R'] => true,
         _ => false,
     }
+}
+
+/// Whether a line says how long a beat waited.
+pub(crate) fn is_wait(words: &Words<'_>) -> bool
+    ensures { result ≡ is_wait words.now }
+{
+    words.at(1) == b"waited".as_slice()
 }
 
 /// That word `n` is the name of a port.

@@ -3,3 +3,6 @@ use Rattle.score_script.proofs.script.ScoreScriptKind.carry_line.Goals as goal
 
 pub returns-in-Ok : goal.returns-in-Ok
 returns-in-Ok c = search rules
+
+pub returns-in-Ok-read : goal.returns-in-Ok-read
+returns-in-Ok-read g c = rw (← c.command_of-read.ensures, c.in-Ok-read.is) c.carry_out.ensures
