@@ -26,8 +26,9 @@ VERSION = (TOP / "VERSION").read_text().strip()
 PROOF = (TOP / "examples/proof/README.md").read_text()
 PAGE = (TOP / "docs/INSTALL.md").read_text().replace("VERSION", VERSION).replace(f"/{VERSION}`", "/VERSION`")
 BARE = {"PATH": "/usr/bin:/bin", "LANG": "C.UTF-8"}  # nothing of the toolchain is there
-# What a block needs of Debian, by what it names: prove.py runs yosys and ABC.
-NEEDED = {"verilator": "verilator", "g++": "g++", "pkg-config": "pkg-config", "iverilog": "iverilog", "prove.py": "berkeley-abc"}
+# What a block needs of Debian, by what it names: prove.py runs yosys and ABC on the small bridge.
+NEEDED = {"verilator": "verilator", "g++": "g++", "pkg-config": "pkg-config", "iverilog": "iverilog",
+          "prove.py": "berkeley-abc", "small_bridge.sv": "yosys"}  # fmt: skip
 LIST = "share/zuldegei/installed.list"
 MODULES = ("waves", "fill", "explain", "wave-of", "times", "regress", "cover")
 # A stand-in for rt, which puts what was given where rt puts what it builds.
