@@ -29,7 +29,7 @@ use Rattle.call_words.specs.declared.handle.Stage.TheVariants.{Closed, Running, 
 use Rattle.bridge_calls.specs.Bridges.{AfterDrain, AfterStep, BridgeState, opening_bridge}
 use Rattle.bridge_calls.specs.CallKinds.{call_by, call_of, kind_of, step_by, step_in, words_wanted}
 use Rattle.bridge_calls.specs.HandleRuns.{HasRun, IsARun, IsNew, first_enabled, last_reply, step_and, steps_at, steps_by, steps_of}
-use Rattle.bridge_calls.specs.Handles.{Called, DoneBy, GivesBridge, HeldBridge, OtherDone, bridge_session}
+use Rattle.bridge_calls.specs.Handles.{Called, DoneBy, HeldBridge, OtherDone, bridge_session}
 use Rattle.bridge_calls.specs.SetUps.{SetUpState, SetUpTold, no_line, set_up_kind, stage_in}
 use Rattle.bridge_calls.specs.declared.kinds.CallKind.{CallKind}
 use Rattle.bridge_calls.specs.declared.kinds.CallKind.TheVariants as kind

@@ -1,5 +1,5 @@
 -- What lies behind the handle of the bridge's model, and what a call does there (this project's profile).
-use Rattle.std.specs.Prelude.{ℕ, ◌≡◌, ◌+◌, ◌/◌, List, [], Option, Some, None, Result, IfOk}
+use Rattle.std.specs.Prelude.{ℕ, ◌≡◌, ◌+◌, ◌/◌, [], Option, Some, None, Result, IfOk}
 use Rattle.script_text.specs.Stages.{GivesWorld, world_at}
 use Rattle.script_text.specs.declared.faults.ScriptFault.{ScriptFault}
 use Rattle.world.specs.Laws.{IsSoundWorld}
