@@ -483,7 +483,12 @@ def of_lots(rng: random.Random, score: str, simulator: Simulator, many: int, rou
 
 
 def by_verilator(given: argparse.Namespace, folder: Path) -> Iterator[Case]:
-    """Lots by one shape, which is compiled anew: that takes longer than to play them."""
+    """Lots by one shape, which is compiled anew: that takes longer than to play them. Bound to the testbench, the rules are only read."""
+    files = [*sorted(RTL.glob("*.sv")), RULES, RULES.with_name("example_rules.sv")]
+    words = ["verilator", "--lint-only", "--timing", "--assert", "-Wno-fatal", f"-I{RTL}", "--top-module", "testbench", *map(str, files)]
+    done = subprocess.run(words, capture_output=True, text=True, timeout=120, check=False)
+    lines = [it for it in done.stderr.splitlines() if it.startswith("%") and "_rules.sv" in it]
+    yield "the rules bound for Verilator", f"status {done.returncode}: {lines[:3]}" if done.returncode or lines else None
     shape, simulator = SHAPES[3], Simulator("verilator", folder)
     clocks = clocks_of(random.Random(given.seed), shape, given.clocks)
     yield compared(f"verilator, {shape}", clocks, by_score(given.score, shape, clocks), simulator.played(shape, clocks))
