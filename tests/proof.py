@@ -138,7 +138,7 @@ def cases(score: str, depth: int) -> Iterator[Case]:
 def main() -> int:
     asked = argparse.ArgumentParser(description=__doc__, formatter_class=argparse.RawDescriptionHelpFormatter)
     asked.add_argument("score", metavar="TLSCORE")
-    asked.add_argument("--depth", type=int, default=8, help="how many clocks are looked at of the right bridge (8)")
+    asked.add_argument("--depth", type=int, default=11, help="how many clocks are looked at of the right bridge (11: those in which each fault fails)")
     given = asked.parse_args()
     return told(cases(given.score, given.depth))
 
