@@ -108,7 +108,7 @@ impl SetUp {
         ensures { SetUpTold self.old line.now self.new result }
     {
         let at = next_number(self.number);
-        let fault = ScriptFault::at(at, 1);
+        let fault = ScriptFault::Script { line: at, word: 1 };
         if self.number >= MOST {
             return Err(fault);
         }
@@ -227,7 +227,7 @@ impl Observation {
             return Ok(self.note(number, Findings::none(), false));
         }
         match command_of(&words) {
-            Err(word) => Err(ScriptFault::at(number, word)),
+            Err(word) => Err(ScriptFault::Script { line: number, word }),
             Ok(command) => self.take(number, &command),
         }
     }
