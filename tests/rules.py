@@ -543,14 +543,14 @@ BENCHES = ("-DBRIDGE=streaming_bridge", "-DBUG=NONE", "-DBUG=OTHER_SOURCE", "-DB
 
 
 def of_benches(score: str, folder: Path) -> Iterator[Case]:
-    """The assertions beside the testbench of examples/testbench/rtl: all that they tell, with its time, is what tlscore finds wrong of the lines that
-    the monitor prints."""
+    """The assertions beside the testbench of examples/testbench/rtl by plain lots, as examples/proof/README.md shows them: all that they tell, with its
+    time, is what tlscore finds wrong of the lines that the monitor prints."""
     seen, bench = folder / "seen.lines", str(folder / "bench.vvp")
     files = [*sorted(RTL.glob("*.sv")), RULES, RULES.with_name("example_rules.sv")]
     for given in BENCHES:
         made = ["iverilog", "-g2012", given, f"-I{RTL}", "-s", "testbench", "-s", "example_rules", "-o", bench, *map(str, files)]
         subprocess.run(made, check=True, timeout=120)
-        text = subprocess.run(["vvp", "-n", bench, "+seed=3", f"+observed={seen}"], capture_output=True, text=True, timeout=120, check=True).stdout
+        text = subprocess.run(["vvp", "-n", bench, "+seed=3", "+corners=0", f"+observed={seen}"], capture_output=True, text=True, timeout=120, check=True).stdout
         found = sorted((int(at), f"{port} {number} {name}") for port, number, name, at, _ in TOLD.findall(text))
         lines = (RTL / "setup.lines").read_text().replace("axi strict\n", "profile tilelink\nerrors any\n") + seen.read_text()
         said = started([score], lines.encode()).text.decode()
