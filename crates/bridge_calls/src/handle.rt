@@ -33,9 +33,8 @@ impl BridgeHandle {
         ensures text { result.text ≡ [] }
         ensures runs { OnlyRuns result }
     {
-        BridgeHandle {
-            handle: Handle::new(alloc),
-        }
+        let handle = Handle::new(alloc);
+        BridgeHandle { handle }
     }
 
     /// Takes a word of a call. The answer to all but the last is that more are wanted.
