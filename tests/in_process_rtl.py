@@ -19,6 +19,7 @@ import sys
 import tempfile
 import time
 from concurrent.futures import ThreadPoolExecutor
+from itertools import zip_longest
 from pathlib import Path
 from typing import Iterator, NamedTuple, Optional, Tuple
 
@@ -35,7 +36,7 @@ UNOPTIMIZED = ["OPT_FAST=-O0", "OPT_GLOBAL=-O0"]
 TOLD = re.compile(r"(?m)(= (?:wrong|judged) .*)$")
 TIMED = re.compile(r"(?m)^\[(\d+)\] %Error: .*zuldegei: (= wrong .*|the run failed: \d+ wrong)$")
 LATE = re.compile(r"zuldegei: late: no reply after \d+ to client (\d+) source (\d+), which asked at (\d+)")
-WAITED = re.compile(r"(?m)^waited .*\n")
+WAITED = re.compile(r"(?m)^waited ")
 TOO_LONG = (300, 900)
 NO_LIMIT = "+verilator+error+limit+1000000"  # each $error and $fatal goes on, as far as Verilator is asked
 LONG_LINES = ("# a line of a set-up\n", "fill 10000 00 00 00 00\n")
@@ -98,10 +99,14 @@ def whole_wrong(ran: Simulated, judged: str) -> Optional[str]:
     return failed_wrong(ran, int(wrong > 0), how)
 
 
-def written_wrong(text: str, due: str, ran: Simulated, score: Path) -> Optional[str]:
-    """How what the judging monitor writes isn't what the other one prints, with waits, or isn't judged as its run was."""
-    if WAITED.sub("", text) != due:
-        return f"it isn't what is printed: {text[-200:]!r}"
+def written_wrong(bench: Path, seed: int, setup: Path, score: Path, *more: str) -> Optional[str]:
+    """How what the judging monitor writes isn't what the other one prints, with waits, or isn't judged as the run was."""
+    written = setup.with_name(f"written-{setup.stem}-{seed}.lines")
+    ran = simulated(bench, seed, setup, NO_LIMIT, "+waits", f"+zuldegei_observed={written}", *more)
+    text, due = written.read_text(errors="replace"), f"{setup.read_text()}{ran.lines}= end\n"
+    if text != due:
+        pairs = zip_longest(text.splitlines(), due.splitlines())
+        return next(f"line {at} is {its!r}, and {other!r} is printed" for at, (its, other) in enumerate(pairs, 1) if its != other)
     if not WAITED.search(text):
         return "no beat waited"
     got, said = TOLD.findall(run.judged(score, "", text)), TOLD.findall(ran.text)
@@ -222,11 +227,10 @@ def tried(bug: str, bench: Path, given: argparse.Namespace) -> Iterator[Case]:
         for seed in range(1, given.seeds + 1):
             name = f"{bug}, seed {seed}, by profile {profile}"
             x = [f"+verilator+seed+{seed}", "+verilator+rand+reset+2"] if bug in run.SHOWN_BY_X else []
-            written = bench.parent / f"written-{profile}-{seed}.lines"
-            whole = simulated(bench, seed, setup, NO_LIMIT, f"+zuldegei_observed={written}", *x)
+            whole = simulated(bench, seed, setup, NO_LIMIT, *x)
             judged = run.judged(given.score, asked.setup, f"{whole.lines}= end\n")
             yield f"{name}, whole", whole_wrong(whole, judged)
-            yield f"{name}, written", written_wrong(written.read_text(errors="replace"), f"{asked.setup}{whole.lines}= end\n", whole, given.score)
+            yield f"{name}, written", written_wrong(bench, seed, setup, given.score, *x)
             first = run.first_wrong(asked.setup, whole.lines, judged)
             if not first or first.name.endswith("UNANSWERED") or seed == 1:
                 yield from late_told(name, bench, seed, setup)
