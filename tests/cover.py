@@ -38,7 +38,7 @@ CASES, RUNS = TOP / "tests/cover", sorted((RTL / "runs").glob("*.lines"))
 RULE = re.compile(r"(?m)^\| (\d+ [A-Z0-9_]+)[^|]*\| `crates/")  # of a row that has a rule's places
 GROUP = re.compile(r"(?m)^\| `([a-z-]+)` \| ")  # of a row of docs/COVERAGE.md
 BROWSERS = ("chromium", "chromium-browser", "google-chrome")
-LEAST_SPEED, SPEED_BEATS, TRIES = 30_000, 60_000, 3  # beats a second of a processor, of so many beats, the best of so many
+LEAST_SPEED, SPEED_BEATS, TRIES = 30_000, 60_000, 8  # beats a second of a processor, of so many beats, the best of so many
 MOST_MORE = 1.2  # times the room that a run of a quarter takes
 MERGES = 40
 # A set-up in which each group and each rule has bins.

@@ -50,10 +50,10 @@ AXI_RULES: Dict[str, Tuple[str, ...]] = {
 CHANNELS = {"client": (A, D), "request": (A,), "reply": (D,)}
 
 
-def check_words(words: List[str]) -> None:
-    """Raises a ValueError where the words of a line aren't as its first one asks."""
-    pattern = PATTERNS.get(words[0])
-    if pattern and not pattern.fullmatch(" ".join(words[1:])):
+def check_words(kind: str, words: List[str]) -> None:
+    """Raises a ValueError where the words behind the first one of a line aren't as that one asks."""
+    pattern = PATTERNS.get(kind)
+    if pattern and not pattern.fullmatch(" ".join(words)):
         raise ValueError(words)
 
 

@@ -174,15 +174,15 @@ def passed(lines: Iterable[str]) -> Iterator[Beat]:
     channel A comes once the next one doesn't say that it wasn't taken."""
     now, waiting = None, None
     for number, line in enumerate(lines, 1):
-        words = line.split()
-        if not words or words[0][0] == "#":
+        rest = line.split()
+        kind = rest.pop(0) if rest else "#"
+        if kind[0] == "#":
             continue
-        kind, *rest = words
         if waiting and not (kind == EVENT and rest and rest[0] in NOT_TAKEN):
             yield waiting
         waiting = None
         try:
-            check_words(words)
+            check_words(kind, rest)
             now = int(rest[0]) if kind == TIME else now
         except ValueError as why:
             raise fault_of(Beat(number, now, kind, rest), why) from why
