@@ -38,7 +38,7 @@ from zuldegei import vcd
 from zuldegei.command import Fault, Status
 from zuldegei.cover_read import Reader
 from zuldegei.cover_report import cover_of, cover_of_json
-from zuldegei.observation import Observation, check_same, verdict_of
+from zuldegei.observation import A, Observation, check_same, verdict_of
 
 COMMANDS = ("waves", "fill", "explain", "wave_of", "times", "regress", "cover")
 COUNT, SEED, BATCH, AT_ONCE, MOST_TOLD, JUDGED = 2000, 1, 100, 2, 9, 500
@@ -422,6 +422,17 @@ def fuzzed(inputs: Inputs, command: str, seed: int, count: int) -> Iterator[Case
     yield f"{command}, {count} cases", f"{wrong_ones} are wrong" if wrong_ones else few(seen, count)
 
 
+def withdrawn(inputs: Inputs) -> Iterator[Case]:
+    """An A beat that wasn't taken, with each of its fields unknown: it is there where the scoreboard tells of it."""
+    for at in range(10):
+        words = "A 0 0 0 3 5 00000008 ff 1122334455667788 0".split()
+        words[at : at + 1] = ["x"] if at else [A]
+        text = f"config 2 4 16 2 16 12 hh\nregion 0 4 10 gpah\npage 10 4 good\n{' '.join(words)}\n= refused 1 OPCODE\n"
+        verdict = subprocess.run([inputs.score], input=text, capture_output=True, text=True).stdout
+        count = len([*Observation(text).beats()]) if "= judged" in verdict else 0
+        yield f"a beat that wasn't taken, with an x for field {at}", None if count == verdict.count("= wrong") else f"{count} beats, {verdict!r}"
+
+
 def explained(inputs: Inputs, seed: int) -> Iterator[Case]:
     """Changed observations that the scoreboard reads to their end: none is refused, and neither is its verdict."""
     count = 0
@@ -532,7 +543,8 @@ def main() -> int:
         print(*tried(inputs, given.only, given.seed, given.case))
         return 0
     commands = [given.only] if given.only else COMMANDS
-    return told(itertools.chain(caught(), by_hand(inputs), explained(inputs, given.seed), *(fuzzed(inputs, it, given.seed, given.count) for it in commands)))
+    first = itertools.chain(caught(), by_hand(inputs), withdrawn(inputs), explained(inputs, given.seed))
+    return told(itertools.chain(first, *(fuzzed(inputs, it, given.seed, given.count) for it in commands)))
 
 
 if __name__ == "__main__":
