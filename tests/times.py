@@ -1,6 +1,6 @@
 """What zuldegei-times tells of observations with times. Of hand-written ones: the tables, whose numbers were worked out by hand, what is late,
-what a reset cuts, and what is refused. Of observations by lot: each number in JSON beside a plain computation from the same requests and
-bursts. Of the stored runs: that an answer which the scoreboard finds lost is late. And how fast it is, in how much memory.
+what a reset cuts, and what is refused. Of observations by lot: each number in JSON beside a plain computation from the same requests,
+bursts and waits. Of the stored runs: that an answer which the scoreboard finds lost is late. And how fast it is, in how much memory.
 
     python3 tests/times.py TLSCORE [--seed WORD] [--histories N]
 """
@@ -23,6 +23,7 @@ from waves import RTL, TOP, command
 
 SETUP = "config 2 4 16 2 16 12 hh\nregion 0 4 10 gpah\npage 10 4 good\n"
 ZEROS = "0000000000000000"
+BEATS_OF_A_RUN = ("A", "D", "AW", "AR", "B", "R")
 BEATS_A_SECOND, BEATS, ROOM = 30_000, 200_000, 3 << 20  # bytes that a run ten times as long may take more
 Case = Tuple[str, Optional[str]]
 
@@ -242,6 +243,31 @@ def observation(made: Sequence[Spell]) -> str:
     return "\n".join(lines) + "\n"
 
 
+def with_waits(text: str, lot: random.Random) -> Tuple[str, Dict[str, List[int]]]:
+    """An observation with lines `waited` ahead of some beats by lot, and by port for how many clocks each beat waited."""
+    lines, waits = [], {}
+    for line in text.splitlines():
+        words = line.split()
+        if words[0] in BEATS_OF_A_RUN:
+            port, clocks = words[0] + (words[1] if words[0] in "AD" else ""), lot.choice((0, 0, 1, 2, lot.randrange(300)))
+            waits.setdefault(port, []).append(clocks)
+            lines += [f"waited {port} {clocks}"] if clocks or lot.randrange(2) else []
+        lines.append(line)
+    return "\n".join(lines) + "\n", waits
+
+
+def waited(found: Dict[str, object], waits: Dict[str, List[int]], text: str) -> Optional[str]:
+    """What the JSON has otherwise of how long beats waited."""
+    found = found.get("waited", {})
+    for port, its in waits.items() if "waited " in text else ():
+        entry, its_most = found.get(port), max(its)
+        counts = Counter(str(2 ** (it.bit_length() - 1) if it else 0) for it in its)
+        due = [len(its), min(its), its_most, counts, (text.splitlines().index(f"waited {port} {its_most}") + 5) if its_most else None]
+        if not entry or [entry[it] for it in ("count", "least", "most", "histogram", "longest")] != due:
+            return f"{port}: {entry}, and due are {due}"
+    return None if set(found) == (set(waits) if "waited " in text else set()) else f"the ports are {sorted(found)}"
+
+
 def apart(made: Sequence[Spell], found: Dict[str, object], late: int) -> Optional[str]:
     """What the JSON has otherwise than a plain computation."""
     begin, end = min(it.begin for it in made), max(it.end for it in made)
@@ -272,9 +298,10 @@ def by_lot(folder: Path, seed: str, count: int) -> Iterator[Case]:
     for at in range(count):
         lot = random.Random(f"{seed} {at}")
         made, late = spells(lot, lot.choice((3, 30, 300))), lot.choice((10, 100, 1000))
-        ran = called(folder, observation(made), f"--late {late} --json times.json")
-        why = apart(made, json.loads((folder / "times.json").read_text()), late) if ran.returncode < 2 else ran.stderr
-        yield f"history {at} of seed {seed}", why
+        text, waits = with_waits(observation(made), lot)
+        ran = called(folder, text, f"--late {late} --json times.json")
+        found = json.loads((folder / "times.json").read_text()) if ran.returncode < 2 else None
+        yield f"history {at} of seed {seed}", (apart(made, found, late) or waited(found, waits, text)) if found else ran.stderr
 
 
 # ---- stored runs, and a long one

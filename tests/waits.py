@@ -1,7 +1,8 @@
 """How long beats wait for ready, on wires by hand (tests/waits.sv): what the monitor of examples/testbench/rtl prints by each simulator
 that is installed, what zuldegei-waves reads from a dump of the same wires, and what the monitor in the process writes under Verilator is
 said here line by line, and tlscore judges it as the run was judged, also where the run is stopped. A file that can't be written ends the
-run at its begin. What zuldegei-cover, zuldegei-explain and zuldegei-wave-of make of such lines. A simulator that isn't installed is named.
+run at its begin. What zuldegei-cover, zuldegei-times, zuldegei-explain and zuldegei-wave-of make of such lines. A simulator that isn't
+installed is named.
 
     python3 tests/waits.py TLSCORE [--library FOLDER]
 """
@@ -63,7 +64,29 @@ WRONG_END = RIGHT_END.replace("wrong 0", "wrong 1")
 # Bins of the group `wait`, with how often they are reached and in which line first.
 BINS = ("A0/0 1 30", "A0/2-7 1 7", "A1/1 1 10", "AW/1 1 13", "W/1 1 16", "AR/0 1 18", "B/2-7 1 20", "R/1 1 23", "D0/0 1 32", "D0/1 1 25", "D1/0 1 27")
 # Commands, and what each is given of a run.
-COMMANDS = {"explain": ("lines", "told"), "wave_of": ("lines", "told", "vcd"), "times": ("lines",)}
+COMMANDS = {"explain": ("lines", "told"), "wave_of": ("lines", "told", "vcd")}
+# What zuldegei-times has of them.
+WAITED = """waited, clocks   beats   least    half 9 of 10    most  first
+A0                   2       0       0       2       2  line 7 at 35
+A1                   1       1       1       1       1  line 10 at 65
+D0                   2       0       0       1       1  line 25 at 125
+D1                   1       0       0       0       0
+AW                   1       1       1       1       1  line 13 at 75
+W                    1       1       1       1       1  line 16 at 55
+B                    1       2       2       2       2  line 20 at 105
+AR                   1       0       0       0       0
+R                    1       1       1       1       1  line 23 at 125
+of these beats       0       1       2
+A0                   1       0       1
+A1                   0       1       0
+D0                   1       1       0
+D1                   1       0       0
+AW                   0       1       0
+W                    0       1       0
+B                    0       0       1
+AR                   1       0       0
+R                    0       1       0
+"""
 MAP = """clock testbench.clock
 reset testbench.reset
 client 0 flat testbench.monitor. part 0 of 2
@@ -172,7 +195,7 @@ def made(name: str, folder: Path, of: str, words: Tuple[str, ...]) -> Tuple[int,
 
 
 def by_command(score: Path) -> Iterator[Case]:
-    """What tlscore and the commands make of the lines: they pass over waits as over comments, but that zuldegei-cover counts them."""
+    """What tlscore and the commands make of the lines: they pass over waits as over comments, but for zuldegei-cover and zuldegei-times."""
     wrong = f"{SETUP}{LINES.removesuffix(LAST)}{WRONG}"
     with tempfile.TemporaryDirectory() as room:
         folder = Path(room)
@@ -182,6 +205,9 @@ def by_command(score: Path) -> Iterator[Case]:
         yield "waits beside comments, by tlscore", unlike(*((folder / f"{it}.told").read_text() for it in ("waits", "comments")))
         for name, words in COMMANDS.items():
             yield f"zuldegei-{name}", unlike(*(made(name, folder, it, words) for it in ("waits", "comments")))
+        told, without = (made("times", folder, it, ("lines",)) for it in ("waits", "comments"))
+        yield "zuldegei-times", unlike((told[0], re.sub(" +", " ", WAITED) in re.sub(" +", " ", told[1])), (0, True))
+        yield "zuldegei-times without waits", unlike((without[0], "waited" in without[1]), (0, False))
         ran = command("cover", folder / "waits.lines", "--json", folder / "waits.json")
         bins = json.loads((folder / "waits.json").read_text())["bins"].items()
         found = [f"{name[5:]} {it[0]} {it[2]}" for name, it in bins if name.startswith("wait/") and it[0]]
