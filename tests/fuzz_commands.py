@@ -32,7 +32,7 @@ from typing import Callable, Dict, Iterator, List, NamedTuple, Optional, Sequenc
 from xml.etree import ElementTree
 
 from ends import told
-from waves import HAND, MAP, RTL, TOP, UNKNOWN, a_beat, hand
+from waves import HAND, MAP, RTL, TOP, UNKNOWN, a_beat, command, hand
 from waves import WORDS as WORDS_OF_AN_IMAGE
 from zuldegei import vcd
 from zuldegei.command import Fault, Status
@@ -170,6 +170,7 @@ class Inputs:
         self.maps += [MAP.encode(), b"use rocket-chip top\n", b"use opentitan top", b"use pulp top ID=4"]
         self.maps += [it.read_bytes() for it in sorted((TOP / "tests/dumps").glob("*.map"))]
         self.counts = cover_of("a run", Reader().read(self.runs[0][0].decode().splitlines(True))).json().encode()
+        self.parts = parts_of(score, self.runs[: self.stored : 3])
         self.images = [WORDS_OF_AN_IMAGE.encode(), b"\1\2\3" * 40]
         self.images += [elf(kind, order) for kind, order in itertools.product((1, 2), "<>")]
 
@@ -205,7 +206,9 @@ class Inputs:
         return {"run.lines": lines, "run.told": lot.choice(self.runs)[1] if lot.randrange(20) == 0 else verdict}
 
     def regress(self, lot: random.Random) -> Call:
-        """A run by the scoreboard, or a verdict by a scoreboard that gives what it reads."""
+        """A run by the scoreboard, or a verdict by a scoreboard that gives what it reads, or parts that are merged."""
+        if lot.randrange(3) == 0:
+            return self.merge(lot)
         files = self.judged(lot)
         files["set.lines"] = changed(self.setup, lot) if lot.randrange(2) else self.setup
         words = ["--score", "cat", "run.told"] if lot.randrange(2) else ["--score", self.score, "run.lines"]
@@ -213,6 +216,15 @@ class Inputs:
         words += lot.choice(([], ["--cover", "night.cover"]))
         files["known.waivers"] = changed(WAIVERS, lot) if lot.randrange(2) else WAIVERS
         return Call([*words, "--json", "runs.json", "--junit", "junit.xml", "-j", "1"], files)
+
+    def merge(self, lot: random.Random) -> Call:
+        """The parts of a call, of which one is changed, or lacks."""
+        names = [f"{number}.json" for number in range(len(self.parts))]
+        files, other = dict(zip(names, self.parts)), lot.choice(names)
+        files[other] = changed(files[other], lot)
+        taken = lot.choice((names, names, names[::-1], names[1:], [*names, lot.choice(names)]))
+        more = lot.choice(([], ["--cover", "night.cover"]))
+        return Call(["--merge", *taken, *more, "--json", "runs.json", "--junit", "junit.xml"], files)
 
     def cover(self, lot: random.Random) -> Call:
         """Two observations of which at least one is changed, or a file of counts that is; and which bins are left out."""
@@ -238,6 +250,17 @@ def dump(is_by_bit: bool) -> bytes:
     reply = {"opcode": "1", "size": "11", "source": "101", "denied": "0", "data": "1", "corrupt": "0"}
     made.clock({"d_valid": "1", **{f"d_{name}": digits for name, digits in reply.items()}})
     return made.text()
+
+
+def parts_of(score: str, runs: Sequence[Tuple[bytes, bytes]]) -> List[bytes]:
+    """The JSON of each of three parts of a call."""
+    with tempfile.TemporaryDirectory() as folder:
+        for name, data in (*((f"{at}.lines", lines) for at, (lines, _) in enumerate(runs)), ("known.waivers", WAIVERS)):
+            Path(folder, name).write_bytes(data)
+        words = [*(f"{at}.lines" for at in range(len(runs))), "--late", 3000, "--waive", "known.waivers", "--cover", "/dev/null", "--score", score]
+        for number in (1, 2, 3):
+            command("regress", *words, "--part", f"{number}/3", "--json", f"{number}.json", cwd=folder)
+        return [Path(folder, f"{number}.json").read_bytes() for number in (1, 2, 3)]
 
 
 def as_fst(dumped: bytes) -> bytes:
@@ -287,9 +310,10 @@ def called(command: str, words: Sequence[str]) -> Ended:
     return Ended(int(status), printed.getvalue(), said.getvalue())
 
 
-def wrong(command: str, ended: Ended) -> Optional[str]:
-    """How a call didn't end as it may."""
-    if ended.status not in STATUSES[command] or "Traceback" in ended.said:
+def wrong(command: str, call: Call, ended: Ended) -> Optional[str]:
+    """How a call didn't end as it may. A part may say that a file couldn't be written."""
+    statuses = (*STATUSES[command], Status.CANNOT) if "--merge" in call.words else STATUSES[command]
+    if ended.status not in statuses or "Traceback" in ended.said:
         return f"status {ended.status}; it said {ended.said[-600:]!r}"
     is_told = ended.said.count("\n") == 1 and ended.said.startswith(f"zuldegei-{command.replace('_', '-')}: ")
     if ended.status >= Status.FAULT and not is_told and "runs: " not in ended.printed:
@@ -305,7 +329,8 @@ def at_fault(command: str, ended: Ended) -> Optional[str]:
     elif command == "times":
         count, is_wrong = "with a clock of" in ended.printed, "\n= late " in ended.printed
     else:
-        count, is_wrong = "runs: " in ended.printed, bool(re.search("1 runs: 0 right, 1 wrong,|, 1 slow", ended.printed))
+        count = re.search(r"(?m)^\d+ runs: (.*);", ended.printed)
+        is_wrong = bool(count and ended.status != Status.CANNOT and re.search(r"\b[1-9]\d* (?:wrong|slow)\b", count[1]))
     if (ended.status == Status.WRONG) != is_wrong or ended.status <= Status.WRONG and not count:
         return f"status {ended.status}, and it printed {ended.printed[-300:]!r}"
     return None
@@ -325,10 +350,13 @@ def unreadable(command: str, call: Call, status: int) -> Optional[str]:
             if cover_of_json(text, "").json() != text:
                 return "night.cover isn't whole"
         if command == "regress" and Path("runs.json").exists():
-            states = [it["status"] for it in json.loads(Path("runs.json").read_text())["runs"]]
+            found = json.loads(Path("runs.json").read_text())
+            states = [it["status"] for it in found["runs"]]
             tags = [it[0].tag for it in ElementTree.parse("junit.xml").iter("testcase")]
             due = [ENDS.get(it, (2, "error")) for it in states]
-            return None if [(status, it) for it in tags] == due and len(states) == 1 else f"status {status}, and files of {states} {tags}"
+            worst = min((it for it, _ in due if it), default=2 if "lacking" in found else 0)
+            is_well = tags == [it for _, it in due] and status in (worst, *([3] if "--merge" in call.words else []))
+            return None if is_well and len(states) == (5 if "--merge" in call.words else 1) else f"status {status}, files of {states} {tags}"
     except (ValueError, TypeError, OSError, ElementTree.ParseError, IndexError, Fault) as why:
         return f"its files can't be read: {why!r}"
     return None
@@ -348,7 +376,7 @@ def tried(inputs: Inputs, command: str, seed: int, number: int) -> Tuple[int, Op
         return -1, f"it took longer than {SECONDS} s of a processor, or {WAITED} s: {' '.join(call.words)}"
     finally:
         set_timers(0, 0)
-    why = wrong(command, ended) or unreadable(command, call, ended.status)
+    why = wrong(command, call, ended) or unreadable(command, call, ended.status)
     return ended.status, f"{why}; its words are {' '.join(call.words)}" if why else None
 
 
