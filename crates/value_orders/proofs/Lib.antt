@@ -1,0 +1,11 @@
+pub mod AccessOrders
+pub mod Agreement
+pub mod Effects
+pub mod Entries
+pub mod FineEntries
+pub mod OrdersTell
+pub mod Ranges
+pub mod RunsTell
+pub mod Timed
+pub mod WellHistories
+pub mod WholeEffects
