@@ -23,38 +23,9 @@ from waves import command
 
 MONITOR, WIRES = TOP / "examples/testbench/rtl/monitor.sv", TOP / "tests/waits.sv"
 JUDGES = [SYSTEMVERILOG / f"zuldegei_{it}.sv" for it in ("pkg", "monitor")]
-SETUP = "# two clients\nconfig 2 4 16 2 16 12 hh\nregion 0 4 10 gpah\npage 10 4 good\n"
-# What passes by the tables of waits.sv. The Get of client 1 is withdrawn once, and waits anew behind that; W data come ahead of their AW; and
-# a request that waits ahead of a reset is offered anew behind it.
-LINES = """time 35
-waited A0 2
-A 0 0 0 3 5 00000008 ff 1122334455667788 0
-time 65
-waited A1 1
-A 1 4 0 3 7 00000010 ff 0000000000000000 0
-time 75
-waited AW 1
-AW 2 00010008 0 3 1
-time 55
-waited W 1
-W 1122334455667788 ff 1
-time 105
-AR 3 00010010 0 3 1
-waited B 2
-B 2 OKAY
-time 125
-waited R 1
-R 3 0000000000000000 OKAY 1
-waited D0 1
-D 0 0 0 3 5 0 0000000000000000 0
-time 135
-D 1 1 0 3 7 0 0000000000000000 0
-= reset
-time 165
-A 0 4 0 3 5 00000010 ff 0000000000000000 0
-time 175
-D 0 1 0 3 5 0 0000000000000000 0
-"""
+# What passes by the tables of waits.sv, behind a set-up. The Get of client 1 is withdrawn once, and waits anew behind that; W data come ahead
+# of their AW; and a request that waits ahead of a reset is offered anew behind it.
+SETUP, LINES = re.split(r"(?m)^(?=time 35$)", (TOP / "tests/waits.lines").read_text())
 WITHOUT = re.sub(r"(?m)^waited .*\n", "", LINES)
 LAST = "D 0 1 0 3 5 0 0000000000000000 0\n"
 WRONG = LAST.replace("0 0\n", "1 0\n")
@@ -66,33 +37,7 @@ BINS = ("A0/0 1 30", "A0/2-7 1 7", "A1/1 1 10", "AW/1 1 13", "W/1 1 16", "AR/0 1
 # Commands, and what each is given of a run.
 COMMANDS = {"explain": ("lines", "told"), "wave_of": ("lines", "told", "vcd")}
 # What zuldegei-times has of them.
-WAITED = """waited, clocks   beats   least    half 9 of 10    most  first
-A0                   2       0       0       2       2  line 7 at 35
-A1                   1       1       1       1       1  line 10 at 65
-D0                   2       0       0       1       1  line 25 at 125
-D1                   1       0       0       0       0
-AW                   1       1       1       1       1  line 13 at 75
-W                    1       1       1       1       1  line 16 at 55
-B                    1       2       2       2       2  line 20 at 105
-AR                   1       0       0       0       0
-R                    1       1       1       1       1  line 23 at 125
-of these beats       0       1       2
-A0                   1       0       1
-A1                   0       1       0
-D0                   1       1       0
-D1                   1       0       0
-AW                   0       1       0
-W                    0       1       0
-B                    0       0       1
-AR                   1       0       0
-R                    0       1       0
-"""
-MAP = """clock testbench.clock
-reset testbench.reset
-client 0 flat testbench.monitor. part 0 of 2
-client 1 flat testbench.monitor. part 1 of 2
-axi flat testbench.monitor.
-"""
+WAITED = (TOP / "tests/waits.tables").read_text()
 Case = Tuple[str, Optional[str]]
 
 
@@ -116,7 +61,7 @@ def by_print(name: str, words: List[str], folder: Path) -> Iterator[Case]:
     """The monitor that prints, with waits and without; and a dump of the same wires."""
     yield f"lines by {name}", unlike(printed(words, folder, "+waits", f"+dump={folder / 'run.vcd'}"), LINES)
     yield f"lines by {name}, without waits", unlike(printed(words, folder), WITHOUT)
-    (folder / "ports.map").write_text(MAP)
+    shutil.copy(TOP / "tests/waits.map", folder / "ports.map")
     for said, due in (((), WITHOUT), (("--waits",), LINES)):
         ran = command("waves", folder / "ports.map", folder / "run.vcd", *said)
         yield f"a dump by {name}, {said}", unlike((ran.returncode, ran.stdout), (0, due))
