@@ -39,12 +39,13 @@ from zuldegei.command import Fault, Status
 from zuldegei.cover_read import Reader
 from zuldegei.cover_report import cover_of, cover_of_json
 from zuldegei.observation import A, Observation, check_same, verdict_of
+from zuldegei.player import Player
 
-COMMANDS = ("waves", "fill", "explain", "wave_of", "times", "regress", "cover")
+COMMANDS = ("waves", "fill", "explain", "wave_of", "times", "regress", "cover", "stimulus")
 COUNT, SEED, BATCH, AT_ONCE, MOST_TOLD, JUDGED = 2000, 1, 100, 2, 9, 500
 SECONDS, WAITED, MEMORY = 10, 120, 2 << 30  # of a processor and of the clock, for a call, and bytes for those of a batch
 # The statuses of python/README.md that an input may lead to.
-STATUSES = {"waves": (0, 2, 3), **dict.fromkeys(("fill", "cover"), (0, 2)), **dict.fromkeys(("explain", "wave_of", "times", "regress"), (0, 1, 2))}
+STATUSES = {"waves": (0, 2, 3), **dict.fromkeys(("fill", "cover", "stimulus"), (0, 2)), **dict.fromkeys(("explain", "wave_of", "times", "regress"), (0, 1, 2))}
 WORDS = (
     *(b"0 1 -1 2 3 7 8 255 256 x z X zzzz ff 00000000 ffffffff 100000000 99999999999999 18446744073709551616 1e5 0x10".split()),
     *(b"A D AW AR W B R = time waited fill config region page reset end wrong judged expected at client of part".split()),
@@ -235,6 +236,14 @@ class Inputs:
         words += lot.choice(([], ["--missed"], ["--clock", "10"], ["--without", "without.lines"]))
         return Call([*words, "--json", "cover.json", "--html", "cover.html", "--lcov", "cover.info"], files)
 
+    def stimulus(self, lot: random.Random) -> Call:
+        """A set-up, or an observation, what runs reached, and which bins are left out, of which some are changed."""
+        files = {"set.lines": changed(lot.choice((self.setup, self.setup, lot.choice(self.runs)[0])), lot)}
+        files["night.cover"] = changed(self.counts, lot) if lot.randrange(3) == 0 else self.counts
+        files["without.lines"] = changed(b"without id/*/7 six slots\nwithout edge/* none\n", lot)
+        words = lot.choice(([], ["--missed", "night.cover"], ["--lots", "8"], ["--weights", "conflict=3,edge=0"], ["--without", "without.lines"]))
+        return Call(["--setup", "set.lines", "--seed", str(lot.randrange(99)), "--requests", "40", *words], files)
+
 
 def dump(is_by_bit: bool) -> bytes:
     """A dump of beats of each channel."""
@@ -318,6 +327,8 @@ def wrong(command: str, call: Call, ended: Ended) -> Optional[str]:
     is_told = ended.said.count("\n") == 1 and ended.said.startswith(f"zuldegei-{command.replace('_', '-')}: ")
     if ended.status >= Status.FAULT and not is_told and "runs: " not in ended.printed:
         return f"status {ended.status}, and it said {ended.said[-600:]!r}"
+    if command == "stimulus" and ended.status == Status.DONE:
+        return unplayable(ended.printed)
     return at_fault(command, ended) if command in ("explain", "times", "regress") else None
 
 
@@ -334,6 +345,14 @@ def at_fault(command: str, ended: Ended) -> Optional[str]:
     if (ended.status == Status.WRONG) != is_wrong or ended.status <= Status.WRONG and not count:
         return f"status {ended.status}, and it printed {ended.printed[-300:]!r}"
     return None
+
+
+def unplayable(printed: str) -> Optional[str]:
+    """Whether a player refuses some of the lines, or they are of no request."""
+    try:
+        return None if any(it.lines for it in Player(printed.splitlines(), 8).ports) else "it printed no request"
+    except Fault as why:
+        return f"a player refuses what it printed: {why}"
 
 
 def unreadable(command: str, call: Call, status: int) -> Optional[str]:
