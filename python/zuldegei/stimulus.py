@@ -30,7 +30,8 @@ or zuldegei-cover --json wrote, seven of eight cards are those of bins that no r
   zuldegei-regress --setup setup.lines --seeds 1-20 --cover night.cover --command './simulate {seed}'
   zuldegei-stimulus --setup setup.lines --missed night.cover --seed 21 >missed.play
 
-The lines that it prints are played by zuldegei.player in Python; docs/STIMULUS.md says what each of them does. Comments name the card that is dealt behind them. The same words give the same lines.
+The lines that it prints are played by interfaces/systemverilog/zuldegei_client.sv, or by zuldegei.player in Python; docs/STIMULUS.md says
+what each of them does. Comments name the card that is dealt behind them. The same words give the same lines.
 """
 
 
