@@ -23,8 +23,8 @@ TOP = Path(__file__).resolve().parent.parent
 Case = Tuple[str, Optional[str]]
 
 REFUSED, STANDS, UNTRIED = "refused: ", "NOT REFUSED", "NOT TRIED"
-# The crates, which `names` lists, with their wrong bodies, of each of which `told` says what has to be told; the prover is killed at one
-# wrong body, gives no verdict of another, and notes each check.
+# The crates, which `names` lists, with their sources as text and their wrong bodies, of each of which `told` says what has to be told; the
+# prover is killed at one wrong body, gives no verdict of another, and notes each check.
 CRATES = TOP / "tests/small_crates"
 TOLD: Dict[str, str] = dict(re.findall(r"(?m)^(\S+): (.*)$", (CRATES / "told").read_text()))
 
@@ -39,9 +39,16 @@ def run(tree: Path, rattle: Path) -> Tuple[subprocess.CompletedProcess, Dict[str
     return ran, {name: why for name, _, why in lines}, (tree / "checks").read_text().splitlines()
 
 
-def cases(tree: Path, kit: Path) -> Iterator[Case]:
+def copy_crates(tree: Path) -> None:
+    """Has the crates stand in a folder as rt wants them: here rt would take their sources for stray ones of this repository."""
     shutil.copytree(CRATES, tree, dirs_exist_ok=True)
     (tree / "names").rename(tree / "crates.txt")
+    for source in list(tree.rglob("*.text")):
+        source.rename(source.with_suffix(""))
+
+
+def cases(tree: Path, kit: Path) -> Iterator[Case]:
+    copy_crates(tree)
     ran, found, checks = run(tree, kit / "bin/rattle")
     yield "the checks", None if len(checks) <= 20 else f"{len(checks)} were made"
     for name, due in TOLD.items():
