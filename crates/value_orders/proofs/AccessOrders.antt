@@ -70,7 +70,7 @@ module _ (setup : SetupLists) (errors : Errors) (history : History) (x : ℕ) wh
         from_one = omega (arith, found.so_many);
         some = omega (arith, found.so_many, found.below);
         is = found.is
-        ∙ ap (λ k. access_of setup errors x found.number (slice_index_or (all_past history) k no_past)) (omega (arith, found.so_many));
+            ∙ ap (λ k. access_of setup errors x found.number (slice_index_or (all_past history) k no_past)) (omega (arith, found.so_many));
       }
 
   had_ended : (number later : ℕ) → ended_before (numbered number) (numbered later) ≡ true → HadEnded history number later
@@ -105,9 +105,11 @@ module _ (setup : SetupLists) (errors : Errors) (history : History) (x number by
     where
       others : (rest : List ℕ) → AllByRecursion (λ other. other ≡ first → ⊥) rest → AllByRecursion (λ b. (b.begun == (told_at first).begun) ≡ false) (along rest)
       others [] all = tt
-      others (other ∷ rest) all =
-          (rw (same_begun (access_of setup errors x first (past_of history first)), same_begun (access_of setup errors x other (past_of history other)))
-          (ne_eqb other first all.0), others rest all.1)
+      others (other ∷ rest) all = (
+        rw (same_begun (access_of setup errors x first (past_of history first)), same_begun (access_of setup errors x other (past_of history other)))
+            (ne_eqb other first all.0),
+        others rest all.1,
+      )
 
   keeps_along : (numbers : List ℕ) → KeepsTime history numbers → KeepsRealTime (along numbers)
   keeps_along [] keeps = tt
@@ -116,10 +118,11 @@ module _ (setup : SetupLists) (errors : Errors) (history : History) (x number by
       others : (rest : List ℕ) → AllByRecursion (λ other. HadEnded history other later → ⊥) rest
           → AllByRecursion (λ b. ended_before b (told_at later) ≡ false) (along rest)
       others [] all = tt
-      others (other ∷ rest) all =
-          (rw (same_begun (access_of setup errors x later (past_of history later)), same_ended (access_of setup errors x other (past_of history other)))
-          (false_from_ne_true (is_before (past_of history other).ended later) (λ before. all.0 (had_ended setup errors history x other later before))),
-          others rest all.1)
+      others (other ∷ rest) all = (
+        rw (same_begun (access_of setup errors x later (past_of history later)), same_ended (access_of setup errors x other (past_of history other)))
+            (false_from_ne_true (is_before (past_of history other).ended later) (λ before. all.0 (had_ended setup errors history x other later before))),
+        others rest all.1,
+      )
 
   -- ---- what is one of them
 

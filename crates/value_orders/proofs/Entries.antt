@@ -109,9 +109,10 @@ ends_with count given first [] [] long reaches ends = tt
 ends_with count given first [] (past ∷ pasts) long reaches ends = absurd (omega (arith, long))
 ends_with count given first (entry ∷ order) [] long reaches ends =
     (λ time at. absurd (cc (at)), ends_with count given (first + 1) order [] (omega (arith)) (omega (arith, reaches)) tt)
-ends_with count given first (entry ∷ order) (past ∷ pasts) long reaches ends =
-    (λ time at. by_test (is_none past.ended && has_ended entry) time at,
-    ends_with count given (first + 1) order pasts (omega (arith, long)) (omega (arith, reaches)) ends.1)
+ends_with count given first (entry ∷ order) (past ∷ pasts) long reaches ends = (
+  λ time at. by_test (is_none past.ended && has_ended entry) time at,
+  ends_with count given (first + 1) order pasts (omega (arith, long)) (omega (arith, reaches)) ends.1,
+)
   where
     by_test : (b : Bool) (time : ℕ) → (if b then Some count else past.ended) ≡ Some time → first ≤ time
     by_test true time at = let same : Some count ≡ Some time = at in let is : count ≡ time = cc (same) in omega (arith, is, reaches)

@@ -3,6 +3,14 @@ pub mod Agreement
 pub mod Effects
 pub mod Entries
 pub mod FineEntries
+pub mod Matches
+pub mod MatchesBegin
+pub mod MatchesCut
+pub mod MatchesGoOn
+pub mod MatchesHistories
+pub mod MatchesKept
+pub mod MatchesReplies
+pub mod MatchesRequests
 pub mod OrdersTell
 pub mod Ranges
 pub mod RunsTell

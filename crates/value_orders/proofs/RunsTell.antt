@@ -21,6 +21,6 @@ runs_tell errors beginning happenings requests numbers start x number byte order
     let history = history_in errors beginning happenings in
     orders_tell beginning errors history requests x number byte numbers start
     (λ other from_one some m finds.
-        does beginning.lists errors (past_of history other) (requests other)
-        (all_well errors (board_in errors beginning happenings).board history (kept_in errors beginning happenings) other from_one some) (may other from_one some) m x finds)
+    does beginning.lists errors (past_of history other) (requests other)
+    (all_well errors (board_in errors beginning happenings).board history (kept_in errors beginning happenings) other from_one some) (may other from_one some) m x finds)
     order there begins find none is

@@ -261,8 +261,8 @@ module _ (setup : SetupLists) (errors : Errors) (past : Past) (q : WholeRequest)
       puts_made sure =
           let read = read_as_told m past.told (λ y. is_hidden_at past a y) a n sure (λ y byte told. finds op y byte is told) in
           let same = same_lists q.bytes past.entry.request.bytes
-              (may.count ∙ ap (λ (r : WholeRequest). length r.bytes) (is_known whole sound))
-              (λ i below. shown_byte a i whole sound at (unhidden_at i below sure)) in
+          (may.count ∙ ap (λ (r : WholeRequest). length r.bytes) (is_known whole sound))
+          (λ i below. shown_byte a i whole sound at (unhidden_at i below sure)) in
           ap (λ (size : ℕ). atomic_bytes op m a (2 ^ size) q.bytes) (same_size setup errors past q well may)
           ∙ ap (λ (bytes : List (Option ℕ)). atomic_bytes op m a n bytes) same
           ∙ ap (λ (reads : List ℕ). map (λ (b : ℕ). Some b) (bytes_of n (atomic_result op n (value reads) (operand_of past.entry.request)))) read
