@@ -20,7 +20,7 @@ from ends import told
 from in_process_rtl import SYSTEMVERILOG, UNOPTIMIZED, built
 from waves import RTL, TOP
 
-FILES = (SYSTEMVERILOG / "zuldegei_pkg.sv", TOP / "tests/uvm_pkg.sv", SYSTEMVERILOG / "zuldegei_uvm_pkg.sv", TOP / "tests/uvm.sv")
+FILES = (SYSTEMVERILOG / "zuldegei_pkg.sv", TOP / "tests/uvm_pkg.sv", SYSTEMVERILOG / "zuldegei_uvm.sv", TOP / "tests/uvm.sv")
 RUNS = ("answered-early", "cut-short", "page-crossed")
 MACROS = """`define uvm_object_utils(T)
 `define uvm_component_utils(T)
