@@ -9,7 +9,7 @@ use Rattle.axi_beats.specs.declared.Resp.{Resp}
 use Rattle.axi_beats.specs.declared.Resp.TheVariants.{Okay, ExOkay, SlvErr, DecErr}
 use Rattle.axi_beats.specs.declared.WBeat.{WBeat}
 use Rattle.axi_checker.specs.declared.AxiBeat.TheVariants.{Ar as OnAr, Aw as OnAw, B as OnB, R as OnR, W as OnW}
-use Rattle.line_text.specs.Fields.{Field, address_field, byte_field, first_wrong, flag_field, is_set, read_as, unless_wrong}
+use Rattle.line_text.specs.Fields.{Field, address_field, byte_field, flag_field, is_set, read_as}
 use Rattle.script_text.specs.Forms.{told_as}
 use Rattle.line_text.specs.OfferLines.{beat_in}
 use Rattle.line_text.specs.Words.{dec_at, hex_at, is_dec_to, is_hex_to, word_at}

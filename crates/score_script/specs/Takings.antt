@@ -1,5 +1,5 @@
 -- What each way to take a command leaves: what was found and the score after it, or why it wasn't taken (this project's profile).
-use Rattle.std.specs.Prelude.{ℕ, ◌≡◌, Bool, true, Option, None, Result, Ok, Err}
+use Rattle.std.specs.Prelude.{ℕ, ◌≡◌, true, Option, None, Result, Ok, Err}
 use Rattle.score_script.specs.Scores.{FailsBy, Finds, LeavesBy, Score, called_score, command_wants, commanded_score, finds, finds_at_once, held_wants, settling, wrong_command}
 use Rattle.score_script.specs.declared.findings.Finding.{Finding}
 use Rattle.score_script.specs.declared.findings.Findings.{Findings}
