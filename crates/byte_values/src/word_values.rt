@@ -75,6 +75,14 @@ impl WordValues {
         }
     }
 
+    /// Whether there is no room for one more writer.
+    #[inline]
+    pub fn is_full(&self) -> bool
+        ensures { result ≡ not (nat_lt (length self.now.held) 12) }
+    {
+        self.held.len() >= MOST
+    }
+
     /// A request begins that may give these lanes, bit k for lane k: nobody knows yet what, nor whether it takes effect. Where twelve are
     /// held already, they and it become one that allows any value in each lane, and is over once all that have begun have ended.
     pub fn begin(&mut self, number: u64, lanes: u8)

@@ -6,13 +6,16 @@ pub mod FineEntries
 pub mod Matches
 pub mod MatchesBegin
 pub mod MatchesCut
+pub mod MatchesDue
 pub mod MatchesGoOn
 pub mod MatchesHistories
 pub mod MatchesKept
 pub mod MatchesReplies
 pub mod MatchesRequests
+pub mod MatchesTests
 pub mod OrdersTell
 pub mod Ranges
+pub mod RunsFind
 pub mod RunsTell
 pub mod Timed
 pub mod WellHistories

@@ -25,7 +25,8 @@ use Rattle.scoreboard.proofs.real_time.ReplyMoves.{counts, stays}
 use Rattle.scoreboard.proofs.real_time.ReplySteps.{IsAt, due_place, next_at, next_client}
 use Rattle.value_orders.proofs.Matches.{Fits, IsOpenOf, IsThere, IsWholeAt, apart_map, each_map_at, one_map}
 use Rattle.value_orders.proofs.MatchesBegin.{begun_as, flying_as}
-use Rattle.value_orders.proofs.MatchesReplies.{any_one, begun_whole, fits_counted, one_any, same_tests, whole_begun}
+use Rattle.value_orders.proofs.MatchesReplies.{fits_counted}
+use Rattle.value_orders.proofs.MatchesTests.{any_one, begun_whole, one_any, same_tests, whole_begun}
 use Rattle.value_orders.proofs.MatchesRequests.{IsSet, coming_set, early_set, front_set, is_set, sources_set}
 
 none_cut : (number : ℕ) (now : Order) → map (ended_early false number) now ≡ now

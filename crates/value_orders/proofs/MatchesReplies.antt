@@ -1,8 +1,8 @@
 -- A board and its history still match where a beat on channel D is counted.
-use Rattle.std.proofs.Common.{◌≡◌, ℕ, ◌+◌, ◌<◌, ◌==◌, zero, suc, Bool, true, false, ◌&&◌, List, [], ◌∷◌, drop, map, set, length, Option, Some, None, IfSome, if◌then◌else◌, inl, inr, refl, sym, ◌∙◌, ap, subst, arith}
+use Rattle.std.proofs.Common.{◌≡◌, ℕ, ◌+◌, ◌<◌, ◌==◌, Bool, true, false, ◌&&◌, List, drop, map, set, length, Option, Some, None, IfSome, if◌then◌else◌, inl, inr, refl, sym, ◌∙◌, ap, subst, arith}
 use Rattle.std.specs.Prelude.{is_some, slice_get}
 use Rattle.std.specs.List.{list_any}
-use Rattle.std.proofs.lemmas.Bool.{and_parts, both_ways, cases_Bool, cases_eq, eq-eqb, eqb-true, false_from_ne_true, or_cases, or_right}
+use Rattle.std.proofs.lemmas.Bool.{and_parts, both_ways, cases_Bool, cases_eq, eq-eqb, eqb-true, false_from_ne_true}
 use Rattle.std.proofs.lemmas.Bool.Decides.{nat_tests}
 use Rattle.std.proofs.lemmas.List.{drop-drop}
 use Rattle.meaning.specs.Meaning.{acknowledged}
@@ -15,7 +15,6 @@ use Rattle.scoreboard.specs.Flights.{Footprint, InFlight, begun_after, flights_a
 use Rattle.scoreboard.specs.Orders.{Entry, Order, begun_to, has_ended, is_due, meaning_on, with_beat}
 use Rattle.scoreboard.specs.RealTime.{numbered}
 use Rattle.scoreboard.specs.declared.Errors.{Errors}
-use Rattle.scoreboard.specs.declared.Errors.TheVariants.{Any, Strict}
 use Rattle.scoreboard.proofs.real_time.Comings.{early_at, early_in}
 use Rattle.scoreboard.proofs.real_time.Entries.{place_of}
 use Rattle.scoreboard.proofs.real_time.FlightLists.{none_found}
@@ -27,67 +26,10 @@ use Rattle.scoreboard.proofs.real_time.ReplySeen.{are_moved, next_is, sources_af
 use Rattle.scoreboard.proofs.real_time.ReplySteps.{IsAt, due_place, next_at, place_due}
 use Rattle.value_orders.proofs.Matches.{Fits, HasOne, IsBegun, IsFlying, IsOpenOf, IsThere, IsWholeAt, acting_as, apart_map, each_map_at, has_come, one_map}
 use Rattle.value_orders.proofs.MatchesBegin.{begun_as, flying_as}
+use Rattle.value_orders.proofs.MatchesTests.{acts_counted, any_one, begun_board, whole_begun}
 use Rattle.value_orders.proofs.MatchesRequests.{IsSet, coming_set, early_set, flights_set, front_set, is_set, sources_set}
 
--- which beats came of its reply plays no part in how a request acts
-pub acts_counted : (setup : SetupLists) (errors : Errors) (entry : Entry) (early replied : Bool) (came : ℕ) (determined : ℕ → Bool)
-    → acting_as setup errors (record entry { early = early; replied = replied; came = came }) determined ≡ acting_as setup errors entry determined
-acts_counted setup Strict entry early replied came determined = refl
-acts_counted setup Any entry early replied came determined = refl
-
--- ---- whether one passes a test
-
-pub any_one : (test : Entry → Bool) (now : Order) → HasOne (λ entry. test entry ≡ true) now → list_any test now ≡ true
-any_one test now one = at now one.number one.small one.holds
-  where
-    at : (now : Order) (k : ℕ) → k < length now → test (numbered now k) ≡ true → list_any test now ≡ true
-    at [] k small is = absurd (omega (arith, small))
-    at (entry ∷ now) zero small is = rw is refl
-    at (entry ∷ now) (suc k) small is = or_right (test entry) (list_any test now) (at now k (omega (arith, small)) is)
-
-pub one_any : (test : Entry → Bool) (now : Order) → list_any test now ≡ true → HasOne (λ entry. test entry ≡ true) now
-one_any test [] some = absurd (cc (some))
-one_any test (entry ∷ now) some =
-    elim (or_cases (test entry) (list_any test now) some) [
-      | inl here ↦ record { number = 0; small = omega (arith); holds = here }
-      | inr later ↦
-          let rest = one_any test now later in record { number = suc rest.number; small = omega (arith, rest.small); holds = rest.holds }
-    ]
-
-pub same_tests : (a b : Bool) → (a ≡ true → b ≡ true) → (b ≡ true → a ≡ true) → a ≡ b
-same_tests true b one other = sym (one refl)
-same_tests false b one other = sym (false_from_ne_true b (λ is. absurd (cc (other is))))
-
 module _ (setup : SetupLists) (errors : Errors) (clients : List ClientBoard) (now : Order) (fits : Fits setup errors clients now) (number : ℕ) where
-  -- one whose reply has begun is whole
-  pub begun_whole : (entry : Entry) → IsThere setup errors clients entry → begun_to number entry ≡ true → IsWholeAt (begun_at number) entry
-  begun_whole entry there has =
-      let at = due_place true number 0 entry has in
-      elim (cases_Bool entry.whole) [
-        | inl whole ↦ (whole, at)
-        | inr unwhole ↦ let none = (there.begun unwhole).none_came in absurd (grind (arith, has, none))
-      ]
-
-  pub whole_begun : (entry : Entry) → IsWholeAt (begun_at number) entry → begun_to number entry ≡ true
-  whole_begun entry at = place_due true number 0 entry at.0 at.1
-
-  -- whether a reply has begun to a client, as the board has it
-  pub begun_board : list_any (begun_to number) now ≡ is_some (flight_at clients (begun_at number))
-  begun_board =
-      same_tests (list_any (begun_to number) now) (is_some (flight_at clients (begun_at number)))
-      (λ some.
-      let one = one_any (begun_to number) now some in
-      let at = begun_whole (numbered now one.number) (fits.each one.number one.small) one.holds in
-      let flies = (fits.each one.number one.small).flies at.0 at.1.live in
-      ap (λ (o : Option InFlight). is_some o) (sym (ap (flight_at clients) at.1.there) ∙ flies.there)) (by_flight (flight_at clients (begun_at number)) refl)
-    where
-      by_flight : (o : Option InFlight) → flight_at clients (begun_at number) ≡ o → is_some (flight_at clients (begun_at number)) ≡ true
-          → list_any (begun_to number) now ≡ true
-      by_flight None is some = absurd (cc (sym (ap (λ (o : Option InFlight). is_some o) is) ∙ some))
-      by_flight (Some flight) is some =
-          let one = fits.flights (begun_at number) flight is in
-          any_one (begun_to number) now (record { number = one.number; small = one.small; holds = whole_begun (numbered now one.number) one.holds })
-
   module _ (source : ℕ) (client changed : ClientBoard) (next : List ClientBoard) (fronts : AreFronts clients) (there : slice_get clients number ≡ Some client)
       (is : IsSet clients next number changed) (flights_now : changed.flights ≡ flights_after client.flights source) (front_now : changed.front ≡ client.front)
       (coming_now : changed.coming ≡ client.coming) (early_now : changed.early ≡ early_after client source) where
@@ -108,7 +50,7 @@ module _ (setup : SetupLists) (errors : Errors) (clients : List ClientBoard) (no
 
     are : AreMoved number source from (flight_at clients) (flight_at next)
     are =
-        let old = are_moved clients number source client there begun begun_board (fits.sources number client there) in
+        let old = are_moved clients number source client there begun (begun_board setup errors clients now fits number) (fits.sources number client there) in
         record {
           home = old.home;
           next = same_flights (begun_at number) ∙ old.next;
@@ -117,7 +59,7 @@ module _ (setup : SetupLists) (errors : Errors) (clients : List ClientBoard) (no
         }
 
     next_there : flight_at clients from ≡ next_reply client.flights source
-    next_there = next_is clients number source client there begun begun_board
+    next_there = next_is clients number source client there begun (begun_board setup errors clients now fits number)
 
     -- ---- one for which the beat doesn't count
 
@@ -140,7 +82,7 @@ module _ (setup : SetupLists) (errors : Errors) (clients : List ClientBoard) (no
           | inr differ ↦
               elim (cases_place (place_of entry) (begun_at number)) [
                 | inl begins ↦
-                    let has = any_one (begun_to number) now (record { number = k; small = small; holds = whole_begun entry (whole, record { live = live; there = begins }) }) in
+                    let has = any_one (begun_to number) now (record { number = k; small = small; holds = whole_begun setup errors clients now fits number entry (whole, record { live = live; there = begins }) }) in
                     absurd (differ (begins ∙ sym (ap (λ (b : Bool). next_at b number source) has)))
                 | inr apart ↦ are.others (place_of entry) differ apart
               ]
@@ -185,7 +127,7 @@ module _ (setup : SetupLists) (errors : Errors) (clients : List ClientBoard) (no
         by_next None found true early here same = by_source (entry.request.source == source) refl
           where
             not_begun : begun ≡ false
-            not_begun = begun_board ∙ ap (λ (o : Option ClientBoard). is_some (flights_in o).begun) there ∙ grind (arith, found)
+            not_begun = begun_board setup errors clients now fits number ∙ ap (λ (o : Option ClientBoard). is_some (flights_in o).begun) there ∙ grind (arith, found)
 
             by_source : (b : Bool) → (entry.request.source == source) ≡ b → early_after client source ≡ client.early
             by_source false other = rw (found, here, other) refl
@@ -342,7 +284,7 @@ module _ (setup : SetupLists) (errors : Errors) (clients : List ClientBoard) (no
         let entry = numbered now k in
         elim (cases_Bool entry.whole) [
           | inl whole ↦
-              let has = any_one (begun_to number) now (record { number = k; small = small; holds = whole_begun entry (whole, record { live = live; there = at }) }) in
+              let has = any_one (begun_to number) now (record { number = k; small = small; holds = whole_begun setup errors clients now fits number entry (whole, record { live = live; there = at }) }) in
               at ∙ sym (ap (λ (b : Bool). next_at b number source) has)
           | inr unwhole ↦ let none = ((fits.each k small).begun unwhole).none_came in absurd (grind (arith, at, none))
         ]

@@ -1,7 +1,7 @@
 //! One shelf: eight places, at each of which the list of a word may stand.
-ghost use Rattle.std.specs.Prelude.{◌≡◌, ◌<◌, None, Some, if◌then◌else◌, is_none, is_some, length, map, slice_index_or, slice_set};
+ghost use Rattle.std.specs.Prelude.{◌≡◌, ◌<◌, None, if◌then◌else◌, is_none, is_some, length, map, slice_index_or, slice_set};
 ghost use Rattle.std.specs.List.{position};
-ghost use Rattle.std.specs.Option.{option_copied, option_flatten};
+ghost use Rattle.std.specs.Option.{option_copied};
 ghost use Rattle.byte_values.specs.Words.{WordList, begun_word, changed_word, pruned_word};
 ghost use Rattle.value_tables.specs.InsideShelves.{is_word};
 ghost use Rattle.value_tables.specs.Shelves.{all_changed_on, begun_on, changed_on, empty_shelf, first_list, has_room_on, is_of, list_on, released_on, standing_on, word_on};

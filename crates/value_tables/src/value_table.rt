@@ -1,5 +1,5 @@
 //! The table: shelves by the number of a word.
-ghost use Rattle.std.specs.Prelude.{◌≡◌, ◌<◌, IfOk, if◌then◌else◌, map, nat_le, slice_set};
+ghost use Rattle.std.specs.Prelude.{◌≡◌, ◌<◌, IfOk, map};
 ghost use Rattle.std.specs.Option.{option_copied};
 ghost use Rattle.byte_values.specs.Words.{changed_word};
 ghost use Rattle.value_tables.specs.Shelves.{all_changed_on};
