@@ -1,14 +1,8 @@
-//! Which values the bytes of one word of a memory may have where requests race for them: a short list of what was given to the word, which
-//! is, lane by lane, the list of each byte that `byte_orders` defines.
+//! Which values one byte of a memory may have where requests race for it: a short list of what was given to it, kept by the rule of
+//! `byte_orders`.
 #![tactic(auto)]
 
-mod change;
-mod held;
+mod byte_values;
 mod holding;
-mod known;
-mod lanes;
-mod word_values;
 
-pub use change::Change;
-pub use known::KnownBytes;
-pub use word_values::WordValues;
+pub use byte_values::ByteValues;

@@ -19,4 +19,3 @@ pub mod Sources
 pub mod Taken
 pub mod ToldLanes
 pub mod UnknownBytes
-pub mod WholeRequests

@@ -1,3 +1,0 @@
-pub mod ByteEvents
-pub mod InsideValues
-pub mod ValueMemory

@@ -1,4 +1,0 @@
-pub mod Bytes
-pub mod Histories
-pub mod Places
-pub mod RunOrders

@@ -1,3 +1,0 @@
-mod Places
-pub mod ShelfLaws
-pub mod TableLaws

@@ -1,3 +1,0 @@
-pub mod InsideShelves
-pub mod Shelves
-pub mod Tables
