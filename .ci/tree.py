@@ -42,6 +42,7 @@ CHANGED = {
     "python/zuldegei/scoreboard.py": ('parents[2] / "out/libzuldegei.so"', 'parents[4] / "lib/libzuldegei.so"'),
     "python/wheel_of_package.py": ('parent / "out/libzuldegei.so"', 'parents[2] / "lib/libzuldegei.so"'),
     "examples/testbench/client.py": ('parents[2] / "python"', 'parents[4] / "zuldegei/python"'),
+    "examples/testbench/rtl/run.py": ('HERE.parents[2] / "interfaces/systemverilog', 'HERE.parents[4] / "zuldegei/systemverilog'),
 }
 # The scripts of the commands in Python. The package isn't on Python's own path, which is another for each version.
 COMMAND = '''#!/usr/bin/env python3

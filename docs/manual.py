@@ -30,6 +30,7 @@ COMMANDS = {
     "zuldegei-times": "tell how long requests and bursts took",
     "zuldegei-regress": "judge many runs of a bridge side by side",
     "zuldegei-cover": "list which cases of a set-up runs have reached",
+    "zuldegei-stimulus": "make requests from the cases that runs have missed",
 }
 STATUSES = (
     "0, nothing is wrong; 1, something that was judged is; 2, what was read can't be what it should; 3, a file or a program "

@@ -201,96 +201,6 @@ def often(name: str, counts: Counter, answers: tuple) -> Iterator:
 
 # ---- the AXI4 port, whose beats are an observation
 
-# Beats on a port of two IDs, each of which may have one burst outstanding on a side: the bytes of the bus, and each line with the
-# rule that its beat breaks, if it breaks one.
-AXI_ROWS = {
-    "each rule once": (8, """
-        AW 0 10000 0 4 1 -> 1 SIZE
-        AW 2 10000 0 3 0 -> 2 BURST_KIND
-        AR 2 10ff8 1 3 1 -> 3 CROSS_4K
-        AR 2 10000 1 3 1 -> 4 ID_RANGE
-        AR 1 10000 1 3 1
-        W 0 ff 1 -> 6 W_WITHOUT_AW
-        AW 1 10000 1 2 1
-        W 0 1f 0 -> 7 STROBE
-        B 1 OKAY -> 9 B_WITHOUT_WRITE
-        W 0 f0 0 -> 8 WLAST
-        R 0 0 OKAY 1 -> 10 R_WITHOUT_READ
-        R 1 0 EXOKAY 1 -> 11 RLAST
-        R 1 0 EXOKAY 0 -> 12 EXOKAY
-        B 2 EXOKAY -> 4 ID_RANGE
-        B 1 EXOKAY -> 12 EXOKAY
-        B 1 SLVERR
-        R 1 0 SLVERR 0
-        R 1 0 OKAY 1
-        AR 0 10000 0 3 1
-        AR 0 10010 0 3 1 -> 5 DEPTH
-    """),
-    "a burst over the end of a page, and one up to it": (8, """
-        AW 0 10ff8 1 3 1 -> 3 CROSS_4K
-        AW 1 10ff8 0 3 1
-    """),
-    "strobes of two transfers of four bytes, of which the first has lane 3 alone": (8, """
-        AW 0 10003 1 2 1
-        W 0 10 0 -> 7 STROBE
-        W 0 f0 1
-        AW 1 10003 1 2 1
-        W 0 08 0
-        W 0 f0 1
-    """),
-    "bursts whose address is wrong go on, up to twice as many of an ID, but those of another ID or wider than the bus": (8, """
-        AW 0 10ff8 1 3 1 -> 3 CROSS_4K
-        W 0 ff 0
-        B 0 OKAY -> 9 B_WITHOUT_WRITE
-        W 0 ff 1
-        AR 1 10000 0 3 2 -> 2 BURST_KIND
-        R 1 0 OKAY 1
-        AR 1 10000 0 3 1
-        AR 1 10008 1 3 0 -> 2 BURST_KIND
-        AR 1 10010 0 3 1 -> 5 DEPTH
-        R 1 0 OKAY 1
-        R 1 0 OKAY 0
-        R 1 0 OKAY 1
-        R 1 0 OKAY 1 -> 10 R_WITHOUT_READ
-        B 0 OKAY
-        AW 2 10ff8 1 3 0 -> 2 BURST_KIND
-        AW 0 10ff8 1 4 0 -> 1 SIZE
-        W 0 ff 0 -> 6 W_WITHOUT_AW
-    """),
-    "a response ahead of the last data, and last data that don't say so": (8, """
-        AW 0 10000 1 3 1
-        W 0 ff 0
-        B 0 OKAY -> 9 B_WITHOUT_WRITE
-        W 0 ff 0 -> 8 WLAST
-        B 0 OKAY
-    """),
-    "data that say too soon that they are the last": (8, """
-        AW 0 10000 2 3 1
-        W 0 ff 0
-        W 0 ff 1 -> 8 WLAST
-        B 0 OKAY -> 9 B_WITHOUT_WRITE
-        W 0 ff 1
-        B 0 OKAY
-    """),
-    "a bus of four bytes has four lanes": (4, """
-        AR 0 10008 0 3 1 -> 1 SIZE
-        AW 0 10008 1 2 1
-        W 0 1f 0 -> 7 STROBE
-        W 0 f0 1 -> 7 STROBE
-        W 0 0f 1 -> 6 W_WITHOUT_AW
-    """),
-}
-
-
-def of_rows(tlscore: str) -> Iterator:
-    for name, (width, rows) in AXI_ROWS.items():
-        lines, _, rules = zip(*(row.strip().partition(" -> ") for row in rows.strip().splitlines()))
-        wanted = [f"= wrong {number} axi {rule}" for number, rule in enumerate(rules, 2) if rule]
-        ran = started([tlscore], "\n".join((f"config 1 1 2 1 16 12 h {width}", *lines)).encode())
-        said = ran.text.decode().splitlines()[:-1]
-        yield name, ran.wrong(1, None, b"") or (None if said == wanted else f"{said}")
-
-
 # IDs, bursts of an ID that may be unanswered, and the bytes of the bus.
 AXI_PORTS = ((16, 4, 8), (4, 2, 8), (1, 1, 8), (5, 3, 4))
 AXI_BEATS = 100_000
@@ -497,7 +407,6 @@ def of_axi(rng: random.Random, tlscore: str) -> Iterator:
 
 
 def cases(tlscore: str, tlbridge: str, seed: str) -> Iterator:
-    yield from of_rows(tlscore)
     print(f"seed {seed}")
     rng = random.Random(seed)
     yield from of_ports(rng, tlbridge)

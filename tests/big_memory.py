@@ -44,14 +44,8 @@ class BigSetup(Setup):
 
     pages: Ranges
 
-    @property
-    def lines(self) -> Iterator[str]:
-        """The lines of a script."""
-        limits = f"{self.clients} {self.quota} {self.ids} {self.depth} {self.longest} {self.largest}"
-        yield f"config {limits} {'h' * self.clients} {self.width}"
-        yield from (f"region {first:x} {count} {to:x} {letters}" for first, count, to, letters in self.regions)
-        yield from (f"page {first:x} {count} {kind}" for first, count, kind in self.pages.listed)
-        yield from (f"bad {address:x}" for address in self.bad)
+    def listed(self) -> Iterator[tuple[int, int, str]]:
+        return iter(self.pages.listed)
 
     def place_of(self, page: int) -> int | None:
         """The AXI page to which a region leads from a TileLink page."""

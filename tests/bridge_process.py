@@ -14,7 +14,6 @@ import argparse
 import os
 import random
 import secrets
-import shutil
 import subprocess
 import sys
 import tempfile
@@ -22,15 +21,16 @@ from itertools import zip_longest
 from pathlib import Path
 
 import script_cases
+import stored
+from c_programs import C, TOP, Part, c_compiler, compile_c, compiled, languages, library_of, watched, wrong_calls
 from ends import Ended, started, told
-from in_process import C, TOP, VALGRIND, WATCHED, c_compiler, compile_c, compiled, silent
 from run_traces import SECONDS, Hostile, Interactive
 
 import random_bench
 from zuldegei import ABeat, Bridge, BridgeError, Error, scoreboard
 
 WAYS = ("calls", "choices")
-SOURCES = [str(C / "zuldegei.c"), str(C / "tlbridge.c")]
+MODEL = Part("bridge_process", "bridges", "model", (C / "zuldegei.c", C / "tlbridge.c"))
 PIPED_STEPS = 2_000  # of the random testbench over pipes
 STEPS_A_REQUEST = 26  # of the random testbench, at most
 SETUP = script_cases.SETUP
@@ -116,21 +116,18 @@ def other_call(wanted, got):
     return None
 
 
-def stored():
-    """Each script of `run` that is kept: its name, what is given, and how it ends."""
-    for script in (*sorted(TOP.glob("examples/**/*.script")), *sorted(TOP.glob("tests/rows/**/*.script"))):
-        if not script.stem.startswith(("check", "threads")):
-            fault = script.with_suffix(".fault")
-            line = fault.read_bytes() if fault.exists() else b""
-            yield str(script.relative_to(TOP)), script.read_bytes(), (2 if line else 0, script.with_suffix(".trace").read_bytes(), line)
-    for name, word, given, *wanted in script_cases.cases():
+def runs():
+    """Each script of `run` that is kept, or made by script_cases.py: its name, what is given, and how it ends."""
+    for name, word, given, *wanted in stored.scripts():
         if word == "run":
             yield name, given, wanted
+    for name, given, *wanted in script_cases.cases():
+        yield name, given, wanted
 
 
 def carried_out(program):
     """Each script that is kept, by the calls of each step and by choice."""
-    for name, given, wanted in stored():
+    for name, given, wanted in runs():
         for way in WAYS:
             yield f"{name}, by {way}", started([program, way], given).wrong(*wanted)
 
@@ -216,41 +213,14 @@ def refused(library):
             yield f"a beat that breaks {rule}", None if (answer.kind, answer.rule) == ("refused", rule) else f"it is {answer}"
 
 
-def wrong_calls(folder, library):
-    """Wrong calls and refused memory, alone and under valgrind."""
-    calls = compiled("bridge-calls", TOP / "tests/bridge_process_calls.c", "-pthread", folder=folder, library=library)
-    wrap = "-Wl,--wrap=malloc,--wrap=realloc"
-    refused = compiled("bridge-refused", TOP / "tests/bridge_process_refused.c", wrap, folder=folder, library=library)
-    yield silent("wrong calls", calls)
-    yield silent("each malloc and realloc refused in turn", refused)
-    if not shutil.which("valgrind"):
-        print("skipped: the calls of the model under valgrind, as it isn't installed")
-        return
-    yield silent("wrong calls under valgrind", *VALGRIND, calls)
-    yield silent("refused memory under valgrind", *VALGRIND, refused)
-    yield silent("bridges in threads under valgrind", "valgrind", "-q", "--tool=helgrind", "--error-exitcode=99", calls)
-
-
-def watched(folder, library):
-    """What C there is, under AddressSanitizer and with undefined behaviour watched: wrong calls, and each example and row."""
-    flags = [*WATCHED, *SOURCES, "-pthread"]
-    calls, why = compile_c("watched-calls", TOP / "tests/bridge_process_calls.c", *flags, folder=folder, library=library)
-    if why:
-        print(f"skipped: the model under AddressSanitizer, as it wasn't compiled: {why.splitlines()[-1]}")
-        return
-    yield silent("wrong calls under AddressSanitizer", calls)
-    program = compiled("watched", TOP / "tests/bridge_process.c", *flags, folder=folder, library=library)
-    for name, given, wanted in stored():
-        if name.endswith(".script"):
-            yield f"{name}, under AddressSanitizer", started([program, "choices"], given).wrong(*wanted)
+def rows():
+    """Each script of a file, which is tried under AddressSanitizer."""
+    return (it for it in runs() if it[0].endswith(".script"))
 
 
 def example(folder, library):
     """The example as C and as C++, which ends as interfaces/README.md shows (tests/page_commands.py)."""
-    for name, compiler, standard, flags in (("C", c_compiler(), "-std=c99", []), ("C++", "c++", "-std=c++11", ["-x", "c++"])):
-        if not shutil.which(compiler):
-            print(f"skipped: the example of the model as {name}, as there is no compiler of it")
-            continue
+    for name, compiler, standard, flags in languages("the example of the model"):
         built, why = compile_c(f"example-{name}", C / "example_bridge.c", "-Wpedantic", *flags, folder=folder, library=library,
                                compiler=compiler, standard=standard)
         ran = None if why else started([built], b"")
@@ -261,10 +231,9 @@ def cases(asked):
     if not c_compiler():
         print("skipped: the model in the process of a test, as there is no C compiler")
         return
-    folder = Path(asked.library or TOP / "out").resolve()
-    ran = None if asked.library else subprocess.run([TOP / "interfaces/build"], capture_output=True, text=True, check=False)
-    if ran and ran.returncode or not all((folder / f"libzuldegei.{kind}").exists() for kind in ("a", "so")):
-        yield "the library", ran.stderr[-500:] if ran else f"it isn't in {folder}"
+    folder, why = library_of(asked)
+    if why:
+        yield "the library", why
         return
     tlbridge, rng = str(Path(asked.tlbridge).resolve()), random.Random(asked.seed)
     library = scoreboard.load(folder / "libzuldegei.so")
@@ -272,8 +241,8 @@ def cases(asked):
         program = compiled("bridge_process", TOP / "tests/bridge_process.c", folder=Path(room), library=folder)
         yield from example(Path(room), folder)
         yield from carried_out(program)
-        yield from wrong_calls(Path(room), folder)
-        yield from watched(Path(room), folder)
+        yield from wrong_calls(MODEL, Path(room), folder)
+        yield from watched(MODEL, "choices", rows(), Path(room), folder)
         yield from in_python(library)
         yield from refused(library)
         yield from by_words(tlbridge, folder)

@@ -1,31 +1,14 @@
 /* Each malloc and realloc of tlbridge_new refused, alone, and with the next one too: it answers null, with TLBRIDGE_MEMORY and its text, or
-   had no need of it; made again it gives the bridge. Behind it no step and no question asks for memory. It is linked with
-   -Wl,--wrap=malloc,--wrap=realloc, and prints a line for each that doesn't do so. */
+   had no need of it; made again it gives the bridge. Behind it no step and no question asks for memory. It prints a line for each
+   that doesn't do so. */
+#include "refused_growths.h"
 #include "zuldegei.h"
 
 #include <inttypes.h>
 #include <stdio.h>
 #include <string.h>
 
-enum { MOST = 20000 };
-
-/* How many go well before the first that is refused, and how many are refused from there; and how many of these were met. */
-static long well = MOST, refused;
-static int met, failed;
-
-void *__real_malloc(size_t size);
-void *__real_realloc(void *at, size_t size);
-void *__wrap_malloc(size_t size);
-void *__wrap_realloc(void *at, size_t size);
-
-static bool refuses(void) {
-    if (well > 0) return well--, false;
-    if (refused == 0) return false;
-    return refused--, met++, true;
-}
-
-void *__wrap_malloc(size_t size) { return refuses() ? NULL : __real_malloc(size); }
-void *__wrap_realloc(void *at, size_t size) { return refuses() ? NULL : __real_realloc(at, size); }
+static int failed;
 
 static const char SETUP[] = "config 2 4 16 2 16 12 hh\nregion 0 4 10 gpah\nregion 8 1 20 g---\npage 10 4 good\npage 20 1 slverr\nbad 10018\n";
 static const uint8_t DATA[8] = {0x88, 0x77, 0x66, 0x55, 0x44, 0x33, 0x22, 0x11};

@@ -1,6 +1,6 @@
 """The free memory and the predictor of interfaces/systemverilog, over the testbench of examples/testbench/rtl under Verilator. In front of
 the memory the right bridges aren't blamed, by what each promises; and there are faults that are told in front of it, and hidden where it
-keeps all in order. The predictor finds nothing wrong of the right bridge, and a fault at the time at which tlscore finds the first wrong
+keeps all in order; by words of the run its bursts fail, and it waits. The predictor finds nothing wrong of the right bridge, and a fault at the time at which tlscore finds the first wrong
 reply of the same run, where it also stops. A run in which it finds one, or in which it or the memory can't do its work, has a status
 other than 0, with Verilator's limit of errors and without; a set-up of 200,000 lines is read in few seconds. Each call of the model by
 DPI-C gives what it should. The comparison of replies, which needs no library, takes an x as it should under Icarus. A simulator that
@@ -27,7 +27,7 @@ MEMORY, PREDICTOR = SYSTEMVERILOG / "zuldegei_axi_memory.sv", SYSTEMVERILOG / "z
 PACKAGE, BIND = SYSTEMVERILOG / "zuldegei_pkg.sv", SYSTEMVERILOG / "example_predictor_bind.sv"
 REPLIES = SYSTEMVERILOG / "zuldegei_reply_pkg.sv"
 # Faults that a memory which answers in order hides; by `profile tilelink` the first is none.
-HIDDEN = ("UNGUARDED", "READS_MIXED", "WRITES_MIXED")
+HIDDEN = run.BUGS_OF_ORDER
 BY_ORDER_ALONE = ("UNGUARDED",)
 PREDICTED = ("LANE_SWAPPED", "OTHER_SOURCE")  # faults that the predictor has to find
 TOLD = re.compile(r"(?m)^\[(\d+)\] %Error: .*zuldegei: (.*)$")
@@ -116,11 +116,32 @@ def words_tried(program: Path) -> Iterator[Case]:
         ([setup, "+zuldegei_stop=x"], "+zuldegei_stop=x has no number of up to nine digits"),
         ([setup, "+zuldegei_seed=x"], "+zuldegei_seed=x has no number of up to 18 digits"),
         ([setup, "+zuldegei_seed"], "+zuldegei_seed= has no number of up to 18 digits"),
+        ([setup, "+zuldegei_errors=17"], "+zuldegei_errors=17 has no number of 0 to 16"),
+        ([setup, "+zuldegei_ready_waits=16"], "+zuldegei_ready_waits=16 has no number of 0 to 15"),
+        ([setup, "+zuldegei_b_waits"], "+zuldegei_b_waits= has no number of 0 to 15"),
+        ([setup, "+zuldegei_r_waits=x"], "+zuldegei_r_waits=x has no number of 0 to 15"),
     ):
         for limit in ([MANY], []):
             ran = started(program, *limit, *words)
             is_told = f"zuldegei: the run failed: {why}\n" in ran.text and (ran.status == 1 if limit else ran.status != 0)
             yield f"with {words} and {limit}", None if is_told else f"status {ran.status}: {ran.text[-300:]!r}"
+
+
+def by_words(program: Path, score: str) -> Iterator[Case]:
+    """What words of the run have the memory do: bursts fail by lot, which is right by `errors any` alone; and it takes and answers later."""
+    for count, due in ((4, True), (0, False)):
+        lines = simulated(program, 1, f"+zuldegei_errors={count}")[2]
+        wrong = ["= wrong" in run.judged(score, it.setup, lines) for it in (run.Asked(), run.Asked("tilelink"), run.Asked("tilelink", "any"))]
+        yield f"{count} of 16 bursts fail", None if wrong == [due, due, False] else f"{wrong} are told wrong, by each of three profiles"
+    usual = last_time(simulated(program, 1)[2])
+    for word in ("ready_waits", "b_waits", "r_waits"):
+        late, soon = (last_time(simulated(program, 1, f"+zuldegei_{word}={it}")[2]) for it in (15, 0))
+        yield f"+zuldegei_{word}", None if soon < 1.1 * usual and late > 1.3 * usual else f"it ends at {soon}, {usual} and {late}"
+
+
+def last_time(lines: str) -> int:
+    """The time of the last beat."""
+    return int(re.findall(r"(?m)^time (\d+)$", lines)[-1])
 
 
 def tried(bench: Bench, program: Path, given: argparse.Namespace) -> Iterator[Case]:
@@ -177,6 +198,7 @@ def in_verilator(given: argparse.Namespace) -> Iterator[Case]:
         yield from calls(library, folder)
         programs = [*pool.map(lambda it: made(it, library, folder), BENCHES)]
         yield from words_tried(programs[0])
+        yield from by_words(programs[1], given.score)
         yield from long_setup(programs[0], "fill 10000 00 00 00 00\n", "predictor")
         for found in pool.map(lambda it: [*tried(*it, given)], zip(BENCHES, programs)):
             yield from found

@@ -13,7 +13,7 @@ import sys
 import tempfile
 from pathlib import Path
 
-from in_process import TOP, compiled
+from c_programs import TOP, compiled
 
 WORKLOADS = (("requests", 64), ("requests", 1), ("drains", 64), ("drains", 1))
 

@@ -4,7 +4,7 @@ said of it. Which beats are wrong is taken from there; what each reply may show 
 import re
 from dataclasses import dataclass, field
 
-from model import GET, INTENT, LETTERS, PUT_FULL, PUT_PARTIAL, Memory, Setup
+from model import GET, INTENT, PUT_FULL, PUT_PARTIAL, Memory, Setup
 
 from unknown import doubted, is_unclear, known, lanes_in
 
@@ -156,13 +156,8 @@ class Counts:
 
     def place(self, beats):
         """Where a request may act on a good page: corrupt, if errors are told in any way."""
-        first = beats[0]
-        for page, count, to, letters in self.setup.regions:
-            if page <= first.address >> 12 < page + count and LETTERS[first.opcode] in letters:
-                at = first.address + (to - page) * 4096
-                spoiled = any(it.corrupt for it in beats) and not self.any
-                return at if self.setup.pages.get(at >> 12) == "good" and not spoiled else None
-        return None
+        at, is_spoiled = self.setup.leads(beats[0]), any(it.corrupt for it in beats) and not self.any
+        return at if at is not None and self.setup.pages.get(at >> 12) == "good" and not is_spoiled else None
 
     def alone(self, beats):
         first, at = beats[0], self.place(beats)

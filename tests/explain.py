@@ -24,6 +24,7 @@ from pathlib import Path
 from typing import Callable, Dict, Iterator, List, Optional, Tuple
 
 from ends import told
+from stored import observations
 from waves import RTL, TOP, command, one_line
 from zuldegei.causes import Explainer
 from zuldegei.history import History
@@ -56,101 +57,10 @@ MISSING = {
     "end-with-data-alone": ("write", "2 W beats from line 8 on", "1 W beat from line 13 on"),
     "end-with-messages-begun": ("request", "stopped after 1 beat of 2", "client 0 source 6 (line 5)"),
 }
-HEAD = "config 2 4 16 2 16 12 hh{bus}\nregion 0 4 10 gpah\npage 10 4 good\n"
+HEAD = "config 2 4 16 2 16 12 hh\nregion 0 4 10 gpah\npage 10 4 good\n"
 PUT, GET, DONE = "A 0 0 0 3 5 00000008 ff 1122334455667788 0", "A 1 4 0 3 7 00000008 ff 0000000000000000 0", "D 0 0 0 3 5 0 0000000000000000 0"
-AR, R, WROTE = "AR 3 00010008 0 3 1", "R 3 {} OKAY 1", ("AW 0 00010008 0 3 1", "W 1122334455667788 ff 1", "B 0 OKAY")
-ELSEWHERE = ("AW 0 000107d0 0 3 1", "W 1122334455667788 ff 1", "B 0 OKAY")
-READ_ZEROS = (GET, AR, R.format("0" * 16), "D 1 1 0 3 7 0 0000000000000000 0")
-WORD, DUE = "1122334455667788", "expected D 1 1 0 3 7 0 1122334455667788 0"
-UPPER = "A 1 4 0 2 7 0000000c f0 0000000000000000 0"
-LONG = "A 0 0 0 5 1 00000020 ff {:016x} 0"
-# By each sentence: the beats, what is wrong, which is the last, the side, what the text has, and what it hasn't.
-SENTENCES = {
-    "data that went elsewhere": ((PUT, *ELSEWHERE, DONE, *READ_ZEROS), f"12 reply 7 PAYLOAD {DUE}", "write",
-        ("its data went to 000107d0 (line 6).", "line 5, AW of ID 0; line 6, W has what that request gives"), ("no W beat came",)),
-    "data that went elsewhere, of a burst that is another's by its place": (
-        (PUT, "A 1 0 0 3 6 000007d0 ff 00000000000000aa 0", *ELSEWHERE, DONE, "D 1 0 0 3 6 0 0000000000000000 0", *READ_ZEROS),
-        f"14 reply 7 PAYLOAD {DUE}", "write", ("its data went to 000107d0 (line 7).",), ("no W beat came",)),
-    "the same data, which another request gives there": (
-        (PUT, "A 1 0 0 3 6 000007d0 ff 1122334455667788 0", *ELSEWHERE, DONE, "D 1 0 0 3 6 0 0000000000000000 0", *READ_ZEROS),
-        f"14 reply 7 PAYLOAD {DUE}", "write", ("The byte that was given last was never written.",), ("went to",)),
-    "a reply of x ahead of its answer": ((GET, AR, "D 1 1 0 3 7 0 xxxxxxxxxxxxxxxx 0", R.format("0" * 16)),
-        "6 reply 8 X expected D 1 1 0 3 7 0 0000000000000000 0", "reply", ("The reply came before R brought this byte.", "line 5"),
-        ("isn't known",)),
-    "a reply ahead of its answer, where another client's read of the same byte was answered": (
-        (PUT, *WROTE, DONE, "A 0 4 0 3 9 00000008 ff 0000000000000000 0", "AR 2 00010008 0 3 1", GET, AR,
-         R.format(WORD).replace("3", "2", 1),
-         "D 1 1 0 3 7 0 xxxxxxxxxxxxxxxx 0"),
-        f"14 reply 8 X {DUE}", "reply", ("The reply came before R brought this byte.", "(line 12)"), ("isn't known",)),
-    "a reply of x behind its answer": ((GET, AR, R.format("0" * 16), "D 1 1 0 3 7 0 xxxxxxxxxxxxxxxx 0"),
-        "7 reply 8 X expected D 1 1 0 3 7 0 0000000000000000 0", "read",
-        ("R brought the due byte, and the reply shows x or z.",), ("before R",)),
-    "a reply of x in a byte alone": ((PUT, *WROTE, DONE, GET, AR, R.format(WORD), "D 1 1 0 3 7 0 11223344556677xx 0"),
-        f"12 reply 8 X {DUE}", "read", ("at 00000008: due 88, came xx",), ("at 00000009",)),
-    "the other half of the R beat": ((PUT, *WROTE, DONE, UPPER, AR, R.format(WORD), "D 1 1 0 2 7 0 5566778800000000 0"),
-        "12 reply 7 PAYLOAD expected D 1 1 0 2 7 0 1122334400000000 0", "read",
-        ("the reply shows what stands in the other half of the R beat.", "what came in lanes 4 5 6 7 stands in lanes 0 1 2 3 of R"), ()),
-    "the other half, on 32 bits": (
-        (PUT, "AW 0 00010008 1 2 1", "W 55667788 0f 0", "W 11223344 0f 1", "B 0 OKAY", DONE, GET, "AR 3 00010008 1 2 1",
-         "R 3 55667788 OKAY 0", "R 3 11223344 OKAY 1", "D 1 1 0 3 7 0 5566778811223344 0"),
-        f"14 reply 7 PAYLOAD {DUE}", "read", ("the reply shows what stands in the other half of the R beat.",), ()),
-    "other lanes of the R beat": ((PUT, *WROTE, DONE, GET, AR, R.format(WORD), "D 1 1 0 3 7 0 1122334455668877 0"),
-        f"12 reply 7 PAYLOAD {DUE}", "read", ("stands in other lanes of the R beat.", "what came in lanes 0 1 stands in lanes 1 0 of R"), ("half",)),
-    "no lanes of the R beat": ((PUT, *WROTE, DONE, GET, AR, R.format(WORD), "D 1 1 0 3 7 0 1122334455667799 0"),
-        f"12 reply 7 PAYLOAD {DUE}", "read", ("R brought the due byte, and the reply shows another one.",), ("stands in",)),
-    "one byte of several, as by chance in another lane": (
-        (PUT, *WROTE, DONE, GET, AR, R.format(WORD), "D 1 1 0 3 7 0 1122334455667711 0"), f"12 reply 7 PAYLOAD {DUE}", "read",
-        ("R brought the due byte, and the reply shows another one.",), ("stands in",)),
-    "the other half, of which one byte alone differs": (
-        ("A 0 0 0 3 5 00000008 ff 0000000500000007 0", "AW 0 00010008 0 3 1", "W 0000000500000007 ff 1", "B 0 OKAY", DONE, UPPER, AR,
-         R.format("0000000500000007"), "D 1 1 0 2 7 0 0000000700000000 0"),
-        "12 reply 7 PAYLOAD expected D 1 1 0 2 7 0 0000000500000000 0", "read",
-        ("what stands in the other half of the R beat.", "what came in lanes 4 5 6 7 stands in lanes 0 1 2 3 of R"), ()),
-    "zeros, which stand in many lanes": (
-        ("A 0 0 0 3 5 00000008 ff 1122000000000000 0", "AW 0 00010008 0 3 1", "W 1122000000000000 ff 1", "B 0 OKAY", DONE, GET, AR,
-         R.format("1122000000000000"), "D 1 1 0 3 7 0 0000000000000000 0"),
-        "12 reply 7 PAYLOAD expected D 1 1 0 3 7 0 1122000000000000 0", "read", ("the reply shows another one.",), ("stands in",)),
-    "a message that another client's beat cuts into": (
-        (LONG.format(0xA1), LONG.format(0xA2), "AW 0 00010020 3 3 1", "A 1 0 0 3 6 00000100 ff 00000000000000bb 0", LONG.format(0xA3),
-         "W 00000000000000a1 ff 0", "W 00000000000000a2 ff 0", "W 00000000000000bb ff 1", LONG.format(0xA4)), "11 axi 8 WLAST", "write",
-        ("it is beat 3 of 4, and `last` is 1; among its data stand those of another request.",
-         "in the midst of its message on channel A: line 7, of client 1",
-         "line 11, W has what is given by PutFull of 8 bytes at 00000100, client 1 source 6 (line 7)"), ()),
-    "a message that another client's Get cuts into": (
-        (LONG.format(0xA1), LONG.format(0xA2), "AW 0 00010020 3 3 1", GET, LONG.format(0xA3), "W 00000000000000a1 ff 0",
-         "W 00000000000000a2 ff 0", "W 0000000000000000 ff 0", "W 00000000000000a3 ff 0", LONG.format(0xA4)), "12 axi 8 WLAST", "write",
-        ("it is beat 4 of 4, and `last` is 0; among its data stand those that its request doesn't give.", "line 7, of client 1",
-         "line 11, W has what its request doesn't give"), ("another request",)),
-    "a `last` too early, beside another client's beat": (
-        (LONG.format(0xA1), LONG.format(0xA2), "AW 0 00010020 3 3 1", "A 1 0 0 3 6 00000100 ff 00000000000000bb 0", LONG.format(0xA3),
-         "W 00000000000000a1 ff 0", "W 00000000000000a2 ff 0", "W 00000000000000a3 ff 1", LONG.format(0xA4)), "11 axi 8 WLAST", "write",
-        ("it is beat 3 of 4, and `last` is 1.",), ("client 1", "another request")),
-    "tilelink: data ahead of their address, of which a `last` is too early": (
-        (*(LONG.format(it) for it in (0xA1, 0xA2, 0xA3, 0xA4)), "W 00000000000000a1 ff 0", "W 00000000000000a2 ff 1", "AW 0 00010020 3 3 1"),
-        "11 axi 8 WLAST", "write", ("line 10 is beat 2 of 4, and `last` is 1.",), ("among its data",)),
-    "a byte that was written wrong, and then right": (
-        (PUT, "AW 0 00010008 0 2 1", "W 0000000055667799 0f 1", *WROTE[:2], "B 0 OKAY", "B 0 OKAY", DONE, GET, AR,
-         R.format("1122334455667799"), "D 1 1 0 3 7 0 1122334455667799 0"), f"15 reply 7 PAYLOAD {DUE}", "answer",
-        ("The byte was written and answered, and the memory gave another one for the read.",), ("has another one.",)),
-    "an error told behind an answer without one": (
-        (PUT, *WROTE, DONE.replace("5 0", "5 1")), f"8 reply 5 DENIED expected {DONE}", "reply", (f"Its DENIED isn't as due: {DONE}.",), ("before",)),
-    "an error told ahead of the answer": (
-        (PUT, *WROTE[:2], DONE.replace("5 0", "5 1"), "B 0 OKAY"), f"7 reply 5 DENIED expected {DONE}", "order",
-        (f"It came before the answer to its burst, which tells of errors: due is {DONE}.",), ()),
-    "a Put of one byte, and one in flight to other bytes": (
-        ("A 0 0 0 0 5 00000008 01 0000000000000099 0", "AW 0 00010008 0 0 1", "W 0000000000000099 01 1", "B 0 OKAY",
-         "D 0 0 0 0 5 0 0000000000000000 0",
-         "A 0 0 0 3 6 00000010 ff 0000000000000001 0", GET, "A 0 1 0 3 8 00000008 f0 aabbccdd00000000 0", AR, R.format("0" * 14 + "99"),
-         "D 1 1 0 3 7 0 0000000000000098 0"), "14 reply 7 PAYLOAD expected D 1 1 0 3 7 0 0000000000000099 0", "read",
-        ("last given by PutFull of 1 bytes at 00000008, client 0 source 5 (line 4)", "in flight with it: PutPartial of 8 bytes at 00000008"),
-        ("at 00000010",)),
-    "a reply with the source of another": ((GET, "A 1 4 0 3 8 00000010 ff 0000000000000000 0", "D 1 1 0 3 9 0 0000000000000000 0"),
-        "6 reply 1 UNASKED", "reply", ("No reply is due to source 9; one like it is due to source 7: it may have the wrong source.",
-         "the client waits for the reply to Get of 8 bytes at 00000010, client 1 source 8 (line 5)"), ()),
-    "a byte that raced, beside one that is wrong": (
-        (PUT, *WROTE, DONE, "A 0 0 0 0 5 00000008 01 0000000000000099 0", GET, AR, R.format(WORD), "D 1 1 0 3 7 0 1122334455660088 0"),
-        "14 reply 7 PAYLOAD expected D 1 1 0 3 7 0 1122334455667799 0", "read", ("at 00000009: due 77, came 00",), ("at 00000008:",)),
-}  # fmt: skip
+AW, W, B = "AW 0 00010008 0 3 1", "W 1122334455667788 ff 1", "B 0 OKAY"
+READ_ZEROS = (GET, "AR 3 00010008 0 3 1", "R 3 0000000000000000 OKAY 1", "D 1 1 0 3 7 0 0000000000000000 0")
 BROWSERS = ("chromium", "chromium-browser", "google-chrome")
 COLOURS = ("cfe3ff", "d8f5d0", "9fc4f5", "aee3a0", "dd0000")  # of Puts, Gets, writes, reads and what is wrong
 Case = Tuple[str, Optional[str]]
@@ -220,17 +130,15 @@ def judged(score: str, lines: str) -> str:
 
 def sentences(folder: Path, score: str) -> Iterator[Case]:
     """What is said of observations by hand, of which one beat is wrong: side, sentence and what it rests on, and the bursts in the picture."""
-    for name, (beats, wrong, side, has, hasnt) in SENTENCES.items():
-        lines, verdict, drawn_page = (folder / f"sentence.{it}" for it in ("lines", "told", "html"))
-        head = HEAD.format(bus=" 4" if "32 bits" in name else "") + ("profile tilelink\n" if re.search("raced|tilelink", name) else "")
-        text = head + "".join(f"{it}\n" for it in beats)
-        lines.write_text(text)
+    verdict, drawn_page = folder / "sentence.told", folder / "sentence.html"
+    for lines in observations(TOP / "tests/commands/explain"):
+        name, text = lines.stem, lines.read_text()
+        wrong, *says = lines.with_suffix(".says").read_text().splitlines()
         verdict.write_text(judged(score, text))
         told_wrong = [it for it in verdict.read_text().splitlines() if it.startswith("= wrong ")]
-        yield f"{name}: the verdict", None if told_wrong == [f"= wrong {wrong}"] else f"{told_wrong}, not {wrong}"
+        yield f"{name}: the verdict", None if told_wrong == [wrong] else f"{told_wrong}, not {wrong}"
         ran = command("explain", lines, verdict, "--html", drawn_page)
-        is_well = ran.returncode == 1 and f"  look at the {side}" in ran.stdout and all(it in ran.stdout for it in has)
-        is_well = is_well and not any(it in ran.stdout for it in hasnt)
+        is_well = ran.returncode == 1 and all((it.removeprefix("not: ") in ran.stdout) != it.startswith("not: ") for it in says)
         yield name, (None if is_well else f"status {ran.returncode}, {ran.stdout}{ran.stderr}") or misquoted(ran.stdout, text.splitlines())
         yield f"{name}: the picture", None if rung(ran.stdout, drawn_page, text) else "a burst of the text isn't in the picture"
 
@@ -260,7 +168,7 @@ def many(folder: Path) -> Iterator[Case]:
 
 def many_wrong(is_again: bool) -> Tuple[str, str]:
     """Puts and Gets in turn; the payload of one reply in three is wrong, or the reply comes again."""
-    text, wrong = [HEAD.format(bus="").rstrip()], []
+    text, wrong = [HEAD.rstrip()], []
     number = 3
     for at in range(27_778):
         address, is_wrong = at % 512 * 8, at % 3 == 0 and len(wrong) < 8000
@@ -283,9 +191,8 @@ def limited(kind: int, most: int) -> Callable[[], None]:
 def unended(folder: Path) -> Iterator[Case]:
     """A burst and a request without an answer in the picture: their bars go on to its end, those of others to their answers."""
     lines, verdict, drawn_page = (folder / f"unended.{it}" for it in ("lines", "told", "html"))
-    aw, w, b = WROTE
-    ended = f"time 10\n{PUT}\n{aw}\ntime 20\n{w}\ntime 30\n{b}\ntime 40\n{DONE}\n"
-    lines.write_text(HEAD.format(bus="") + f"{ended}time 50\n{PUT}\n{aw}\ntime 60\n{w}\ntime 90\n{GET}\n")
+    ended = f"time 10\n{PUT}\n{AW}\ntime 20\n{W}\ntime 30\n{B}\ntime 40\n{DONE}\n"
+    lines.write_text(HEAD + f"{ended}time 50\n{PUT}\n{AW}\ntime 60\n{W}\ntime 90\n{GET}\n")
     verdict.write_text("= judged 9 wrong 0 outstanding 2 open 1 compared 0 of 0\n")
     command("explain", lines, verdict, "--html", drawn_page)
     found = re.findall(r'\[\d+,"(\w+)","[^"]*",(\d+),(\d+),\[\[', drawn_page.read_text())
@@ -553,7 +460,7 @@ def waved(folder: Path) -> Iterator[Case]:
 def untimed(folder: Path) -> Optional[str]:
     """What of a run without times doesn't stand at the number of its line."""
     lines, verdict, vcd = (folder / f"untimed.{it}" for it in ("lines", "told", "vcd"))
-    lines.write_text(HEAD.format(bus="") + "\n".join([*READ_ZEROS, ""]))
+    lines.write_text(HEAD + "\n".join([*READ_ZEROS, ""]))
     verdict.write_text("= wrong 7 reply 1 UNASKED\n= judged 4 wrong 1 outstanding 0 open 0 compared 0 of 8\n")
     ran = command("wave_of", lines, verdict, vcd)
     found = [(int(time), text) for time, text in re.findall(r"(?m)^#(\d+)\ns(line\d+)_", vcd.read_text())]

@@ -32,19 +32,20 @@ from typing import Callable, Dict, Iterator, List, NamedTuple, Optional, Sequenc
 from xml.etree import ElementTree
 
 from ends import told
-from waves import HAND, MAP, RTL, TOP, UNKNOWN, a_beat, hand
+from waves import HAND, MAP, RTL, TOP, UNKNOWN, a_beat, command, hand
 from waves import WORDS as WORDS_OF_AN_IMAGE
 from zuldegei import vcd
 from zuldegei.command import Fault, Status
 from zuldegei.cover_read import Reader
 from zuldegei.cover_report import cover_of, cover_of_json
-from zuldegei.observation import Observation, check_same, verdict_of
+from zuldegei.observation import A, Observation, check_same, verdict_of
+from zuldegei.player import Player
 
-COMMANDS = ("waves", "fill", "explain", "wave_of", "times", "regress", "cover")
+COMMANDS = ("waves", "fill", "explain", "wave_of", "times", "regress", "cover", "stimulus")
 COUNT, SEED, BATCH, AT_ONCE, MOST_TOLD, JUDGED = 2000, 1, 100, 2, 9, 500
 SECONDS, WAITED, MEMORY = 10, 120, 2 << 30  # of a processor and of the clock, for a call, and bytes for those of a batch
 # The statuses of python/README.md that an input may lead to.
-STATUSES = {"waves": (0, 2, 3), **dict.fromkeys(("fill", "cover"), (0, 2)), **dict.fromkeys(("explain", "wave_of", "times", "regress"), (0, 1, 2))}
+STATUSES = {"waves": (0, 2, 3), **dict.fromkeys(("fill", "cover", "stimulus"), (0, 2)), **dict.fromkeys(("explain", "wave_of", "times", "regress"), (0, 1, 2))}
 WORDS = (
     *(b"0 1 -1 2 3 7 8 255 256 x z X zzzz ff 00000000 ffffffff 100000000 99999999999999 18446744073709551616 1e5 0x10".split()),
     *(b"A D AW AR W B R = time waited fill config region page reset end wrong judged expected at client of part".split()),
@@ -170,6 +171,7 @@ class Inputs:
         self.maps += [MAP.encode(), b"use rocket-chip top\n", b"use opentitan top", b"use pulp top ID=4"]
         self.maps += [it.read_bytes() for it in sorted((TOP / "tests/dumps").glob("*.map"))]
         self.counts = cover_of("a run", Reader().read(self.runs[0][0].decode().splitlines(True))).json().encode()
+        self.parts = parts_of(score, self.runs[: self.stored : 3])
         self.images = [WORDS_OF_AN_IMAGE.encode(), b"\1\2\3" * 40]
         self.images += [elf(kind, order) for kind, order in itertools.product((1, 2), "<>")]
 
@@ -205,7 +207,9 @@ class Inputs:
         return {"run.lines": lines, "run.told": lot.choice(self.runs)[1] if lot.randrange(20) == 0 else verdict}
 
     def regress(self, lot: random.Random) -> Call:
-        """A run by the scoreboard, or a verdict by a scoreboard that gives what it reads."""
+        """A run by the scoreboard, or a verdict by a scoreboard that gives what it reads, or parts that are merged."""
+        if lot.randrange(3) == 0:
+            return self.merge(lot)
         files = self.judged(lot)
         files["set.lines"] = changed(self.setup, lot) if lot.randrange(2) else self.setup
         words = ["--score", "cat", "run.told"] if lot.randrange(2) else ["--score", self.score, "run.lines"]
@@ -213,6 +217,15 @@ class Inputs:
         words += lot.choice(([], ["--cover", "night.cover"]))
         files["known.waivers"] = changed(WAIVERS, lot) if lot.randrange(2) else WAIVERS
         return Call([*words, "--json", "runs.json", "--junit", "junit.xml", "-j", "1"], files)
+
+    def merge(self, lot: random.Random) -> Call:
+        """The parts of a call, of which one is changed, or lacks."""
+        names = [f"{number}.json" for number in range(len(self.parts))]
+        files, other = dict(zip(names, self.parts)), lot.choice(names)
+        files[other] = changed(files[other], lot)
+        taken = lot.choice((names, names, names[::-1], names[1:], [*names, lot.choice(names)]))
+        more = lot.choice(([], ["--cover", "night.cover"]))
+        return Call(["--merge", *taken, *more, "--json", "runs.json", "--junit", "junit.xml"], files)
 
     def cover(self, lot: random.Random) -> Call:
         """Two observations of which at least one is changed, or a file of counts that is; and which bins are left out."""
@@ -222,6 +235,14 @@ class Inputs:
         words = lot.choice((["run.lines", "other.lines"], ["other.lines", "run.lines"], ["counts.json"], ["counts.json", "other.lines"]))
         words += lot.choice(([], ["--missed"], ["--clock", "10"], ["--without", "without.lines"]))
         return Call([*words, "--json", "cover.json", "--html", "cover.html", "--lcov", "cover.info"], files)
+
+    def stimulus(self, lot: random.Random) -> Call:
+        """A set-up, or an observation, what runs reached, and which bins are left out, of which some are changed."""
+        files = {"set.lines": changed(lot.choice((self.setup, self.setup, lot.choice(self.runs)[0])), lot)}
+        files["night.cover"] = changed(self.counts, lot) if lot.randrange(3) == 0 else self.counts
+        files["without.lines"] = changed(b"without id/*/7 six slots\nwithout edge/* none\n", lot)
+        words = lot.choice(([], ["--missed", "night.cover"], ["--lots", "8"], ["--weights", "conflict=3,edge=0"], ["--without", "without.lines"]))
+        return Call(["--setup", "set.lines", "--seed", str(lot.randrange(99)), "--requests", "40", *words], files)
 
 
 def dump(is_by_bit: bool) -> bytes:
@@ -238,6 +259,17 @@ def dump(is_by_bit: bool) -> bytes:
     reply = {"opcode": "1", "size": "11", "source": "101", "denied": "0", "data": "1", "corrupt": "0"}
     made.clock({"d_valid": "1", **{f"d_{name}": digits for name, digits in reply.items()}})
     return made.text()
+
+
+def parts_of(score: str, runs: Sequence[Tuple[bytes, bytes]]) -> List[bytes]:
+    """The JSON of each of three parts of a call."""
+    with tempfile.TemporaryDirectory() as folder:
+        for name, data in (*((f"{at}.lines", lines) for at, (lines, _) in enumerate(runs)), ("known.waivers", WAIVERS)):
+            Path(folder, name).write_bytes(data)
+        words = [*(f"{at}.lines" for at in range(len(runs))), "--late", 3000, "--waive", "known.waivers", "--cover", "/dev/null", "--score", score]
+        for number in (1, 2, 3):
+            command("regress", *words, "--part", f"{number}/3", "--json", f"{number}.json", cwd=folder)
+        return [Path(folder, f"{number}.json").read_bytes() for number in (1, 2, 3)]
 
 
 def as_fst(dumped: bytes) -> bytes:
@@ -287,13 +319,16 @@ def called(command: str, words: Sequence[str]) -> Ended:
     return Ended(int(status), printed.getvalue(), said.getvalue())
 
 
-def wrong(command: str, ended: Ended) -> Optional[str]:
-    """How a call didn't end as it may."""
-    if ended.status not in STATUSES[command] or "Traceback" in ended.said:
+def wrong(command: str, call: Call, ended: Ended) -> Optional[str]:
+    """How a call didn't end as it may. A part may say that a file couldn't be written."""
+    statuses = (*STATUSES[command], Status.CANNOT) if "--merge" in call.words else STATUSES[command]
+    if ended.status not in statuses or "Traceback" in ended.said:
         return f"status {ended.status}; it said {ended.said[-600:]!r}"
     is_told = ended.said.count("\n") == 1 and ended.said.startswith(f"zuldegei-{command.replace('_', '-')}: ")
     if ended.status >= Status.FAULT and not is_told and "runs: " not in ended.printed:
         return f"status {ended.status}, and it said {ended.said[-600:]!r}"
+    if command == "stimulus" and ended.status == Status.DONE:
+        return unplayable(ended.printed)
     return at_fault(command, ended) if command in ("explain", "times", "regress") else None
 
 
@@ -305,10 +340,19 @@ def at_fault(command: str, ended: Ended) -> Optional[str]:
     elif command == "times":
         count, is_wrong = "with a clock of" in ended.printed, "\n= late " in ended.printed
     else:
-        count, is_wrong = "runs: " in ended.printed, bool(re.search("1 runs: 0 right, 1 wrong,|, 1 slow", ended.printed))
+        count = re.search(r"(?m)^\d+ runs: (.*);", ended.printed)
+        is_wrong = bool(count and ended.status != Status.CANNOT and re.search(r"\b[1-9]\d* (?:wrong|slow)\b", count[1]))
     if (ended.status == Status.WRONG) != is_wrong or ended.status <= Status.WRONG and not count:
         return f"status {ended.status}, and it printed {ended.printed[-300:]!r}"
     return None
+
+
+def unplayable(printed: str) -> Optional[str]:
+    """Whether a player refuses some of the lines, or they are of no request."""
+    try:
+        return None if any(it.lines for it in Player(printed.splitlines(), 8).ports) else "it printed no request"
+    except Fault as why:
+        return f"a player refuses what it printed: {why}"
 
 
 def unreadable(command: str, call: Call, status: int) -> Optional[str]:
@@ -325,10 +369,13 @@ def unreadable(command: str, call: Call, status: int) -> Optional[str]:
             if cover_of_json(text, "").json() != text:
                 return "night.cover isn't whole"
         if command == "regress" and Path("runs.json").exists():
-            states = [it["status"] for it in json.loads(Path("runs.json").read_text())["runs"]]
+            found = json.loads(Path("runs.json").read_text())
+            states = [it["status"] for it in found["runs"]]
             tags = [it[0].tag for it in ElementTree.parse("junit.xml").iter("testcase")]
             due = [ENDS.get(it, (2, "error")) for it in states]
-            return None if [(status, it) for it in tags] == due and len(states) == 1 else f"status {status}, and files of {states} {tags}"
+            worst = min((it for it, _ in due if it), default=2 if "lacking" in found else 0)
+            is_well = tags == [it for _, it in due] and status in (worst, *([3] if "--merge" in call.words else []))
+            return None if is_well and len(states) == (5 if "--merge" in call.words else 1) else f"status {status}, files of {states} {tags}"
     except (ValueError, TypeError, OSError, ElementTree.ParseError, IndexError, Fault) as why:
         return f"its files can't be read: {why!r}"
     return None
@@ -348,7 +395,7 @@ def tried(inputs: Inputs, command: str, seed: int, number: int) -> Tuple[int, Op
         return -1, f"it took longer than {SECONDS} s of a processor, or {WAITED} s: {' '.join(call.words)}"
     finally:
         set_timers(0, 0)
-    why = wrong(command, ended) or unreadable(command, call, ended.status)
+    why = wrong(command, call, ended) or unreadable(command, call, ended.status)
     return ended.status, f"{why}; its words are {' '.join(call.words)}" if why else None
 
 
@@ -420,6 +467,17 @@ def fuzzed(inputs: Inputs, command: str, seed: int, count: int) -> Iterator[Case
             if why and wrong_ones <= MOST_TOLD:
                 yield f"{command}, case {number} of seed {seed}", why
     yield f"{command}, {count} cases", f"{wrong_ones} are wrong" if wrong_ones else few(seen, count)
+
+
+def withdrawn(inputs: Inputs) -> Iterator[Case]:
+    """An A beat that wasn't taken, with each of its fields unknown: it is there where the scoreboard tells of it."""
+    for at in range(10):
+        words = "A 0 0 0 3 5 00000008 ff 1122334455667788 0".split()
+        words[at : at + 1] = ["x"] if at else [A]
+        text = f"config 2 4 16 2 16 12 hh\nregion 0 4 10 gpah\npage 10 4 good\n{' '.join(words)}\n= refused 1 OPCODE\n"
+        verdict = subprocess.run([inputs.score], input=text, capture_output=True, text=True).stdout
+        count = len([*Observation(text).beats()]) if "= judged" in verdict else 0
+        yield f"a beat that wasn't taken, with an x for field {at}", None if count == verdict.count("= wrong") else f"{count} beats, {verdict!r}"
 
 
 def explained(inputs: Inputs, seed: int) -> Iterator[Case]:
@@ -532,7 +590,8 @@ def main() -> int:
         print(*tried(inputs, given.only, given.seed, given.case))
         return 0
     commands = [given.only] if given.only else COMMANDS
-    return told(itertools.chain(caught(), by_hand(inputs), explained(inputs, given.seed), *(fuzzed(inputs, it, given.seed, given.count) for it in commands)))
+    first = itertools.chain(caught(), by_hand(inputs), withdrawn(inputs), explained(inputs, given.seed))
+    return told(itertools.chain(first, *(fuzzed(inputs, it, given.seed, given.count) for it in commands)))
 
 
 if __name__ == "__main__":

@@ -20,42 +20,29 @@ import shutil
 import subprocess
 import sys
 import tempfile
-from itertools import takewhile
 from pathlib import Path
 
 import in_process_python
 import score_cases
-from ends import Ended, started, told
+import stored
+from c_programs import C, STRICT, TOP, Part, c_compiler, compile_c, compiled, languages, library_of, watched, wrong_calls
+from ends import started, told
 from scoreboard import Lot
+from script_cases import setup_of
 
-TOP = Path(__file__).resolve().parent.parent
-ROWS, RUNS, C = TOP / "examples/scoreboard", TOP / "examples/testbench/rtl/runs", TOP / "interfaces/c"
-STRICT = ["-Wall", "-Wextra", "-Werror", "-O2", f"-I{C}"]
-WATCHED = ["-fsanitize=address,undefined", "-fno-sanitize-recover=all", "-g"]
-VALGRIND = ["valgrind", "-q", "--leak-check=full", "--show-leak-kinds=all", "--error-exitcode=99"]
+ROWS, RUNS = TOP / "examples/scoreboard", TOP / "examples/testbench/rtl/runs"
+BOARDS = Part("in_process", "boards", "scoreboard", (C / "zuldegei.c",))
 PROFILES, WAYS = ("bridge", "tilelink"), ("lines", "numbers")
-SETUP_WORDS = ("config", "region", "page", "bad")
 # Where a set-up is refused that a line with a fault stands behind: tlscore reads that line first, and tlscore_new never sees it.
-REFUSED_FIRST = {"the same with a byte that is none": (2, b"", b"set-up fault: BadConfig 0\n")}
-
-
-def c_compiler():
-    return next(filter(shutil.which, ("cc", "gcc")), None)
-
-
-def compile_c(name, source, *flags, folder, library=None, compiler=None, standard="-std=c99", behind=()):
-    """A program of a C file, over the static library where one is given, and what the compiler says where there is none."""
-    words = [compiler or c_compiler(), standard, *STRICT, *flags, str(source), *(["-x", "none"] if "-x" in flags else [])]
-    words += [str(library / "libzuldegei.a")] if library else []
-    ran = subprocess.run([*words, *behind, "-o", str(folder / name)], capture_output=True, text=True, check=False)
-    return folder / name, ran.stderr[-2000:] if ran.returncode else None
-
-
-def compiled(name, source, *flags, folder, library):
-    program, why = compile_c(name, source, *flags, folder=folder, library=library)
-    if why:
-        raise SystemExit(f"{source.name} wasn't compiled: {why}")
-    return program
+HISTORIES = "tests/histories"
+REFUSED_FIRST = {f"{HISTORIES}/faults/at-the-start.ends: A byte that is none, behind a set-up that is refused.": (2, b"", b"set-up fault: BadConfig 0\n")}
+# The ways of what can't be asked by both: numbers don't show how a flag was written; a text of C has no zero byte, and in_process.c looks for
+# the config line itself, ahead of which a mark of UTF-8 stands.
+FEWER_WAYS = {
+    f"{HISTORIES}/faults/behind-a-config-line-of-one-client.ends: LAST of two digits.": ("lines",),
+    f"{HISTORIES}/line-ends/a-zero-byte.lines": (),
+    f"{HISTORIES}/line-ends/a-mark-of-utf-8-before-the-config-line.lines": (),
+}
 
 
 def stored_rows():
@@ -70,12 +57,11 @@ def stored_rows():
 
 def traces(tlscore):
     """Each trace of tests/rows behind its set-up, as tlscore ends with it."""
-    for script in sorted(TOP.glob("tests/rows/**/*.script")):
-        lines = script.read_text().splitlines(keepends=True)
-        setup = takewhile(lambda it: not it.split() or it.split()[0] in SETUP_WORDS or it.startswith("#"), lines)
-        given = "".join(setup).encode() + script.with_suffix(".trace").read_bytes()
-        ended = started([tlscore], given)
-        yield f"the trace of {script.relative_to(TOP)}", given, (ended.status, ended.text, ended.line)
+    for name, _, script, _, trace, _ in stored.cases(TOP / "tests/rows", ".script"):
+        if name.endswith(".script"):
+            given = setup_of(script) + trace
+            ended = started([tlscore], given)
+            yield f"the trace of {name}", given, (ended.status, ended.text, ended.line)
 
 
 def observations(tlscore):
@@ -93,7 +79,7 @@ def without_reason(status, text, line):
 def told_alike(program, tlscore):
     """Each observation that is kept, by lines and by numbers."""
     for name, given, wanted in observations(tlscore):
-        for way in WAYS:
+        for way in FEWER_WAYS.get(name, WAYS):
             yield f"{name}, by {way}", started([program, way], given).wrong(*without_reason(*REFUSED_FIRST.get(name, wanted)))
 
 
@@ -117,38 +103,10 @@ def lacking(ended, beats):
     return None if wrong * 100 > beats else f"only {wrong} of {beats} beats are wrong"
 
 
-def silent(name, *words):
-    """A program that prints nothing and ends with 0 where all is well."""
-    ended = Ended.of(subprocess.run(words, capture_output=True, timeout=600, check=False))
-    return name, ended.wrong(0, b"", b"")
-
-
-def wrong_calls(folder, library):
-    """Wrong calls and refused memory, alone and under valgrind."""
-    calls = compiled("calls", TOP / "tests/in_process_calls.c", "-pthread", folder=folder, library=library)
-    wrap = "-Wl,--wrap=malloc,--wrap=realloc"
-    refused = compiled("refused", TOP / "tests/in_process_refused.c", wrap, folder=folder, library=library)
-    yield silent("wrong calls", calls)
-    yield silent("each malloc and realloc refused in turn", refused)
-    if not shutil.which("valgrind"):
-        print("skipped: the calls under valgrind, as it isn't installed")
-        return
-    yield silent("wrong calls under valgrind", *VALGRIND, calls)
-    yield silent("refused memory under valgrind", *VALGRIND, refused)
-    yield silent("boards in threads under valgrind", "valgrind", "-q", "--tool=helgrind", "--error-exitcode=99", calls)
-
-
-def watched_rows(folder, library):
-    """What C there is, under AddressSanitizer and with undefined behaviour watched: each stored row, and wrong calls."""
-    probe, flags = TOP / "tests/in_process_calls.c", [*WATCHED, str(C / "zuldegei.c"), "-pthread"]
-    calls, why = compile_c("watched-calls", probe, *flags, folder=folder, library=library)
-    if why:
-        print(f"skipped: the calls under AddressSanitizer, as they weren't compiled: {why.splitlines()[-1]}")
-        return
-    yield silent("wrong calls under AddressSanitizer", calls)
-    program = compiled("watched", TOP / "tests/in_process.c", *WATCHED, str(C / "zuldegei.c"), folder=folder, library=library)
+def rows():
+    """Each stored row, as the calls end with it."""
     for name, given, wanted in stored_rows():
-        yield f"{name}, under AddressSanitizer", started([program, "numbers"], given).wrong(*without_reason(*wanted))
+        yield name, given, without_reason(*wanted)
 
 
 def ends(folder, library):
@@ -162,10 +120,7 @@ def ends(folder, library):
 def example(folder, library):
     """The header, the calls and the example, as C and as C++, over both libraries."""
     wanted = b"40 ns: 207, = wrong 12 reply 7 PAYLOAD expected D 1 1 0 3 7 0 1122334455667788 0 at 40\n"
-    for name, compiler, standard, flags in (("C", c_compiler(), "-std=c99", []), ("C++", "c++", "-std=c++11", ["-x", "c++"])):
-        if not shutil.which(compiler):
-            print(f"skipped: the example as {name}, as there is no compiler of it")
-            continue
+    for name, compiler, standard, flags in languages("the example"):
         for source in (*C.glob("*.h"), C / "zuldegei.c", C / "tlbridge.c"):
             words = [compiler, standard, *STRICT, "-Wpedantic", *(flags or ["-x", "c"]), "-c", str(source), "-o", os.devnull]
             ran = subprocess.run(words, capture_output=True, text=True, check=False)
@@ -208,11 +163,9 @@ def cases(asked):
     if not c_compiler():
         print("skipped: the scoreboard in the process of a test, as there is no C compiler")
         return
-    library = Path(asked.library or TOP / "out").resolve()
-    ran = None if asked.library else subprocess.run([TOP / "interfaces/build"], capture_output=True, text=True, check=False)
-    is_there = all((library / f"libzuldegei.{kind}").exists() for kind in ("a", "so"))
-    if ran and ran.returncode or not is_there:
-        yield "the library", ran.stderr[-500:] if ran else f"it isn't in {library}"
+    library, why = library_of(asked)
+    if why:
+        yield "the library", why
         return
     tlscore = Path(asked.tlscore).resolve()
     with tempfile.TemporaryDirectory() as room:
@@ -221,8 +174,8 @@ def cases(asked):
         yield from shown(library)
         yield from example(folder, library)
         yield from ends(folder, library)
-        yield from wrong_calls(folder, library)
-        yield from watched_rows(folder, library)
+        yield from wrong_calls(BOARDS, folder, library)
+        yield from watched(BOARDS, "numbers", rows(), folder, library)
         yield from told_alike(program, tlscore)
         yield from by_lot(program, tlscore, random.Random(asked.seed), asked.beats)
         yield from in_process_python.cases(library)

@@ -1,32 +1,15 @@
 /* Each malloc and realloc of a run refused, alone, and with the next one too: the call that asked for it answers TLSCORE_MEMORY, nothing
    that the board tells has changed, and made again the call does what it is to do. One alone isn't seen where a list of the set-up is
    copied, once in a run: there the toolchain's library asks for the room that the list may need, and where that is refused for what it
-   needs now. It is linked with -Wl,--wrap=malloc,--wrap=realloc, and prints a line for each that doesn't do so. */
+   needs now. It prints a line for each that doesn't do so. */
+#include "refused_growths.h"
 #include "zuldegei.h"
 
 #include <inttypes.h>
 #include <stdio.h>
 #include <string.h>
 
-enum { MOST = 20000, STEPS = 10 };
-
-/* How many go well before the first that is refused, and how many are refused from there; and how many of these were met. */
-static long well = MOST, refused;
-static int met;
-
-void *__real_malloc(size_t size);
-void *__real_realloc(void *at, size_t size);
-void *__wrap_malloc(size_t size);
-void *__wrap_realloc(void *at, size_t size);
-
-static bool refuses(void) {
-    if (well > 0) return well--, false;
-    if (refused == 0) return false;
-    return refused--, met++, true;
-}
-
-void *__wrap_malloc(size_t size) { return refuses() ? NULL : __real_malloc(size); }
-void *__wrap_realloc(void *at, size_t size) { return refuses() ? NULL : __real_realloc(at, size); }
+enum { STEPS = 10 };
 
 /* All that a board tells of itself without memory. */
 typedef struct {

@@ -30,7 +30,7 @@ BARE = {"PATH": "/usr/bin:/bin", "LANG": "C.UTF-8"}  # nothing of the toolchain 
 NEEDED = {"verilator": "verilator", "g++": "g++", "pkg-config": "pkg-config", "iverilog": "iverilog",
           "prove.py": "berkeley-abc", "small_bridge.sv": "yosys"}  # fmt: skip
 LIST = "share/zuldegei/installed.list"
-MODULES = ("waves", "fill", "explain", "wave-of", "times", "regress", "cover")
+MODULES = ("waves", "fill", "explain", "wave-of", "times", "regress", "cover", "stimulus")
 # A stand-in for rt, which puts what was given where rt puts what it builds.
 RT = """#!/bin/sh
 name=${PWD##*/}

@@ -15,47 +15,8 @@ CANNOT = 70
 # The processors that this process, and what it starts, may use.
 LANES = len(os.sched_getaffinity(0))
 
-# The stand-in. Each call is noted; what else it does, the variable DOES says, to the tree at the path TREE.
-RT = """#!/bin/sh
-echo "$1 ${PWD##*/}" >>"$NOTED"
-echo 'a line of the prover'
-if [ "$1" = try ]; then
-    room=$TMPDIR/rt-try/native text=$(cat src/main.rt)
-    case $DOES in
-    fails) exit 2 ;;
-    edits) echo edited >"$TREE/crates/tlbridge/src/main.rt" ;;
-    esac
-    mkdir -p "$room" && printf '%s\\n' '#!/bin/sh' "echo unproved from $text: \\$0 \\$*" cat 'exit 3' >"$room/new"
-    chmod +x "$room/new" && mv "$room/new" "$room/program" && "$room/program"
-    sleep 0.5
-    rm -rf "$TMPDIR/rt-try"
-    exit 3
-fi
-[ "$1" = run ] || { mkdir -p out/rlib && echo made >"out/rlib/${PWD##*/}.rlib"; exit; }
-text=$(cat src/main.rt) && [ -r ../low/out/rlib/low.rlib ] || exit 1
-case $DOES in
-fails) exit 1 ;;
-stops) kill -9 $$ ;;
-waits) exec sleep 60 ;;
-edits) echo edited >"$TREE/crates/tlbridge/src/main.rt" ;;
-deletes) rm "$TREE/crates/tlbridge/src/more.rt" ;;
-esac
-mkdir -p out || exit 1
-case $DOES in
-makes_nothing) exit 0 ;;
-copies) cp "$COPIED" out/tlbridge; exit 0 ;;
-esac
-printf '%s\\n' '#!/bin/sh' "echo made from $text: \\$0 \\$*" cat 'exit 3' >out/tlbridge
-chmod +x out/tlbridge
-echo 'what the program prints when it is built' | ./out/tlbridge
-exit 0
-"""
-
-# A stand-in for the prover, which works for five seconds of a processor.
-WORKS = """#!/bin/sh
-exec python3 -c 'import time
-while time.process_time() < 5: pass' "$@"
-"""
+# Stand-ins for rt and for the prover.
+STAND_INS = TOP / "tests/stand_ins"
 
 
 class Copy:
@@ -67,7 +28,7 @@ class Copy:
         self.noted = os.path.join(self.room, b"noted")
         self.path = os.path.join(self.room, b"bin")
         os.makedirs(self.path, exist_ok=True)
-        self.write(os.path.join(self.path, b"rt"), RT, mode=0o755)
+        self.write(os.path.join(self.path, b"rt"), (STAND_INS / "rt").read_text(), mode=0o755)
         for file in ("tlbridge", "tlscore", ".ci/stamp.sh", ".ci/build.py", ".ci/unproved.py"):
             to = os.path.join(self.root, file.encode())
             os.makedirs(os.path.dirname(to), exist_ok=True)
@@ -210,7 +171,7 @@ def built_in_order(copy):
 def times_noted(copy):
     """While another command proves: of each crate, but not of its tests; of a processor by kind; the command's status stays."""
     copy.source("out/seconds", "other 40\n")
-    copy.write(copy.file("prove"), WORKS, 0o755)
+    copy.write(copy.file("prove"), (STAND_INS / "prover").read_text(), 0o755)
     command = "./prove build --crate-name low & ./prove build --test --crate-name far; wait; exit 7"
     ran = subprocess.run([sys.executable, TOP / ".ci/took.py", "proofs", "sh", "-c", command], cwd=copy.root, timeout=60)
     seconds, took = (Path(os.fsdecode(copy.file(it))).read_text().splitlines() for it in ("out/seconds", "out/took"))

@@ -34,16 +34,23 @@ class Setup:
         limits = f"{self.clients} {self.quota} {self.ids} {self.depth} {self.longest} {self.largest}"
         yield f"config {limits} {'h' * self.clients} {self.width}"
         yield from (f"region {first:x} {count} {to:x} {letters}" for first, count, to, letters in self.regions)
-        yield from (f"page {page:x} 1 {kind}" for page, kind in self.pages.items())
+        yield from (f"page {first:x} {count} {kind}" for first, count, kind in self.listed())
         yield from (f"bad {address:x}" for address in self.bad)
+
+    def listed(self):
+        """The pages by their lines: the first, how many, and what they are."""
+        return ((page, 1, kind) for page, kind in self.pages.items())
+
+    def leads(self, first):
+        """The AXI address to which a region leads from that of a beat, if it permits it; else None."""
+        for page, count, to, letters in self.regions:
+            if page <= first.address >> 12 < page + count and LETTERS[first.opcode] in letters:
+                return first.address + (to - page) * 4096
+        return None
 
     def place(self, beats):
         """The AXI address of a request that isn't denied at once; else None."""
-        first = beats[0]
-        for page, count, to, letters in self.regions:
-            if page <= first.address >> 12 < page + count and LETTERS[first.opcode] in letters:
-                return None if any(it.corrupt for it in beats) else first.address + (to - page) * 4096
-        return None
+        return None if any(it.corrupt for it in beats) else self.leads(beats[0])
 
     def steps(self, beats):
         """How many steps a request makes, whatever the schedule is: one for each beat of it and one for its reply, one for each

@@ -52,7 +52,7 @@ GUARANTEE = re.compile(r"(?m)^- .*(?:\n  .*)*")
 PLACE = re.compile(r"`((?:[\w-]+/)+[\w.-]+)`([^;]*)")
 ENTRY, DEFINED = re.compile(r'"([^"]+)"'), re.compile(r"`(\w+)`")
 # What has to come of a file stands beside it, by the ends of their names.
-WANTED = {".script": ".trace", ".in": ".out"}
+WANTED = {".script": ".trace", ".in": ".out", ".lines": ".told"}
 # A table of a page, with its head; in docs/RULES.md the rule of a row, and a wrong body that is another rule's.
 TABLE = re.compile(r"(?m)^\| (.*) \|\n\|[-|]+\|\n((?:\| .* \|\n)+)")
 RULE, OTHERS = re.compile(r"^\| (\d+ \w+)"), re.compile(r"as (\d+): (`[^`]*`)")

@@ -1,4 +1,4 @@
-"""Runs the commands that README.md, docs/TESTBENCH.md, docs/COVERAGE.md, python/README.md and interfaces/README.md show, each block of
+"""Runs the commands that README.md, docs/TESTBENCH.md, docs/COVERAGE.md, docs/STIMULUS.md, python/README.md and interfaces/README.md show, each block of
 `shell` in turn at the top of the repository, those of README.md in a folder that is laid out as an unpacked archive, and compares what
 they print, and the last status, with the block of `printed` behind it. A block that needs a program which isn't installed, or the library
 where it isn't built, is left out, and named. (Those of docs/INSTALL.md are tried by installed.py, in an archive, as are those of README.md
@@ -20,10 +20,10 @@ from typing import Iterator, Optional, Tuple
 from ends import told
 
 TOP = Path(__file__).resolve().parent.parent
-PAGES = ("README.md", "docs/TESTBENCH.md", "docs/COVERAGE.md", "python/README.md", "interfaces/README.md")
+PAGES = ("README.md", "docs/TESTBENCH.md", "docs/COVERAGE.md", "docs/STIMULUS.md", "python/README.md", "interfaces/README.md")
 BLOCK = re.compile(r"(?ms)^```shell\n(.*?)^```\n\n```printed (\d+)\n(.*?)^```$")
 SHOWN = re.compile(r"(?m)^```shell$")
-TOOLS = ("waves", "fill", "explain", "wave-of", "times", "regress", "cover")
+TOOLS = ("waves", "fill", "explain", "wave-of", "times", "regress", "cover", "stimulus")
 NEEDED = ("iverilog", "verilator", "fst2vcd", "vcd2fst", "cc", "chromium")  # of Debian, where a block names one
 NEEDS_LIBRARY = re.compile(r"libzuldegei|inside/bench|import .*(?:Scoreboard|Bridge)")
 Case = Tuple[str, Optional[str]]

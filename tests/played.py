@@ -1,6 +1,6 @@
 """The monitor and the predictor of interfaces/systemverilog on observations by hand, which testbenches don't bring about: resets in
 mid-run, data ahead of their address, busy sources, noise in lanes that tell nothing. What the monitor tells has to be what tlscore finds
-wrong of the same lines. What the predictor tells is said here. And the free memory by hand: strobes, narrow bursts, errors, and resets in
+wrong of the same lines. What the predictor has to tell stands beside its lines. And the free memory by hand: strobes, narrow bursts, errors, and resets in
 the midst of bursts. Where Verilator isn't installed that is said, and nothing is tried.
 
     python3 tests/played.py TLSCORE [--library FOLDER]
@@ -12,59 +12,17 @@ import shutil
 import sys
 import tempfile
 from pathlib import Path
-from typing import Dict, Iterator, NamedTuple, Optional, Tuple
+from typing import Iterator, Optional, Tuple
 
 from ends import told
 from in_process_rtl import NO_LIMIT, SYSTEMVERILOG, TOLD, TOP, UNOPTIMIZED, built, run, started
-from systemc import END, PLAYED, SETUP
+from stored import observations
+from systemc import AT_PORTS, END, by_hand, parts
 
 FILES = [SYSTEMVERILOG / f"zuldegei_{it}.sv" for it in ("pkg", "reply_pkg", "monitor", "predictor")]
 PREDICTED = re.compile(r"%Error: .*zuldegei: (.*)$|^zuldegei: (= predicted .*)$", re.M)
-GET, OTHER_GET = "A 0 4 0 3 5 00000008 ff 0000000000000000 0\n", "A 1 4 0 3 5 00000010 ff 0000000000000000 0\n"
-ZEROS, DATA = "D 0 1 0 3 5 0 0000000000000000 0\n", "D 0 1 0 3 5 0 1122334455667788 0\n"
-PUT, ACK = "A 0 0 0 3 5 00000008 ff 1122334455667788 0\n", "D 0 0 0 3 5 0 0000000000000000 0\n"
-HALF = "A 0 0 0 4 5 00000010 ff 1122334455667788 0\n"
-IN_FLIGHT = "the run failed: a reset while a request is under way"
-# The lines of a set-up that the scoreboard alone knows, and which aren't the model's.
-SCOREBOARDS = "profile tilelink\nerrors any\nx data\naxi strict\nfill 10008 01\ntime 1\nwaited A0 1\n"
+ENDLESS = AT_PORTS / "predictor/a-get.lines"
 Case = Tuple[str, Optional[str]]
-
-
-class Foretold(NamedTuple):
-    """What is played at the predictor, what it has to tell, and the set-up."""
-
-    lines: str
-    told: Tuple[str, ...]
-    setup: str = SETUP
-
-
-FORETOLD: Dict[str, Foretold] = {
-    "a Put and a Get": Foretold(f"time 10\n{PUT}time 20\n{ACK}time 30\n{GET}time 40\n{DATA}", ("= predicted 2 wrong 0",)),
-    "both clients in one clock": Foretold(
-        f"time 10\n{GET}{OTHER_GET}time 20\n{ZEROS}{ZEROS.replace('D 0', 'D 1')}", ("= predicted 2 wrong 0",)
-    ),
-    "a busy source, of which what was due is forgotten": Foretold(
-        f"time 10\n{GET}time 20\n{GET}time 30\n{ZEROS}", (f"{GET.strip()}: its source is busy", "= predicted 1 wrong 1")
-    ),
-    "a reply that nobody waits for": Foretold(f"time 10\n{ZEROS}", (f"{ZEROS.strip()} expected nothing", "= predicted 0 wrong 1")),
-    "a reply that is due at the end": Foretold(f"time 10\n{GET}", (f"expected {ZEROS.strip()}", "= predicted 0 wrong 1")),
-    "a wrong reply": Foretold(f"time 10\n{GET}time 20\n{DATA}", (f"{DATA.strip()} expected {ZEROS.strip()}", "= predicted 1 wrong 1")),
-    "a reply that isn't denied": Foretold(
-        f"time 10\n{PUT.replace('00000008', '00008000')}time 20\n{ACK}",
-        (f"{ACK.strip()} expected D 0 0 0 3 5 1 0000000000000000 0", "= predicted 1 wrong 1"),
-    ),
-    "lanes that no request covers": Foretold(
-        f"time 10\n{GET.replace(' 3 5 00000008 ff', ' 0 5 00000008 01')}time 20\nD 0 1 0 0 5 0 ffffffffffffff00 0\n", ("= predicted 1 wrong 0",)
-    ),
-    "the payload of a corrupt beat": Foretold(
-        f"time 10\n{GET.replace('00000008', '00008000')}time 20\nD 0 1 0 3 5 1 ffffffffffffffff 1\n", ("= predicted 1 wrong 0",)
-    ),
-    "a reset where all is quiet": Foretold(f"time 10\n{GET}time 20\n{ZEROS}= reset\ntime 40\n{GET}time 50\n{ZEROS}", ("= predicted 2 wrong 0",)),
-    "a reset while a reply is due": Foretold(f"time 10\n{GET}= reset\n", (IN_FLIGHT, "= predicted 0 wrong 0")),
-    "a reset within a message": Foretold(f"time 10\n{HALF}= reset\n", (IN_FLIGHT, "= predicted 0 wrong 0")),
-    "a set-up whose last line has no end": Foretold(f"time 10\n{GET}time 20\n{ZEROS}", ("= predicted 1 wrong 0",), SETUP.rstrip("\n")),
-    "a scoreboard's set-up": Foretold(f"time 10\n{GET}time 20\n{ZEROS}", ("= predicted 1 wrong 0",), f"{SETUP}{SCOREBOARDS}"),
-}
 
 
 def bench(folder: Path, *files: Path) -> Path:
@@ -86,8 +44,8 @@ def played(program: Path, setup: str, lines: str, *words: str) -> str:
 
 def judged(program: Path, score: Path) -> Iterator[Case]:
     """What the monitor tells, and how it says that the run ended."""
-    for name, (given, lines) in PLAYED.items():
-        text, due = played(program, SETUP, given), TOLD.findall(run.judged(score, SETUP, lines or given))
+    for name, setup, given, lines in by_hand():
+        text, due = played(program, setup, given), TOLD.findall(run.judged(score, setup, lines))
         got, wrong = TOLD.findall(text), int(due[-1].split()[4])
         how = f"the run failed: {wrong} wrong" if wrong else "the run is right" if " judged 0 " not in due[-1] else "nothing was judged"
         is_well = got == due and f"zuldegei: {how} (TOP.testbench.scoreboard)" in text.splitlines() and "no beat" not in text
@@ -95,11 +53,18 @@ def judged(program: Path, score: Path) -> Iterator[Case]:
 
 
 def foretold(program: Path) -> Iterator[Case]:
-    """What the predictor tells."""
-    for name, it in FORETOLD.items():
-        text = played(program, it.setup, f"{it.lines}{END}", "+predicts")
-        got = tuple(first or second for first, second in PREDICTED.findall(text))
-        yield f"the predictor: {name}", None if got == it.told and "no beat" not in text else f"it tells {got}, and not {it.told}: {text[-300:]!r}"
+    """What the predictor tells; the same where the last line of the set-up has no end."""
+    for path in observations(AT_PORTS / "predictor"):
+        setup, lines = parts(path)
+        yield f"the predictor: {path.stem}", untold(played(program, setup, lines, "+predicts"), path)
+    text = played(program, parts(ENDLESS)[0].rstrip("\n"), parts(ENDLESS)[1], "+predicts")
+    yield "the predictor: a set-up whose last line has no end", untold(text, ENDLESS)
+
+
+def untold(text: str, path: Path) -> Optional[str]:
+    """How what is printed isn't what the predictor has to tell of what is played."""
+    due, got = path.with_suffix(".foretold").read_text().splitlines(), [first or second for first, second in PREDICTED.findall(text)]
+    return None if got == due and "no beat" not in text else f"it tells {got}, and not {due}: {text[-300:]!r}"
 
 
 def memory(program: Path) -> Iterator[Case]:

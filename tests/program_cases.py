@@ -1,5 +1,5 @@
 """Tries the program as it was built, and the launcher over a stand-in for rt. A case that fails has one line; the last
-line is 'N passed, M failed'. What is wanted stands beside the examples, in docs/SCRIPT.md and in the tables here.
+line is 'N passed, M failed'. What is wanted stands beside the examples, in docs/SCRIPT.md, in tests/rows and in the tables here.
 
     python3 tests/program_cases.py PROGRAM
 
@@ -20,6 +20,7 @@ import client  # noqa: E402
 import launcher_cases  # noqa: E402
 import random_bench  # noqa: E402
 import script_cases  # noqa: E402
+import stored  # noqa: E402
 from ends import READ, SCORE_USAGE, USAGE, WRITE, Ended, started  # noqa: E402
 
 FIRST = (TOP / "examples/first.script").read_bytes()
@@ -27,7 +28,6 @@ TRACE = (TOP / "examples/first.trace").read_bytes()
 SETUP = script_cases.SETUP.encode()
 CONFIG = script_cases.CONFIG.encode() + b"\n"
 THREADS = (TOP / "examples/threads.script").read_bytes()
-THREADED = (TOP / "examples/threads.trace").read_bytes()
 GET = b"a 0 4 0 3 0 8 ff 0 0\n"
 UNALIGNED, ALIGN = CONFIG + b"a 0 4 0 3 0 4 ff 0 0\n", b"7 BeatRefused client 0 beat 0 rule 5 ALIGN"
 # A Get of 4,096 bytes makes 1,058 steps over bursts of 16 beats: its offer, 32 bursts, 512 beats performed and answered, and
@@ -63,75 +63,40 @@ def refused(script, fault):
     return ["threads"], script, 5, b"", b"thread fault: %b\n" % fault
 
 
-# What is given and what is wanted: the words, standard input, the status, the text, and the line on standard error.
+# Words that tlbridge refuses.
+REFUSED_WORDS = {
+    "an unknown word": ["walk"],
+    "an empty word": [""],
+    "a word in capitals": ["RUN"],
+    "a file's name after run": ["run", "examples/first.script"],
+    "a second word after check": ["check", "run"],
+    "a second word after threads": ["threads", "4"],
+    "run twice": ["run", "run"],
+    "help": ["help"],
+    "-h": ["-h"],
+    "--help": ["--help"],
+    "--help after run": ["run", "--help"],
+    "--version": ["--version"],
+    "a word that isn't UTF-8": [b"r\xfcn"],
+    "a second word that isn't UTF-8": ["run", b"\xff"],
+    "a word of 100,000 bytes": ["x" * 100_000],
+}
+
+# What is given and what is wanted, where it is an example with other ends of its lines or has many lines: the words, standard input, the
+# status, the text, and the line on standard error.
 TABLE = {
     "no word": ([], FIRST, 0, TRACE, b""),
     "run": (["run"], FIRST, 0, TRACE, b""),
-    "an unknown word": (["walk"], FIRST, 6, b"", USAGE),
-    "an empty word": ([""], FIRST, 6, b"", USAGE),
-    "a word in capitals": (["RUN"], FIRST, 6, b"", USAGE),
-    "a file's name after run": (["run", "examples/first.script"], FIRST, 6, b"", USAGE),
-    "a second word after check": (["check", "run"], FIRST, 6, b"", USAGE),
-    "a second word after threads": (["threads", "4"], THREADS, 6, b"", USAGE),
-    "run twice": (["run", "run"], FIRST, 6, b"", USAGE),
-    "help": (["help"], FIRST, 6, b"", USAGE),
-    "-h": (["-h"], FIRST, 6, b"", USAGE),
-    "--help": (["--help"], FIRST, 6, b"", USAGE),
-    "--help after run": (["run", "--help"], FIRST, 6, b"", USAGE),
-    "--version": (["--version"], FIRST, 6, b"", USAGE),
-    "a word that isn't UTF-8": ([b"r\xfcn"], FIRST, 6, b"", USAGE),
-    "a second word that isn't UTF-8": (["run", b"\xff"], FIRST, 6, b"", USAGE),
-    "a word of 100,000 bytes": (["x" * 100_000], FIRST, 6, b"", USAGE),
     "lines ended by CR LF": (["run"], FIRST.replace(b"\n", b"\r\n"), 0, TRACE, b""),
     "a last line without an end": (["run"], FIRST[:-1], 0, TRACE, b""),
     "a last line that a CR ends": (["run"], FIRST[:-1] + b"\r", 0, TRACE, b""),
     "a CR that ends no line": (["run"], FIRST + b"pump\r \n", 2, TRACE, b"script fault: line 10, word 0\n"),
-    "no input": (["run"], b"", 2, b"", b"script fault: line 1, word 1\n"),
-    "no input to check": (["check"], b"", 2, b"", b"script fault: line 1, word 1\n"),
-    "a config line alone": (["run"], CONFIG, 0, b"", b""),
-    "a config line alone to check": (["check"], CONFIG, 0, b"", b""),
-    "three transfers a burst": (["run"], b"config 1 1 1 1 3 12 h\n", 2, b"", b"set-up fault: BadConfig 0\n"),
-    "three transfers a burst to check": (["check"], b"config 1 1 1 1 3 12 h\n", 2, b"", b"set-up fault: BadConfig 0\n"),
-    "a mask that is no number": (["run"], SETUP + b"a 0 0 0 3 5 8 zz 0 0\n", 2, b"", b"script fault: line 4, word 8\n"),
-    "a command of run to check": (["check"], CONFIG + b"pump\n", 2, b"", b"script fault: line 2, word 1\n"),
-    "a byte that is on no page": (["run"], CONFIG + b"mem 0\n", 0, b"= mem --\n", b""),
-    "an answer before a fault": (["run"], CONFIG + b"work\nfree 0 0\n", 2, b"= work 0\n", b"script fault: line 3, word 1\n"),
-    "an answer before a fault, to check": (
-        ["check"], CONFIG + b"free 0 0\nmem 0\n", 2, b"= notbusy\n", b"script fault: line 3, word 1\n",
-    ),
-    "a client that isn't there, to check": (["check"], CONFIG + b"free 1 0\n", 1, b"= noclient\n", b""),
-    "a source that isn't busy, to check": (["check"], CONFIG + b"free 0 0\n", 0, b"= notbusy\n", b""),
     "as many lines as may be": (["run"], CONFIG + b"\n" * 65_535, 0, b"", b""),
     "a line more": (["run"], CONFIG + b"\n" * 65_536, 2, b"", b"script fault: line 65537, word 0\n"),
     "65,533 answers": (["run"], SETUP + b"work\n" * 65_533, 0, b"= work 0\n" * 65_533, b""),
     # ---- threads
-    "threads of one source": (["threads"], THREADS.replace(b"3 1 8", b"3 0 8"), 0, THREADED.replace(b"3 1 0", b"3 0 0"), b""),
-    "three memory threads": (["threads"], THREADS.replace(b"word 7", b"word 7 0\nword 3 2"), 0, THREADED, b""),
-    "four memory threads, one with a word": (
-        ["threads"], THREADS.replace(b"word 7", b"word 18446744073709551615 3"), 0, THREADED, b"",
-    ),
-    "no words": (["threads"], THREADS.replace(b"word 7\n", b""), 0, THREADED, b""),
-    "words before the beats and among them": (["threads"], THREADS.replace(b"\na", b"\nword 5 1\na"), 0, THREADED, b""),
-    "no beats and no words, in threads": (["threads"], SETUP, 0, b"= ok\nclient 0\nclient 1\n", b""),
-    "a config line alone, in threads": (["threads"], CONFIG, 0, b"= ok\nclient 0\n", b""),
-    "words alone": (["threads"], CONFIG + b"word 0 3\nword 1\n", 0, b"= ok\nclient 0\n", b""),
-    "bytes on pages that are there and not": (
-        ["threads"],
-        SETUP + b"bad 10010\npage 20 1 slverr\nmem 10007\nmem 10010\nmem 20000\nmem 8\nmem 13fff\nmem 14000\n",
-        0,
-        b"= ok\nclient 0\nclient 1\n= mem 00\n= mem 00\n= mem --\n= mem --\n= mem 00\n= mem --\n",
-        b"",
-    ),
     "more requests than the quota and the sources": (
         ["threads"], ONE_LIVE + GET * 4096, 0, b"= ok\nclient 0\n" + zeros(0, 4096, read(3)), b"",
-    ),
-    "a message that is never whole": (["threads"], ONE_LIVE + b"a 0 0 0 4 0 0 ff 1 0\n", 0, b"= ok\nclient 0\n", b""),
-    "an address in no region, in threads": (
-        ["threads"],
-        SETUP + b"a 1 4 0 3 255 4000 ff 0 0\n",
-        0,
-        b"= ok\nclient 0\nclient 1\n= reply 0\nD 1 1 0 3 255 1 0000000000000000 1\n",
-        b"",
     ),
     "as many steps as may be": (
         ["threads"],
@@ -146,59 +111,9 @@ TABLE = {
         ["threads"], CONFIG + b"mem 0\n" * 65_535, 0, b"= ok\nclient 0\n" + b"= mem --\n" * 65_535, b"",
     ),
     "a line more, in threads": faulty(CONFIG + b"word 1\n" * 65_536, 65_537, 0),
-    "an unaligned beat, in threads": refused(UNALIGNED, ALIGN),
-    "a corrupt Get after words and beats of others": refused(
-        SETUP + GET * 3 + b"word 1\na 1 4 0 3 0 8 ff 0 0\na 1 4 0 3 0 8 ff 0 1\n",
-        b"7 BeatRefused client 1 beat 1 rule 8 CORRUPT",
-    ),
-    "another message within one": refused(
-        SETUP + b"a 0 0 0 4 0 0 ff 1 0\na 0 0 0 4 1 0 ff 2 0\n",
-        b"7 BeatRefused client 0 beat 1 rule 10 BURST_CONTROL",
-    ),
-    "a Get of 16 bytes at a TL-UL client": refused(
-        SETUP.replace(b"hh", b"hl") + b"a 1 4 0 4 0 0 ff 0 0\n",
-        b"7 BeatRefused client 1 beat 0 rule 2 LEVEL",
-    ),
-    "no input to threads": faulty(b"", 1, 1),
-    "lines that are skipped alone, in threads": faulty(b"\n# none\n", 3, 1),
-    "no config, in threads": faulty(b"a 0 4 0 3 0 8 ff 0 0\n", 1, 1),
-    "a client that isn't there, in threads": faulty(SETUP + b"a 2 4 0 3 0 8 ff 0 0\n", 4, 2),
-    "client 256": faulty(SETUP + b"a 256 4 0 3 0 8 ff 0 0\n", 4, 2),
-    "a client that isn't there, and too few words": faulty(SETUP + b"a 2\n", 4, 2),
-    "a beat without a corrupt word": faulty(SETUP + b"a 1 4 0 3 0 8 ff 0\n", 4, 10),
-    "a beat with a word too many": faulty(SETUP + b"a 1 4 0 3 0 8 ff 0 0 0\n", 4, 11),
-    "memory thread 4": faulty(SETUP + b"word 1 4\n", 4, 3),
-    "a memory thread in hexadecimal": faulty(SETUP + b"word 1 a\n", 4, 3),
-    "a word alone": faulty(SETUP + b"word\n", 4, 2),
-    "a word that is too large": faulty(SETUP + b"word 18446744073709551616\n", 4, 2),
-    "a word in hexadecimal": faulty(SETUP + b"word f\n", 4, 2),
-    "a word of two memory threads": faulty(SETUP + b"word 1 2 3\n", 4, 4),
-    "a word of two memory threads, the first of which isn't there": faulty(SETUP + b"word 1 4 3\n", 4, 3),
-    "an address alone": faulty(SETUP + b"mem\n", 4, 2),
-    "an address that is too large": faulty(SETUP + b"mem 100000000\n", 4, 2),
-    "an address with a word too many": faulty(SETUP + b"mem 10000 1\n", 4, 3),
-    "a beat after an address": faulty(SETUP + b"mem 10000\n" + GET, 5, 1),
-    "a word after an address": faulty(SETUP + b"mem 10000\nword 1\n", 5, 1),
-    "a page after a beat": faulty(SETUP + GET + b"page 20 1 good\n", 5, 1),
-    "a region after a word": faulty(SETUP + b"word 1\nregion 8 1 10 gpah\n", 5, 1),
-    "a bad word after an address": faulty(SETUP + b"mem 10000\nbad 10000\n", 5, 1),
-    "a second config, in threads": faulty(CONFIG + CONFIG, 2, 1),
     "a 4,097th beat of a client": faulty(SETUP + GET * 4096 + b"a 1 4 0 3 0 8 ff 0 0\n" * 4096 + GET, 8196, 1),
     "a 4,097th beat with a wrong word": faulty(SETUP + GET * 4096 + b"a 0 4 0 3 0 8 zz 0 0\n", 4100, 1),
     "4,096 beats of each client": faulty(SETUP + GET * 4096 + b"a 1 4 0 3 0 8 ff 0 0\n" * 4096 + b"word\n", 8196, 2),
-    "a fault on the last line, of threads": faulty(THREADS + b"x\n", 8, 1),
-    "a fault on the last line, and one of the beats": faulty(UNALIGNED + b"mem x\n", 3, 2),
-    "a fault on the last line, and one of the set-up": faulty(b"config 1 1 1 1 3 12 h\nword 1\nmem\n", 3, 2),
-    "three transfers a burst, in threads": (["threads"], b"config 1 1 1 1 3 12 h\n", 2, b"", b"set-up fault: BadConfig 0\n"),
-    "a fault of the set-up, and one of the beats": (
-        ["threads"], SETUP + b"page 13 1 good\na 0 4 0 3 0 4 ff 0 0\n", 2, b"", b"set-up fault: PageTwice 4\n",
-    ),
-    "a CR that ends no line, in threads": faulty(THREADS + b"mem 8\r \n", 8, 0),
-    "a last line of threads without an end": (["threads"], THREADS[:-1], 0, THREADED, b""),
-    **{
-        f"{line.split()[0].decode()} to threads": faulty(SETUP + line + b"\n", 4, 1)
-        for line in (b"pump", b"do 0 0", b"b 0", b"r 0", b"take 0", b"drain", b"work", b"free 0 0", b"walk", b"Word 1")
-    },
 }
 
 # What the shell does with the program, its standard input, the status, the text, and the line on standard error.
@@ -224,7 +139,7 @@ REDIRECTED = {
 }
 
 # Words that tlscore refuses.
-REFUSED_WORDS = {
+REFUSED_SCORE_WORDS = {
     "a word": ["run"],
     "an empty word": [""],
     "a word that --version begins with": ["--versio"],
@@ -247,6 +162,8 @@ REFUSED_WORDS = {
 
 
 def of_table(program):
+    for name, words in REFUSED_WORDS.items():
+        yield name, lambda w=words: started([program, *w], FIRST).wrong(6, b"", USAGE)
     for name, (words, given, *wanted) in TABLE.items():
         yield name, lambda w=words, g=given, x=wanted: started([program, *w], g).wrong(*x)
     for name, (line, given, *wanted) in REDIRECTED.items():
@@ -254,19 +171,15 @@ def of_table(program):
 
 
 def of_scripts(program):
-    for name, word, given, *wanted in script_cases.cases():
-        yield name, lambda w=word, g=given, x=wanted: started([program, w], g).wrong(*x)
+    for name, given, *wanted in script_cases.cases():
+        yield name, lambda g=given, x=wanted: started([program, "run"], g).wrong(*x)
 
 
 def of_examples(program):
     """Each example and each row against its trace, an example with CR LF too; each faulty one also against its line on standard
     error."""
-    for script in (*sorted(TOP.glob("examples/**/*.script")), *sorted(TOP.glob("tests/rows/**/*.script"))):
-        fault = script.with_suffix(".fault")
-        word = next((it for it in ("check", "threads") if script.stem.startswith(it)), "run")
-        status = 2 if fault.exists() else 1 if word == "check" else 0
-        wanted = status, script.with_suffix(".trace").read_bytes(), fault.read_bytes() if fault.exists() else b""
-        given, name = script.read_bytes(), str(script.relative_to(TOP))
+    yield "the files of tests/rows", lambda: stored.unread(TOP / "tests/rows", ".script")
+    for name, word, given, *wanted in stored.scripts():
         yield name, lambda w=word, g=given, x=wanted: started([program, w], g).wrong(*x)
         if name.startswith("examples"):
             crlf = given.replace(b"\n", b"\r\n")
@@ -343,13 +256,13 @@ def of_scores(program):
         given, name = row.read_bytes(), f"tlscore: {row.stem}"
         yield name, lambda g=given, x=wanted: started([score], g).wrong(*x)
         yield f"{name} with CR LF", lambda g=given.replace(b"\n", b"\r\n"), x=wanted: started([score], g).wrong(*x)
-    for name, words in REFUSED_WORDS.items():
+    for name, words in REFUSED_SCORE_WORDS.items():
         given = (TOP / "examples/scoreboard/right.in").read_bytes()
         yield f"tlscore: {name}", lambda w=words, g=given: started([score, *w], g).wrong(6, b"", SCORE_USAGE)
-    for script in (*sorted(TOP.glob("examples/*.script")), *sorted(TOP.glob("tests/rows/**/*.script"))):
-        if not script.stem.startswith(("check", "threads")) and not script.with_suffix(".fault").exists():
-            given = script_cases.setup_of(script.read_bytes()) + script.with_suffix(".trace").read_bytes()
-            yield f"tlscore: the trace of {script.relative_to(TOP).with_suffix('')}", lambda g=given: of_right(started([score], g))
+    for name, word, script, _, trace, line in stored.scripts():
+        if word == "run" and not line:
+            given = script_cases.setup_of(script) + trace
+            yield f"tlscore: the trace of {name}", lambda g=given: of_right(started([score], g))
     for how, *wanted in (
         ("<&-", 3, b"", READ), (">&-", 3, b"", WRITE), (">/dev/full", 3, b"", WRITE), ("</", 3, b"", READ),
     ):

@@ -17,6 +17,7 @@ import errno
 import sys
 from pathlib import Path
 
+import stored
 from ends import MEMORY, READ, SPAWN, USAGE, WRITE, told
 from script_cases import setup_of
 from scripts import SCRIPTS, SETUP, Script
@@ -135,9 +136,9 @@ def growths_of_long(shim, word, long, alone):
 
 def rows():
     """Each worked row of `run` whose set-up is right: its name and its script."""
-    for script in sorted(TOP.glob("tests/rows/**/*.script")):
-        if not script.stem.startswith("check") and not script.with_suffix(".fault").exists():
-            yield str(script.relative_to(TOP)), script.read_bytes()
+    for name, word, script, _, _, line in stored.cases(TOP / "tests/rows", ".script"):
+        if word == "run" and not line:
+            yield name, script
 
 
 def threads(shim, script, count):

@@ -15,6 +15,7 @@ from pathlib import Path
 from typing import Dict, Iterator, List, Optional, Tuple
 
 from ends import told
+from stored import observations
 
 TOP = Path(__file__).resolve().parent.parent
 RUNS = TOP / "examples/testbench/rtl/runs"
@@ -23,37 +24,8 @@ FORETOLD = re.compile(r"(?m)^Error: (?:\(\w+\) )?zuldegei: D .*\nIn file: .*\nIn
 # A reply that is wrong by itself; one that stops short or is missing shows only at the end.
 REPLY = re.compile(r"(?m)^= wrong \d+ reply [13-8] .* at (\d+)$")
 COUNTED = re.compile(r"(?m)^judged (\d+) wrong (\d+)$")
-SETUP = "config 2 4 16 2 16 12 hh\nregion 0 4 10 gpah\npage 10 4 good\n"
-PUT, AW, W = "A 0 0 0 3 5 00000008 ff 1122334455667788 0\n", "AW 0 00010008 0 3 1\n", "W 1122334455667788 ff 1\n"
-OTHER, END = "W 1122334455667788 ff 0\n", "= end\n"
-# What is played at the ports, and the lines that it is to be judged as; the same where there is nothing.
-PLAYED = {
-    "W data ahead of their AW": (f"time 10\n{PUT}{OTHER}time 20\n{AW}{END}", f"time 10\n{PUT}time 20\n{AW}time 10\n{OTHER}{END}"),
-    "two addresses ahead of their data": (f"time 10\n{PUT}{AW}time 20\n{AW}time 30\n{W}time 40\n{W}{END}", None),
-    "a reset in mid-run": (
-        f"time 10\n{PUT}{AW}= reset\ntime 30\n{PUT}{W}{END}",
-        f"time 10\n{PUT}{AW}= reset\ntime 30\n{PUT}{END}",
-    ),
-    "a reset behind W data ahead of their AW": (
-        f"time 10\n{PUT}{OTHER}= reset\ntime 30\n{PUT}{AW}{W}{END}",
-        f"time 10\n{PUT}= reset\ntime 30\n{PUT}{AW}{W}{END}",
-    ),
-    "two wrong beats in one clock": (f"time 10\n{PUT}B 0 OKAY\nR 0 0000000000000000 OKAY 1\n{END}", None),
-    "lanes that no request covers": (
-        "time 10\nA 0 4 0 0 5 00000008 01 0000000000000000 0\ntime 20\nD 0 1 0 0 5 0 ffffffffffffff00 0\n",
-        "time 10\nA 0 4 0 0 5 00000008 01 0000000000000000 0\ntime 20\nD 0 1 0 0 5 0 0000000000000000 0\n",
-    ),
-    "the payload of a reply that has no data": (
-        f"time 10\n{PUT}time 20\nD 0 0 0 3 5 0 ffffffffffffffff 0\n",
-        f"time 10\n{PUT}time 20\nD 0 0 0 3 5 0 0000000000000000 0\n",
-    ),
-    "the payload of a corrupt beat": (
-        "time 10\nA 0 4 0 3 5 00008000 ff 0000000000000000 0\ntime 20\nD 0 1 0 3 5 1 ffffffffffffffff 1\n",
-        "time 10\nA 0 4 0 3 5 00008000 ff 0000000000000000 0\ntime 20\nD 0 1 0 3 5 1 0000000000000000 1\n",
-    ),
-    "a request without data": ("time 10\nA 0 4 0 3 5 00000008 ff 0000000000000000 0\n", None),
-    "an end with nothing due": (f"time 10\n{END}", None),
-}
+END = "= end\n"
+AT_PORTS = TOP / "tests/at_ports"
 EXAMPLE = {
     (): (0, "9 beats judged, 0 wrong\n"),
     ("wrong",): (
@@ -127,6 +99,19 @@ def runs() -> Iterator[Tuple[str, str, str]]:
                 yield f"{path.stem}, profile {profile}", in_turn(lines), lines
 
 
+def parts(path: Path) -> Tuple[str, str]:
+    """The set-up of a file of AT_PORTS, and the lines behind it."""
+    setup, _, lines = path.read_text().partition("\n\n")
+    return setup.partition("\n")[2] + "\n", lines
+
+
+def by_hand() -> Iterator[Tuple[str, str, str, str]]:
+    """What is played at the ports of a monitor: its name, the set-up, what is played, and the lines that it is to be judged as."""
+    for path in observations(AT_PORTS / "monitor"):
+        (setup, given), judged_as = parts(path), path.with_suffix(".judged")
+        yield path.stem, setup, given, parts(judged_as)[1] if judged_as.exists() else given
+
+
 def cases(tlscore: str, library: Path) -> Iterator[Case]:
     if not shutil.which("g++") or not Path("/usr/include/systemc").exists():
         print("skipped: the monitor and the predictor in SystemC, as libsystemc-dev isn't installed")
@@ -137,9 +122,8 @@ def cases(tlscore: str, library: Path) -> Iterator[Case]:
     with tempfile.TemporaryDirectory() as folder:
         sources = ("tests/systemc.cpp", "interfaces/systemc/example.cpp")
         player, example = (built(TOP / it, library, Path(folder)) for it in sources)
-        by_hand = [(name, SETUP + given, SETUP + (lines or given)) for name, (given, lines) in PLAYED.items()]
         found = 0
-        for name, given, lines in (*runs(), *by_hand):
+        for name, given, lines in (*runs(), *((name, setup + given, setup + lines) for name, setup, given, lines in by_hand())):
             yield name, difference(player, tlscore, given, lines)
             found += bool(judged(tlscore, lines)[0])
         for name, _, lines in runs():

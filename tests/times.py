@@ -1,6 +1,6 @@
 """What zuldegei-times tells of observations with times. Of hand-written ones: the tables, whose numbers were worked out by hand, what is late,
-what a reset cuts, and what is refused. Of observations by lot: each number in JSON beside a plain computation from the same requests and
-bursts. Of the stored runs: that an answer which the scoreboard finds lost is late. And how fast it is, in how much memory.
+what a reset cuts, and what is refused. Of observations by lot: each number in JSON beside a plain computation from the same requests,
+bursts and waits. Of the stored runs: that an answer which the scoreboard finds lost is late. And how fast it is, in how much memory.
 
     python3 tests/times.py TLSCORE [--seed WORD] [--histories N]
 """
@@ -19,138 +19,29 @@ from pathlib import Path
 from typing import Dict, Iterator, List, NamedTuple, Optional, Sequence, Tuple
 
 from ends import told
+from stored import observations
 from waves import RTL, TOP, command
 
 SETUP = "config 2 4 16 2 16 12 hh\nregion 0 4 10 gpah\npage 10 4 good\n"
 ZEROS = "0000000000000000"
+BEATS_OF_A_RUN = ("A", "D", "AW", "AR", "B", "R")
 BEATS_A_SECOND, BEATS, ROOM = 30_000, 200_000, 3 << 20  # bytes that a run ten times as long may take more
 Case = Tuple[str, Optional[str]]
 
 # A Put of 100 to 130 and an atomic of 120 to 180 by client 0, a Get of 110 to 180 and an Intent of 190 to 200 by client 1, a write of 110
 # to 130 and a read of 120 to 160: 11 clocks of 10.
-EACH = f"""time 100
-A 0 0 0 3 5 00000008 ff 1122334455667788 0
-time 110
-A 1 4 0 5 7 00000020 ff {ZEROS} 0
-AW 0 00010008 0 3 1
-W 1122334455667788 ff 1
-time 120
-A 0 2 4 3 6 00000010 ff {ZEROS} 0
-AR 3 00010020 3 3 1
-time 130
-B 0 OKAY
-R 3 {ZEROS} OKAY 0
-D 0 0 0 3 5 0 {ZEROS} 0
-time 140
-R 3 {ZEROS} OKAY 0
-time 150
-R 3 {ZEROS} OKAY 0
-D 1 1 0 5 7 0 {ZEROS} 0
-time 160
-R 3 {ZEROS} OKAY 1
-D 1 1 0 5 7 0 {ZEROS} 0
-time 170
-D 1 1 0 5 7 0 {ZEROS} 0
-time 180
-D 0 1 0 3 6 0 {ZEROS} 0
-D 1 1 0 5 7 0 {ZEROS} 0
-time 190
-A 1 5 0 6 8 00000040 ff {ZEROS} 0
-time 200
-D 1 2 0 6 8 0 {ZEROS} 0
-= end
-"""
-ITS_TABLES = """answered          count   least    half 9 of 10    most  bytes a clock
-AXI4 read             1      40      40      40      40          2.909
-AXI4 write            1      20      20      20      20          0.727
-client 0 atomic       1      60      60      60      60          0.727
-client 0 put          1      30      30      30      30          0.727
-client 1 get          1      70      70      70      70          2.909
-client 1 intent       1      10      10      10      10          0.000
-how many took         8      16      32      64
-AXI4 read             0       0       1       0
-AXI4 write            0       1       0       0
-client 0 atomic       0       0       1       0
-client 0 put          0       1       0       0
-client 1 get          0       0       0       1
-client 1 intent       1       0       0       0
-in flight       average    most
-AXI4 read         0.400       1
-AXI4 write        0.200       1
-client 0          0.900       2
-client 1          0.800       1
-from 100 to 200, with a clock of 10
-"""
+HAND = TOP / "tests/commands"
+EACH, ITS_TABLES = ((HAND / f"times/requests-and-bursts-of-each-kind.{it}").read_text() for it in ("lines", "tables"))
 GET, TOLD = f"A 0 4 0 3 {{}} 00000008 ff {ZEROS} 0\n", f"D 0 1 0 3 {{}} 0 {ZEROS} 0\n"
-PUT, ACKNOWLEDGED = f"A 0 0 0 4 {{}} 00000010 ff {ZEROS} 0\n", f"D 0 0 0 4 {{}} 0 {ZEROS} 0\n"
-READ, DATA, WRITE = "AR {} 00010008 0 3 1\n", f"R {{}} {ZEROS} OKAY 1\n", "AW {} 0001000c 1 2 1\n"
-WROTE = f"W {ZEROS} f0 0\nW {ZEROS} 0f 1\n"
-# Beats, the words of a call, and all that it tells from the first late line on, where line 4 is the first of the beats.
-LATE = {
-    "more than N, and N": (f"time 5\n{GET.format(1)}time 6\n{GET.format(2)}time 16\n{TOLD.format(1)}{TOLD.format(2)}", "--late 10", """
-= late 5 client 0 source 1 at 5 answered after 11: Get of 8 bytes at 00000008
-1 took longer than 10
-"""),
-    "nothing": (f"time 5\n{GET.format(1)}time 15\n{TOLD.format(1)}", "--late 10", "\n0 took longer than 10\n"),
-    "the first to begin first": (
-        f"time 5\n{GET.format(1)}time 10\n{GET.format(2)}{READ.format(9)}time 40\n{TOLD.format(2)}time 50\n{DATA.format(9)}{TOLD.format(1)}",
-        "--late 10", """
-= late 5 client 0 source 1 at 5 answered after 45: Get of 8 bytes at 00000008
-= late 7 client 0 source 2 at 10 answered after 30: Get of 8 bytes at 00000008
-= late 8 read 9 at 10 answered after 40: AR of 8 bytes at 00010008
-3 took longer than 10
-"""),
-    "some of them": (
-        f"time 5\n{GET.format(1)}time 10\n{GET.format(2)}{READ.format(9)}time 40\n{TOLD.format(2)}", "--late 10 -n 1", """
-= late 5 client 0 source 1 at 5 not answered for 35: Get of 8 bytes at 00000008
-and 2 more
-3 took longer than 10
-"""),
-    "no answer up to the end": (f"time 5\n{GET.format(1)}time 10\n{WRITE.format(2)}{WROTE}time 100\n= end\n", "--late 10", """
-= late 5 client 0 source 1 at 5 not answered for 95: Get of 8 bytes at 00000008
-= late 7 write 2 at 10 not answered for 90: AW of 8 bytes at 0001000c
-2 took longer than 10
-"""),
-    "a reset": (f"time 5\n{GET.format(1)}{READ.format(9)}time 30\n= reset\ntime 50\n{GET.format(1)}time 55\n{TOLD.format(1)}", "--late 10", """
-= late 5 client 0 source 1 at 5 cut by a reset after 25: Get of 8 bytes at 00000008
-= late 6 read 9 at 5 cut by a reset after 25: AR of 8 bytes at 00010008
-2 took longer than 10
-"""),
-    "a reset in time": (f"time 5\n{GET.format(1)}{READ.format(9)}time 15\n= reset\ntime 500\n= end\n", "--late 10", "\n0 took longer than 10\n"),
-    "a drained port": (f"time 5\n{GET.format(1)}{READ.format(9)}time 8\n= drained\ntime 30\n{TOLD.format(1)}", "--late 10", """
-= late 5 client 0 source 1 at 5 answered after 25: Get of 8 bytes at 00000008
-1 took longer than 10
-"""),
-    "a beat that isn't taken": (f"time 5\n{GET.format(1)}# said\n= refused 9\ntime 30\n{GET.format(2)}", "--late 10", "\n0 took longer than 10\n"),
-    "a Put of two beats": (
-        f"time 5\n{PUT.format(1)}time 9\n{PUT.format(1)}time 20\n{ACKNOWLEDGED.format(1)}", "--late 10", """
-= late 5 client 0 source 1 at 5 answered after 15: PutFull of 16 bytes at 00000010
-1 took longer than 10
-"""),
-    "a reply ahead of its Put's end": (
-        f"time 5\n{PUT.format(1)}time 9\n{ACKNOWLEDGED.format(1)}time 20\n{PUT.format(1)}time 90\n= end\n", "--late 10", """
-= late 5 client 0 source 1 at 5 answered after 15: PutFull of 16 bytes at 00000010
-1 took longer than 10
-"""),
-    "write data with the time at which they passed": (
-        f"time 5\n{PUT.format(1)}{PUT.format(1)}time 20\n{WRITE.format(2)}time 6\n{WROTE}time 25\nB 2 OKAY\n{ACKNOWLEDGED.format(1)}",
-        "--late 15", """
-= late 5 client 0 source 1 at 5 answered after 20: PutFull of 16 bytes at 00000010
-1 took longer than 15
-"""),
-    "a reply that nobody waits for": (f"time 5\n{GET.format(1)}time 9\n{TOLD.format(2)}time 20\n{TOLD.format(1)}", "--late 10", """
-= late 5 client 0 source 1 at 5 answered after 15: Get of 8 bytes at 00000008
-1 took longer than 10
-"""),
-}  # fmt: skip
+READ, DATA = "AR {} 00010008 0 3 1\n", f"R {{}} {ZEROS} OKAY 1\n"
 # Observations and words that are refused: the status, and what the line on standard error has.
 REFUSED = {
-    "no time": (GET.format(1), "", 2, "seen.lines: line 4 of the observation, 'A 0 4 0 3 1 00000008 ff 0000000000000000 0', has no time"),
-    "no time ahead of the first beat": (f"{GET.format(1)}time 5\n{TOLD.format(1)}", "", 2, "line 4 of the observation"),
-    "no beat": ("time 5\n= end\n", "", 2, "seen.lines: it has no beat"),
-    "a time that goes back": (f"time 5\n{GET.format(1)}time 4\n{TOLD.format(1)}", "", 2, "goes back to 4, and it was 5"),
-    "a beat with a word too few": ("time 5\nA 0 4 0 3\n", "", 2, "line 5 of the observation, 'A 0 4 0 3', isn't what tlscore reads"),
-    "a time that is none": ("time now\n", "", 2, "line 4 of the observation, 'time now', isn't what tlscore reads"),
+    "no time": (SETUP + GET.format(1), "", 2, "seen.lines: line 4 of the observation, 'A 0 4 0 3 1 00000008 ff 0000000000000000 0', has no time"),
+    "no time ahead of the first beat": (f"{SETUP}{GET.format(1)}time 5\n{TOLD.format(1)}", "", 2, "line 4 of the observation"),
+    "no beat": (f"{SETUP}time 5\n= end\n", "", 2, "seen.lines: it has no beat"),
+    "a time that goes back": (f"{SETUP}time 5\n{GET.format(1)}time 4\n{TOLD.format(1)}", "", 2, "goes back to 4, and it was 5"),
+    "a beat with a word too few": (f"{SETUP}time 5\nA 0 4 0 3\n", "", 2, "line 5 of the observation, 'A 0 4 0 3', isn't what tlscore reads"),
+    "a time that is none": (f"{SETUP}time now\n", "", 2, "line 4 of the observation, 'time now', isn't what tlscore reads"),
     "no units": (EACH, "--late 0", 6, "--late"),
     "a word for a number": (EACH, "--late soon", 6, "--late"),
     "no clock": (EACH, "--clock -1", 6, "--clock"),
@@ -159,8 +50,8 @@ REFUSED = {
 
 
 def called(folder: Path, lines: str, words: str = "") -> "subprocess.CompletedProcess[str]":
-    """A call for an observation behind the set-up."""
-    (folder / "seen.lines").write_text(SETUP + lines)
+    """A call for an observation."""
+    (folder / "seen.lines").write_text(lines)
     return command("times", "seen.lines", *words.split(), cwd=folder)
 
 
@@ -174,20 +65,27 @@ def by_hand(folder: Path) -> Iterator[Case]:
     yield "JSON", None if is_well and [found[it] for it in ("begin", "end", "clock")] == [100, 200, 10] else str(found)
     ran = called(folder, EACH, "--clock 20")  # 6 clocks
     yield "another clock", None if " 5.333\n" in ran.stdout and "with a clock of 20\n" in ran.stdout else ran.stdout
-    for name, (lines, words, due) in LATE.items():
-        ran = called(folder, lines, f"{words} --json times.json")
-        at = re.search(r"(?m)^(= late|\d+ took)", ran.stdout)
-        status = int("= late" in due)
-        got = ran.stdout[at.start() :] if at else ran.stdout + ran.stderr
-        yield f"late: {name}", None if (ran.returncode, got) == (status, due[1:]) else f"status {ran.returncode}: {got}"
-        counted = json.loads((folder / "times.json").read_text())["late"]
-        lines_of = [int(it) for it in re.findall(r"(?m)^= late (\d+)", due)]
-        is_well = [it["line"] for it in counted["first"]] == lines_of and f"\n{counted['count']} took longer than {counted['limit']}\n" in due
-        yield f"late, in JSON: {name}", None if is_well else str(counted)
+    yield from late(folder)
     for name, (lines, words, status, said) in REFUSED.items():
         ran = called(folder, lines, words)
         is_well = ran.returncode == status and said in ran.stderr and ran.stderr.count("\n") == 1
         yield f"refused: {name}", None if is_well else f"status {ran.returncode}: {ran.stderr}"
+
+
+def late(folder: Path) -> Iterator[Case]:
+    """What is late in observations by hand: all that is told from the first late line on, behind the words of the call."""
+    for path in observations(HAND / "late"):
+        name = path.stem
+        call, _, due = path.with_suffix(".late").read_text().partition("\n")
+        ran = called(folder, path.read_text(), f"{call.partition('.lines ')[2]} --json times.json")
+        at = re.search(r"(?m)^(= late|\d+ took)", ran.stdout)
+        status = int("= late" in due)
+        got = ran.stdout[at.start() :] if at else ran.stdout + ran.stderr
+        yield f"late: {name}", None if (ran.returncode, got) == (status, due) else f"status {ran.returncode}: {got}"
+        counted = json.loads((folder / "times.json").read_text())["late"]
+        lines_of = [int(it) for it in re.findall(r"(?m)^= late (\d+)", due)]
+        is_well = [it["line"] for it in counted["first"]] == lines_of and f"{counted['count']} took longer than {counted['limit']}\n" in due
+        yield f"late, in JSON: {name}", None if is_well else str(counted)
 
 
 # ---- by lot
@@ -242,6 +140,31 @@ def observation(made: Sequence[Spell]) -> str:
     return "\n".join(lines) + "\n"
 
 
+def with_waits(text: str, lot: random.Random) -> Tuple[str, Dict[str, List[int]]]:
+    """An observation with lines `waited` ahead of some beats by lot, and by port for how many clocks each beat waited."""
+    lines, waits = [], {}
+    for line in text.splitlines():
+        words = line.split()
+        if words[0] in BEATS_OF_A_RUN:
+            port, clocks = words[0] + (words[1] if words[0] in "AD" else ""), lot.choice((0, 0, 1, 2, lot.randrange(300)))
+            waits.setdefault(port, []).append(clocks)
+            lines += [f"waited {port} {clocks}"] if clocks or lot.randrange(2) else []
+        lines.append(line)
+    return "\n".join(lines) + "\n", waits
+
+
+def waited(found: Dict[str, object], waits: Dict[str, List[int]], text: str) -> Optional[str]:
+    """What the JSON has otherwise of how long beats waited."""
+    found = found.get("waited", {})
+    for port, its in waits.items() if "waited " in text else ():
+        entry, its_most = found.get(port), max(its)
+        counts = Counter(str(2 ** (it.bit_length() - 1) if it else 0) for it in its)
+        due = [len(its), min(its), its_most, counts, (text.splitlines().index(f"waited {port} {its_most}") + 5) if its_most else None]
+        if not entry or [entry[it] for it in ("count", "least", "most", "histogram", "longest")] != due:
+            return f"{port}: {entry}, and due are {due}"
+    return None if set(found) == (set(waits) if "waited " in text else set()) else f"the ports are {sorted(found)}"
+
+
 def apart(made: Sequence[Spell], found: Dict[str, object], late: int) -> Optional[str]:
     """What the JSON has otherwise than a plain computation."""
     begin, end = min(it.begin for it in made), max(it.end for it in made)
@@ -272,9 +195,10 @@ def by_lot(folder: Path, seed: str, count: int) -> Iterator[Case]:
     for at in range(count):
         lot = random.Random(f"{seed} {at}")
         made, late = spells(lot, lot.choice((3, 30, 300))), lot.choice((10, 100, 1000))
-        ran = called(folder, observation(made), f"--late {late} --json times.json")
-        why = apart(made, json.loads((folder / "times.json").read_text()), late) if ran.returncode < 2 else ran.stderr
-        yield f"history {at} of seed {seed}", why
+        text, waits = with_waits(observation(made), lot)
+        ran = called(folder, SETUP + text, f"--late {late} --json times.json")
+        found = json.loads((folder / "times.json").read_text()) if ran.returncode < 2 else None
+        yield f"history {at} of seed {seed}", (apart(made, found, late) or waited(found, waits, text)) if found else ran.stderr
 
 
 # ---- stored runs, and a long one

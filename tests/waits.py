@@ -1,7 +1,8 @@
 """How long beats wait for ready, on wires by hand (tests/waits.sv): what the monitor of examples/testbench/rtl prints by each simulator
 that is installed, what zuldegei-waves reads from a dump of the same wires, and what the monitor in the process writes under Verilator is
 said here line by line, and tlscore judges it as the run was judged, also where the run is stopped. A file that can't be written ends the
-run at its begin. What zuldegei-cover, zuldegei-explain and zuldegei-wave-of make of such lines. A simulator that isn't installed is named.
+run at its begin. What zuldegei-cover, zuldegei-times, zuldegei-explain and zuldegei-wave-of make of such lines. A simulator that isn't
+installed is named.
 
     python3 tests/waits.py TLSCORE [--library FOLDER]
 """
@@ -22,38 +23,9 @@ from waves import command
 
 MONITOR, WIRES = TOP / "examples/testbench/rtl/monitor.sv", TOP / "tests/waits.sv"
 JUDGES = [SYSTEMVERILOG / f"zuldegei_{it}.sv" for it in ("pkg", "monitor")]
-SETUP = "# two clients\nconfig 2 4 16 2 16 12 hh\nregion 0 4 10 gpah\npage 10 4 good\n"
-# What passes by the tables of waits.sv. The Get of client 1 is withdrawn once, and waits anew behind that; W data come ahead of their AW; and
-# a request that waits ahead of a reset is offered anew behind it.
-LINES = """time 35
-waited A0 2
-A 0 0 0 3 5 00000008 ff 1122334455667788 0
-time 65
-waited A1 1
-A 1 4 0 3 7 00000010 ff 0000000000000000 0
-time 75
-waited AW 1
-AW 2 00010008 0 3 1
-time 55
-waited W 1
-W 1122334455667788 ff 1
-time 105
-AR 3 00010010 0 3 1
-waited B 2
-B 2 OKAY
-time 125
-waited R 1
-R 3 0000000000000000 OKAY 1
-waited D0 1
-D 0 0 0 3 5 0 0000000000000000 0
-time 135
-D 1 1 0 3 7 0 0000000000000000 0
-= reset
-time 165
-A 0 4 0 3 5 00000010 ff 0000000000000000 0
-time 175
-D 0 1 0 3 5 0 0000000000000000 0
-"""
+# What passes by the tables of waits.sv, behind a set-up. The Get of client 1 is withdrawn once, and waits anew behind that; W data come ahead
+# of their AW; and a request that waits ahead of a reset is offered anew behind it.
+SETUP, LINES = re.split(r"(?m)^(?=time 35$)", (TOP / "tests/waits.lines").read_text())
 WITHOUT = re.sub(r"(?m)^waited .*\n", "", LINES)
 LAST = "D 0 1 0 3 5 0 0000000000000000 0\n"
 WRONG = LAST.replace("0 0\n", "1 0\n")
@@ -63,13 +35,9 @@ WRONG_END = RIGHT_END.replace("wrong 0", "wrong 1")
 # Bins of the group `wait`, with how often they are reached and in which line first.
 BINS = ("A0/0 1 30", "A0/2-7 1 7", "A1/1 1 10", "AW/1 1 13", "W/1 1 16", "AR/0 1 18", "B/2-7 1 20", "R/1 1 23", "D0/0 1 32", "D0/1 1 25", "D1/0 1 27")
 # Commands, and what each is given of a run.
-COMMANDS = {"explain": ("lines", "told"), "wave_of": ("lines", "told", "vcd"), "times": ("lines",)}
-MAP = """clock testbench.clock
-reset testbench.reset
-client 0 flat testbench.monitor. part 0 of 2
-client 1 flat testbench.monitor. part 1 of 2
-axi flat testbench.monitor.
-"""
+COMMANDS = {"explain": ("lines", "told"), "wave_of": ("lines", "told", "vcd")}
+# What zuldegei-times has of them.
+WAITED = (TOP / "tests/waits.tables").read_text()
 Case = Tuple[str, Optional[str]]
 
 
@@ -93,7 +61,7 @@ def by_print(name: str, words: List[str], folder: Path) -> Iterator[Case]:
     """The monitor that prints, with waits and without; and a dump of the same wires."""
     yield f"lines by {name}", unlike(printed(words, folder, "+waits", f"+dump={folder / 'run.vcd'}"), LINES)
     yield f"lines by {name}, without waits", unlike(printed(words, folder), WITHOUT)
-    (folder / "ports.map").write_text(MAP)
+    shutil.copy(TOP / "tests/waits.map", folder / "ports.map")
     for said, due in (((), WITHOUT), (("--waits",), LINES)):
         ran = command("waves", folder / "ports.map", folder / "run.vcd", *said)
         yield f"a dump by {name}, {said}", unlike((ran.returncode, ran.stdout), (0, due))
@@ -172,7 +140,7 @@ def made(name: str, folder: Path, of: str, words: Tuple[str, ...]) -> Tuple[int,
 
 
 def by_command(score: Path) -> Iterator[Case]:
-    """What tlscore and the commands make of the lines: they pass over waits as over comments, but that zuldegei-cover counts them."""
+    """What tlscore and the commands make of the lines: they pass over waits as over comments, but for zuldegei-cover and zuldegei-times."""
     wrong = f"{SETUP}{LINES.removesuffix(LAST)}{WRONG}"
     with tempfile.TemporaryDirectory() as room:
         folder = Path(room)
@@ -182,6 +150,9 @@ def by_command(score: Path) -> Iterator[Case]:
         yield "waits beside comments, by tlscore", unlike(*((folder / f"{it}.told").read_text() for it in ("waits", "comments")))
         for name, words in COMMANDS.items():
             yield f"zuldegei-{name}", unlike(*(made(name, folder, it, words) for it in ("waits", "comments")))
+        told, without = (made("times", folder, it, ("lines",)) for it in ("waits", "comments"))
+        yield "zuldegei-times", unlike((told[0], re.sub(" +", " ", WAITED) in re.sub(" +", " ", told[1])), (0, True))
+        yield "zuldegei-times without waits", unlike((without[0], "waited" in without[1]), (0, False))
         ran = command("cover", folder / "waits.lines", "--json", folder / "waits.json")
         bins = json.loads((folder / "waits.json").read_text())["bins"].items()
         found = [f"{name[5:]} {it[0]} {it[2]}" for name, it in bins if name.startswith("wait/") and it[0]]

@@ -1,11 +1,12 @@
 """Two clients with a random schedule. Each reply, and the memory at the end, is compared with a plain model, which carries
 out the requests whole, one at a time, in the order in which they were accepted.
 
-    python3 examples/testbench/random_bench.py [--steps N] [--corners N] [--observed FILE] [--in-process] [SEED]
+    python3 examples/testbench/random_bench.py [--steps N] [--corners N] [--play FILE] [--observed FILE] [--in-process] [SEED]
 
 Of 16 requests so many as --corners says (4) look for a corner: the edge of a page or a region, a page that fails or isn't there, a bad
 word, masks that are empty, a message that is corrupt in all beats; and for a while replies are taken soon, or none is taken, no answer is
-given or no burst is sent. With 0 there are plain lots. --observed writes what tlscore and zuldegei-cover read of the run. With
+given or no burst is sent. With 0 there are plain lots. --play has the requests of a
+stimulus in their place (docs/STIMULUS.md). --observed writes what tlscore and zuldegei-cover read of the run. With
 --in-process the model is that of the library (interfaces/README.md), and else the program's. Both give the same.
 """
 
@@ -16,11 +17,12 @@ from dataclasses import replace
 from pathlib import Path
 
 from client import ABeat, DBeat, Ended, Interactive, beats_of
+from zuldegei.player import Player
 
 PUT_FULL, PUT_PARTIAL, ARITHMETIC, LOGICAL, GET, INTENT = range(6)
 REPLIES = (0, 0, 1, 1, 1, 2)  # the opcode of the reply to each: AccessAck, AccessAckData, HintAck
 WITH_DATA, LARGEST_OF_A_BEAT, LARGEST = 1, 3, 6
-CLIENTS, IDS = 2, 4
+CLIENTS, IDS, SOURCES = 2, 4, 16
 # TileLink pages 0 to 3 lead to AXI pages 10 to 13 (hexadecimal): two are good, one answers SLVERR, and one isn't there. Page 8 leads to
 # AXI page 10 for Gets alone. Pages 4 and 9, which are behind both regions, are in none.
 PAGE, READ_ONLY, NOWHERE, AXI, BYTES = 0x0000, 0x8000, 0x9000, 0x10000, 0x1000
@@ -208,19 +210,21 @@ class Bench:
         client = self.rng.randrange(CLIENTS)
         if not self.offered[client]:
             live = {beats[0].source for at, beats in self.wanted.values() if at == client}
-            source = self.rng.choice([it for it in range(16) if it not in live])
+            source = self.rng.choice([it for it in range(SOURCES) if it not in live])
             is_plain = not self.corners or self.rng.randrange(MOST_CORNERS) >= self.corners
             self.offered[client] = (random_request if is_plain else self.rng.choice(AT_CORNERS))(self.rng, source)
         beats = self.offered[client]
         answer = self.bridge.offer(client, beats[self.taken[client]])
-        if answer.kind == "notready":
-            return
-        last = self.taken[client] + 1 == len(beats)
+        if answer.kind != "notready":
+            self.took(client, answer, self.taken[client] + 1 == len(beats))
+
+    def took(self, client, answer, last):
+        """The bridge took the next beat of a client's request."""
         check(answer.kind == ("accepted" if last else "more"), f"a legal beat was answered {answer}")
         self.taken[client] += 1
         if last:
             check(answer.number == self.accepted, f"request {self.accepted} was told as {answer.number}")
-            reply = self.model.carry_out(client, beats)
+            reply = self.model.carry_out(client, self.offered[client])
             self.wanted[answer.number] = client, reply
             self.accepted += 1
             self.offered[client], self.taken[client] = [], 0
@@ -254,7 +258,11 @@ class Bench:
             check(of == client, f"client {client} was given the reply to request {reply.number} of client {of}")
             check(reply.beats == beats, f"request {reply.number}: {reply.beats}, not {beats}")
             self.replied += 1
+            self.replied_with(client, beats)
         return reply is not None
+
+    def replied_with(self, client, beats):
+        """A client was given a reply."""
 
     def moves(self, *left_out):
         """What is done by lot, each move as often as it stands there."""
@@ -270,6 +278,10 @@ class Bench:
             if self.corners and self.rng.randrange(MOOD_STEPS) == 0:
                 moves = self.rng.choice(moods)
             self.rng.choice(moves)()
+        self.end()
+
+    def end(self):
+        """Has all carried out that is under way, and compares what comes of it."""
         # (a drain makes steps for both sides, so nothing is to be performed after it)
         self.bridge.drain()
         check(self.bridge.work() == 0, "work is left after a drain")
@@ -280,6 +292,44 @@ class Bench:
         for at in PLACES:
             byte = self.bridge.byte(AXI + at)
             check(byte == self.model.memory[at], f"the byte at {AXI + at:x} is {byte}, not {self.model.memory[at]}")
+
+
+class Played(Bench):
+    """The requests of a stimulus in place of those by lot. Each step is a clock of its clients."""
+
+    def __init__(self, bridge, seed, lines):
+        super().__init__(bridge, seed, corners=0)
+        self.player = Player(lines, CLIENTS, SOURCES)
+
+    def offer(self):
+        port = self.rng.choice(self.player.ports)
+        if port.offer is None:
+            return
+        beats = self.offered[port.client] = self.offered[port.client][: self.taken[port.client]] + [port.offer]
+        answer = self.bridge.offer(port.client, port.offer)
+        if answer.kind != "notready":
+            is_last = len(beats) == beats_of(port.offer.size, port.offer.opcode < GET)
+            self.took(port.client, answer, is_last)
+            port.taken()
+
+    def taken_by(self, client):
+        port = self.player.ports[client]
+        return port.is_ready and super().taken_by(client)
+
+    def replied_with(self, client, beats):
+        for it in beats:
+            self.player.ports[client].heard(it.opcode, it.size, it.source)
+
+    def run(self, steps):
+        set_up(self.bridge)
+        moves = self.moves() + [self.take] * 3
+        for _ in range(steps):
+            self.player.clock()
+            self.rng.choice(moves)()
+            if self.player.is_over:
+                break
+        check(self.player.is_over, f"the stimulus isn't over in {steps} steps")
+        self.end()
 
 
 class Wrong(Exception):
@@ -323,6 +373,7 @@ def arguments():
     words.add_argument("--steps", type=int, default=1_000)
     words.add_argument("--corners", type=int, default=CORNERS, help=f"of 16 requests how many look for a corner ({CORNERS})")
     words.add_argument("--observed", type=Path, metavar="FILE", help="where the set-up and the trace go, as tlscore reads them")
+    words.add_argument("--play", type=Path, metavar="FILE", help="the requests are those of a stimulus, within so many steps")
     words.add_argument("--program", default="./tlbridge")
     words.add_argument("--in-process", action="store_true", help="the model of the library, in this process")
     given = words.parse_args()
@@ -336,7 +387,7 @@ def arguments():
 def main():
     given = arguments()
     with bridge_of(given) as bridge:
-        bench = Bench(bridge, given.seed, given.corners)
+        bench = Played(bridge, given.seed, given.play.open()) if given.play else Bench(bridge, given.seed, given.corners)
         why = tried(bench, given.steps)
         if why:
             print("\n".join(bridge.script))

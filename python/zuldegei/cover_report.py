@@ -17,6 +17,7 @@ from .whole import written
 FORMAT = "zuldegei-cover"
 VERSION = 1
 NAMED = 3  # bins that a row of the table names
+NOT_THIS = (ValueError, TypeError, KeyError, AttributeError, RecursionError)  # how JSON that has something else can't be read
 NAME = re.compile(r"[a-z-]+/[\w+/-]+", re.ASCII)
 PART = re.compile(r"(\d+)")
 
@@ -86,13 +87,17 @@ def cover_of(run: str, reader: Reader) -> Cover:
 def cover_of_json(text: str, name: str) -> Cover:
     """Reads what `json` wrote."""
     try:
-        found = json.loads(text)
-        if found[FORMAT] != VERSION:
-            raise ValueError("another format")
-        counts = [{a_name(it): count_of(entry) for it, entry in found[part].items()} for part in ("bins", "beside")]
-        return Cover(natural(found["runs"]), natural(found["beats"]), *counts)
-    except (ValueError, TypeError, KeyError, AttributeError, RecursionError) as why:
+        return cover_of_entry(json.loads(text))
+    except NOT_THIS as why:
         raise Fault(f"{name} isn't what zuldegei-cover --json writes, or zuldegei-regress --cover") from why
+
+
+def cover_of_entry(found: Dict[str, object]) -> Cover:
+    """Reads what the JSON of a cover has; what it hasn't is one of NOT_THIS."""
+    if found[FORMAT] != VERSION:
+        raise ValueError("another format")
+    counts = [{a_name(it): count_of(entry) for it, entry in found[part].items()} for part in ("bins", "beside")]
+    return Cover(natural(found["runs"]), natural(found["beats"]), *counts)
 
 
 def a_name(name: str) -> str:

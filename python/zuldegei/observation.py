@@ -9,6 +9,7 @@ from .forms import check_words, may_be_told
 
 A, D, AW, AR, W, B, R = BEATS = ("A", "D", "AW", "AR", "W", "B", "R")
 FIELDS = {A: 9, D: 8, AW: 5, AR: 5, W: 3, B: 2, R: 4}
+PAYLOAD_OF_A = 7  # its place among the fields of an A beat
 TIME, EVENT = "time", "="  # the first words of other lines
 RESET, DRAINED, END = EVENTS = ("reset", "drained", "end")
 NOT_TAKEN = ("noclient", "refused", "notready", "exhausted")
@@ -171,7 +172,7 @@ class Observation:
 
 def passed(lines: Iterable[str]) -> Iterator[Beat]:
     """The lines of an observation that say something, in their order, each in the form of a beat, with its first word for its kind. One of
-    channel A comes once the next one doesn't say that it wasn't taken."""
+    channel A comes once the next one doesn't say that it wasn't taken; but of one with an unknown field that says nothing."""
     now, waiting = None, None
     for number, line in enumerate(lines, 1):
         rest = line.split()
@@ -186,7 +187,7 @@ def passed(lines: Iterable[str]) -> Iterator[Beat]:
             now = int(rest[0]) if kind == TIME else now
         except ValueError as why:
             raise fault_of(Beat(number, now, kind, rest), why) from why
-        if kind == A:
+        if kind == A and UNKNOWN.isdisjoint("".join(rest[:PAYLOAD_OF_A] + rest[PAYLOAD_OF_A + 1 :])):
             waiting = Beat(number, now, kind, rest)
         else:
             yield Beat(number, now, kind, rest)

@@ -1,4 +1,4 @@
-"""zuldegei-regress: many observations, or commands that print them, judged side by side: a table, JUnit XML and JSON."""
+"""zuldegei-regress: many observations, or commands that print them, judged side by side or in parts: a table, JUnit XML and JSON."""
 
 import argparse
 import contextlib
@@ -12,12 +12,12 @@ import signal
 import subprocess
 import sys
 import tempfile
-import threading
 import time
 from collections import Counter
+from dataclasses import replace
 from concurrent.futures import FIRST_COMPLETED, Future, ThreadPoolExecutor, wait
 from pathlib import Path
-from typing import BinaryIO, Callable, Dict, Iterator, List, Optional, Sequence, Set, TextIO, Tuple
+from typing import BinaryIO, Callable, Dict, Iterator, List, NamedTuple, Optional, Sequence, Set, TextIO, Tuple
 from urllib.parse import quote_plus
 
 from .beside import Beside, Helpers, Request
@@ -25,15 +25,19 @@ from .command import Fault, Status, Words, ended, naming, one_line, reason, tell
 from .cover import CLOCK
 from .cover_report import Cover, withouts_of
 from .observation import Verdict, plural, verdict_of
-from .reports import Asked, Covered, Job, Outcome, Report, State
+from .parts import MOST_PARTS, Call, merged
+from .reports import MOST_SEEDS, Asked, Covered, Job, Outcome, Part, Report, State
+from .slurm import Array
 from .times import counting
 from .waivers import Waivers
 
 NAME = "zuldegei-regress"
-MOST_SEEDS, MOST_AT_ONCE, MOST_SECONDS = 1_000_000, 1024, 10**9
+MOST_AT_ONCE, MOST_SECONDS = 1024, 10**9
 MOST_OF_A_LINE, CHUNK = 128, 1 << 20  # bytes
 LONGEST_NAME, KEPT_OF_A_NAME = 100, 60  # characters of a file's name
 SEEDS = re.compile(r"([0-9]{1,20})(?:-([0-9]{1,20}))?")
+PART = re.compile(r"([0-9]{1,5})/([0-9]{1,5})")
+TO_MERGE = ("merge", "junit", "json", "cover")  # the words of a call that makes no run
 MORE = """
 Each RUN is a file that tlscore reads, or, by --command, a command for a shell that prints one; {seed} in it is each seed of --seeds in
 turn. The set-up of --setup is put ahead of each. A run is
@@ -48,10 +52,10 @@ turn. The set-up of --setup is put ahead of each. A run is
   waived     all that is wrong in it is waived by --waive FILE
   unjudged   the call was interrupted, or couldn't go on, before this run was judged
 
-Status 0: all are right or waived; 1: one is wrong or slow; 2: none is, and one isn't right or waived; 3: no run could be made, as where
-tlscore isn't there, or a file that was asked for couldn't be written; 6: a word that it doesn't know; 130: interrupted, by SIGINT or
-SIGTERM. Table, JUnit and JSON tell all that was judged, however the call ends, and name the rest. JUnit, JSON and the folder of --keep
-are opened ahead of the first run.
+Status 0: all are right or waived; 1: one is wrong or slow; 2: none is, and one isn't right or waived, or a part is missing; 3: no run
+could be made, as where tlscore isn't there, or a file that was asked for couldn't be written; 6: a word that it doesn't know; 130:
+interrupted, by SIGINT or SIGTERM. Table, JUnit and JSON tell all that was judged, however the call ends, and name the rest. JUnit, JSON and
+the folder of --keep are opened ahead of the first run.
 
 A line of --waive FILE is `KIND RULE client N REASON`, or `KIND RULE pages FIRST COUNT REASON` with FIRST in hexadecimal, such as
 
@@ -68,31 +72,41 @@ has them.
 With --keep FOLDER the observation and the verdict of each run that isn't right are kept there, for zuldegei-explain, as NAME.lines and
 NAME.told: NAME is the run's, with + for a space and %2F for /, and so for other characters; of a name of more than 100 characters it
 is a sum and the last 60; and behind the second run of one name stands =2.
+
+By --part I/N it judges the Ith of N parts: of all runs the Ith, and each Nth behind it. --merge joins what parts wrote by --json, in any
+order, and the table, JUnit, JSON and counts are those of one call, but for times:
+
+  zuldegei-regress --seeds 1-200 --command 'vvp bench +seed={seed}' --part 3/8 --json night/part-3.json
+  zuldegei-regress --merge night/part-*.json --junit night.xml
+
+A part that is missing, cut or interrupted is named, as `part 3 of 8: missing`, and its runs are unjudged. It can be made again alone, and
+all merged. Parts of another call, and a part that is there twice, are refused.
+
+With --slurm N Slurm makes N parts, as an array of jobs, and they are joined once all have ended. What they wrote goes into FOLDER of
+--parts, which all machines must see: of part 3 part-3.json and part-3.log. `sh FOLDER/part.sh 3` makes it again.
 """
 
 
 class Keeper:
-    """Keeps files of runs in a folder, under names that no two runs share."""
+    """Keeps files of runs in a folder, under names that no two runs share, be they of other parts."""
 
-    def __init__(self, folder: Path):
-        self.folder, self.lock = folder, threading.Lock()
-        self.names: "Counter[str]" = Counter()
+    def __init__(self, folder: Path, asked: Asked):
+        self.folder, self.asked = folder, asked
         folder.mkdir(parents=True, exist_ok=True)
         with naming(folder), tempfile.TemporaryFile(dir=folder):
             pass  # a file can be made there
 
-    def name(self, run: str) -> str:
+    def name(self, job: Job) -> str:
         """What the files of a run are called."""
-        name = quote_plus(run.encode(errors="surrogateescape"))
+        name = quote_plus(job.name.encode(errors="surrogateescape"))
         if len(name) > LONGEST_NAME:
             name = f"{hashlib.sha256(name.encode()).hexdigest()[:32]}={name[-KEPT_OF_A_NAME:]}"
-        with self.lock:
-            self.names[name] += 1
-            return name if self.names[name] == 1 else f"{name}={self.names[name]}"
+        number = self.asked.number(job)
+        return name if number == 1 else f"{name}={number}"
 
-    def keep(self, run: str, joined: Path, verdict: str) -> str:
+    def keep(self, job: Job, joined: Path, verdict: str) -> str:
         """Keeps an observation and its verdict; why it can't, if it can't, and then it leaves neither."""
-        name = self.name(run)
+        name = self.name(job)
         lines, told = (self.folder / f"{name}{end}" for end in (".lines", ".told"))
         try:
             with naming(lines), lines.open("wb") as file:
@@ -154,7 +168,7 @@ class Runner:
         made = told(job, state, verdict, why, time.monotonic() - began)
         made = self.with_beside(Request(self.beside, made, joined, verdict), until)
         if self.keeper and made.state is not State.RIGHT:
-            return made._replace(unkept=self.keeper.keep(job.name, joined, verdict))
+            return made._replace(unkept=self.keeper.keep(job, joined, verdict))
         return made
 
     def too_long(self) -> str:
@@ -284,32 +298,39 @@ def take_ended(ended_now: Set[Future], running: Set[Future], take: Callable[[Out
 
 
 class Progress:
-    """A line on a terminal that says how many runs have ended, and how."""
+    """A line on a terminal that says how far it is."""
 
-    def __init__(self, count: int, stream: TextIO):
-        self.count, self.stream, self.is_shown = count, stream, stream.isatty()
-        self.made = self.bad = 0
+    def __init__(self, stream: TextIO):
+        self.stream, self.is_shown = stream, stream.isatty()
 
-    def show(self, outcome: Outcome) -> None:
-        self.made, self.bad = self.made + 1, self.bad + (outcome.state is not State.RIGHT)
+    def show(self, text: str) -> None:
         if self.is_shown:
-            print(f"\r{NAME}: {self.made} of {self.count}, {self.bad} not right ", end="", file=self.stream, flush=True)
+            print(f"\r{NAME}: {text} ", end="", file=self.stream, flush=True)
 
     def close(self) -> None:
         if self.is_shown:
             print("\r\x1b[K", end="", file=self.stream, flush=True)
 
 
-def all_made(asked: Asked, runner: Runner, at_once: int, covered: Optional[Covered]) -> Tuple[Report, Optional[BaseException]]:
-    """What came of all runs, and what ended them ahead of their end, if anything did."""
-    began, progress, stopped = time.monotonic(), Progress(len(asked), sys.stderr), None
+class Made(NamedTuple):
+    """What came of a call's runs, and what ended them ahead of their end, if anything did."""
+
+    report: Report
+    stopped: Optional[BaseException] = None
+
+
+def made_here(asked: Asked, runner: Runner, at_once: int, covered: Optional[Covered], call: Optional[Dict[str, object]]) -> Made:
+    """Makes all runs."""
+    began, progress, stopped = time.monotonic(), Progress(sys.stderr), None
     made: Dict[int, Outcome] = {}
+    ends: "Counter[State]" = Counter()
 
     def take(outcome: Outcome) -> None:
         if covered and outcome.cover:
             covered.cover.add(outcome.cover)
         made[outcome.job.place] = outcome._replace(cover=None)
-        progress.show(outcome)
+        ends[outcome.state] += 1
+        progress.show(f"{len(made)} of {len(asked)}, {len(made) - ends[State.RIGHT]} not right")
 
     try:
         make(asked, runner, at_once, take)
@@ -318,8 +339,21 @@ def all_made(asked: Asked, runner: Runner, at_once: int, covered: Optional[Cover
     runner.helpers.close()
     progress.close()
     name = "" if stopped is None else "interrupted" if isinstance(stopped, KeyboardInterrupt) else type(stopped).__name__
+    why = [f"regress ended before it was judged: {name}" if name else ""]
     waivers = runner.beside.waivers.all if runner.beside.waivers else ()
-    return Report(asked, made, time.monotonic() - began, f"regress ended before it was judged: {name}", waivers, covered), stopped
+    return Made(Report(asked, made, time.monotonic() - began, why, waivers, covered, call=call), stopped)
+
+
+def made_by(array: Array, call: Call) -> Made:
+    """Has Slurm make all parts, and merges them."""
+    progress, stopped = Progress(sys.stderr), None
+    try:
+        array.run(lambda count: progress.show(f"{count} of {array.of} parts have ended"))
+    except BaseException as why:
+        stopped = why
+    progress.close()
+    report = merged(array.files(), call, array.of)
+    return Made(replace(report, lacking=list(array.said(report.lacking))), stopped)
 
 
 class Output:
@@ -356,6 +390,26 @@ def unkept(report: Report) -> str:
     return (found[0] + (f", and {len(found) - 1} more runs weren't kept" if found[1:] else "")) if found else ""
 
 
+class Outputs:
+    """The files that are asked for."""
+
+    def __init__(self, given: argparse.Namespace):
+        self.junit, self.json, self.cover = (Output(it) for it in (given.junit, given.json, given.cover))
+
+    def told(self, made: Made) -> int:
+        """Writes them, and prints the table; gives the status."""
+        report, stopped = made
+        failures = [self.junit.write(report.junit()), self.json.write(report.json()), self.cover.write(report.reached())]
+        said = "; ".join(filter(None, [*failures, printed(report.table()), unkept(report)]))
+        if stopped is not None:
+            if said:
+                tell(f"{NAME}: {one_line(said)}")
+            raise stopped
+        if said:
+            raise Fault(said, Status.CANNOT)
+        return report.status()
+
+
 def seeds_of(text: str) -> List[range]:
     """The seeds of a list as 1-20,33."""
     ranges, count = [], 0
@@ -371,6 +425,31 @@ def seeds_of(text: str) -> List[range]:
             raise argparse.ArgumentTypeError(f"{text[:50]!r} has more than {MOST_SEEDS:,} seeds")
         ranges.append(range(first, last + 1))
     return ranges
+
+
+def part_of(text: str) -> Part:
+    """A part, as 3/8."""
+    found = PART.fullmatch(text)
+    part = Part(int(found[1]), int(found[2])) if found else Part(0, 0)
+    if not 1 <= part.number <= part.of <= MOST_PARTS:
+        raise argparse.ArgumentTypeError(f"{text[:40]!r} is no part: 3/8 is the third of 8, and there are {MOST_PARTS:,} at the most")
+    return part
+
+
+def count_of_parts(text: str) -> int:
+    """How many parts there are."""
+    count = counting(text)
+    if count > MOST_PARTS:
+        raise argparse.ArgumentTypeError(f"there are {MOST_PARTS:,} parts at the most")
+    return count
+
+
+def shell_words(text: str) -> List[str]:
+    """Words as a shell has them."""
+    try:
+        return shlex.split(text)
+    except ValueError as why:
+        raise argparse.ArgumentTypeError(f"{text[:40]!r} aren't words of a shell") from why
 
 
 def setup_of(path: str) -> bytes:
@@ -405,7 +484,7 @@ def all_words() -> Words:
     words.add_argument("runs", nargs="*", metavar="RUN", help="a file that tlscore reads")
     words.add_argument("--command", help="a command that prints an observation")
     words.add_argument("--seeds", type=seeds_of, default=[], metavar="LIST", help="as 1-20,33: 1,000,000 at the most")
-    words.add_argument("-j", "--jobs", type=int, default=os.cpu_count() or 1, help="how many runs at once (one a processor)")
+    words.add_argument("-j", "--jobs", type=int, help="how many runs at once (one a processor; by --slurm 1 in each part)")
     words.add_argument("--score", help="the scoreboard (what TLSCORE names, else tlscore)")
     words.add_argument("--setup", metavar="FILE", help="set-up lines that are put ahead of each run")
     words.add_argument("--timeout", type=float, default=600, metavar="SECONDS", help="for a run, its verdict and what else is asked of it (600)")
@@ -417,40 +496,90 @@ def all_words() -> Words:
     words.add_argument("--without", type=Path, metavar="FILE", help="which bins are left out of the numbers of --cover, and why")
     words.add_argument("--clock", type=counting, metavar="UNITS", help=f"for --cover, {CLOCK}")
     words.add_argument("--keep", metavar="FOLDER", help="where runs that aren't right are kept")
+    words.add_argument("--part", type=part_of, metavar="I/N", help="judge the Ith of N parts of the runs, for --merge")
+    words.add_argument("--merge", nargs="+", metavar="FILE", help="join what parts wrote by --json")
+    words.add_argument("--slurm", type=count_of_parts, metavar="N", help="have Slurm make N parts, and join them")
+    words.add_argument("--parts", type=Path, metavar="FOLDER", help="where the parts of --slurm go")
+    words.add_argument("--sbatch", type=shell_words, metavar="WORDS", help="more words for sbatch, as --sbatch='--partition=night --time=60'")
     return words
 
 
 def given_of(arguments: Sequence[str]) -> argparse.Namespace:
-    """The words, where they ask for a run."""
+    """The words, where they ask for something."""
     words = all_words()
     given = words.parse_args(arguments)
-    if not given.runs and given.command is None or given.seeds and "{seed}" not in (given.command or ""):
-        words.error("it takes a RUN or a --command, with {seed} where there are --seeds")
-    if given.cover is None and (given.without, given.clock) != (None, None):
-        words.error("--without and --clock are for --cover")
-    if not 1 <= given.jobs <= MOST_AT_ONCE or not 0 < given.timeout <= MOST_SECONDS:
-        words.error(f"it makes 1 to {MOST_AT_ONCE:,} runs at once, and a run takes some time, of {MOST_SECONDS:,} seconds at the most")
+    said = said_of_merge(words, given) if given.merge else said_of_runs(given) or said_of_parts(given)
+    if said:
+        words.error(said)
     return given
+
+
+def said_of_merge(words: Words, given: argparse.Namespace) -> str:
+    """Why words don't ask for a merge, if they don't."""
+    others = {name: value for name, value in vars(given).items() if name not in TO_MERGE and value != []}
+    if any(value != words.get_default(name) for name, value in others.items()):
+        return "--merge makes no run: with it go --junit, --json and --cover alone"
+    outputs = {os.path.realpath(it) for it in (given.junit, given.json, given.cover) if it}
+    taken = next((it for it in given.merge if os.path.realpath(it) in outputs), None)
+    return f"{taken} is a part, and would be written over" if taken else ""
+
+
+def said_of_runs(given: argparse.Namespace) -> str:
+    """Why words don't ask for runs, if they don't."""
+    if not given.runs and given.command is None or given.seeds and "{seed}" not in (given.command or ""):
+        return "it takes a RUN or a --command, with {seed} where there are --seeds"
+    if given.cover is None and (given.without, given.clock) != (None, None):
+        return "--without and --clock are for --cover"
+    if given.jobs is not None and not 1 <= given.jobs <= MOST_AT_ONCE or not 0 < given.timeout <= MOST_SECONDS:
+        return f"it makes 1 to {MOST_AT_ONCE:,} runs at once, and a run takes some time, of {MOST_SECONDS:,} seconds at the most"
+    return ""
+
+
+def said_of_parts(given: argparse.Namespace) -> str:
+    """Why words don't ask for parts, if they do so otherwise than they may."""
+    if given.part and (given.slurm or given.json is None):
+        return "--part goes with --json, for --merge, and without --slurm"
+    if (given.slurm is None) != (given.parts is None) or given.sbatch and not given.slurm:
+        return "--slurm goes with --parts, and --parts and --sbatch with --slurm"
+    return ""
+
+
+def words_of_part(given: argparse.Namespace) -> List[str]:
+    """The words by which each part of a call makes its runs."""
+    seeds = ",".join(f"{it[0]}-{it[-1]}" for it in given.seeds) or None
+    values = {"command": given.command, "seeds": seeds, "jobs": given.jobs or 1, "cover": "/dev/null" if given.cover else None}
+    others = ("score", "setup", "timeout", "late", "waive", "without", "clock", "keep")
+    values.update({name: getattr(given, name) for name in others})
+    return [*(f"--{name}={value}" for name, value in values.items() if value is not None), "--", *given.runs]
+
+
+def merge(given: argparse.Namespace) -> int:
+    """Joins parts."""
+    report = merged(given.merge)
+    if given.cover and not report.covered:
+        raise Fault("no part counted what its runs reached: each takes --cover for that")
+    return Outputs(given).told(Made(report))
 
 
 def work(arguments: Sequence[str]) -> int:
     """Does what the words ask for. What was judged is told, however it ends."""
     given = given_of(arguments)
+    if given.merge:
+        return merge(given)
     score, setup = score_of(given.score), setup_of(given.setup) if given.setup else b""
     beside = Beside(given.late, Waivers(given.waive) if given.waive else None, bool(given.cover), given.clock)
     covered = Covered(Cover(), withouts_of(given.without) if given.without else []) if given.cover else None
-    junit, json, cover = Output(given.junit), Output(given.json), Output(given.cover)
-    runner = Runner(score, setup, given.timeout, Keeper(Path(given.keep)) if given.keep else None, beside)
-    report, stopped = all_made(Asked(given.runs, given.command, given.seeds), runner, given.jobs, covered)
-    failures = [junit.write(report.junit()), json.write(report.json()), cover.write(report.reached()), printed(report.table()), unkept(report)]
-    said = "; ".join(filter(None, failures))
-    if stopped is not None:
-        if said:
-            tell(f"{NAME}: {one_line(said)}")
-        raise stopped
-    if said:
-        raise Fault(said, Status.CANNOT)
-    return report.status()
+    asked = Asked(given.runs, given.command, given.seeds, given.part)
+    call = Call.of(asked, setup, beside, covered.withouts if covered else None)
+    if given.slurm:
+        array = Array(NAME, given.slurm, given.parts, given.jobs or 1, given.sbatch or [])
+        outputs = Outputs(given)
+        array.prepare(words_of_part(given))
+        return outputs.told(made_by(array, call))
+    outputs = Outputs(given)
+    runner = Runner(score, setup, given.timeout, Keeper(Path(given.keep), asked) if given.keep else None, beside)
+    at_once = given.jobs or os.cpu_count() or 1
+    return outputs.told(made_here(asked, runner, at_once, covered, call.entry if given.part else None))
 
 
 def main() -> int:

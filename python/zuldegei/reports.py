@@ -1,4 +1,6 @@
-"""What is told of many runs: a table, JUnit XML and JSON. The files are made piece by piece, however many runs there are."""
+"""What is told of many runs: a table, JUnit XML and JSON. The files are made piece by piece, however many runs there are. The JSON of a part
+of a call has all that is needed to make these of all parts together.
+"""
 
 import enum
 import itertools
@@ -14,7 +16,8 @@ from .command import Status, one_line
 from .cover_report import Cover, Shown, Without
 from .waivers import Waiver
 
-MOST_NAMED, LONGEST = 20, 4096  # runs that weren't judged and that the table names, and characters of a name
+MOST_SEEDS = 1_000_000
+MOST_NAMED, LONGEST = 20, 4096  # runs and parts that aren't there and that the table names, and characters of a name
 
 
 class State(enum.Enum):
@@ -44,26 +47,56 @@ class Job(NamedTuple):
     seed: Optional[int] = None
 
 
+class Part(NamedTuple):
+    """One of so many parts of a call, numbered from 1: each has every so manyth run."""
+
+    number: int
+    of: int
+
+    def __str__(self) -> str:
+        return f"part {self.number} of {self.of}"
+
+
 @dataclass
 class Asked:
-    """The runs that are asked for: files, and of a command one run for each seed."""
+    """The runs that are asked for: files, and of a command one run for each seed; or a part of these."""
 
     files: Sequence[str]
     command: Optional[str]
     seeds: Sequence[range]
+    part: Optional[Part] = None
 
-    def __len__(self) -> int:
+    @property
+    def count(self) -> int:
+        """How many there are in all parts."""
         return len(self.files) + (0 if self.command is None else sum(map(len, self.seeds)) if self.seeds else 1)
 
+    def places(self) -> range:
+        """Their places among those of all parts."""
+        return range(self.count) if self.part is None else range(self.part.number - 1, self.count, self.part.of)
+
+    def __len__(self) -> int:
+        return len(self.places())
+
     def __iter__(self) -> Iterator[Job]:
-        for place, file in enumerate(self.files):
-            yield Job(place, file, file=file)
-        if self.command is None:
-            return
-        if not self.seeds:
-            yield Job(len(self.files), self.command, command=self.command)
-        for place, seed in enumerate(itertools.chain(*self.seeds), len(self.files)):
+        places, files = self.places(), len(self.files)
+        of_files = range(places.start, files, places.step)
+        for place in of_files:
+            yield Job(place, self.files[place], file=self.files[place])
+        rest = places[len(of_files) :]
+        if rest and not self.seeds:
+            yield Job(files, self.command, command=self.command)
+        seeds = itertools.islice(itertools.chain(*self.seeds), rest.start - files, None, rest.step)
+        for place, seed in zip(rest, seeds):
             yield Job(place, f"seed {seed}", command=self.command.replace("{seed}", str(seed)), seed=seed)
+
+    def number(self, job: Job) -> int:
+        """Which run of its name it is among those of all parts, from 1."""
+        ahead, count = job.place - len(self.files), 1 + self.files[: job.place].count(job.name)
+        for seeds in self.seeds if job.seed is not None else ():
+            count += job.seed in seeds[: max(0, ahead)]
+            ahead -= len(seeds)
+        return count
 
 
 class Outcome(NamedTuple):
@@ -104,6 +137,10 @@ class Outcome(NamedTuple):
         kept = {name: getattr(self, name) for name in names}
         return {"run": self.job.name, "seed": self.job.seed, "status": self.state.value, "seconds": round(self.seconds, 3), **kept}
 
+    def part_entry(self) -> Dict[str, object]:
+        """What the JSON of a part has of it: all but its cover, which is that of all runs together."""
+        return {**self.entry(), "waivers": self.waivers, "unkept": self.unkept}
+
 
 @dataclass
 class Covered:
@@ -122,21 +159,30 @@ class Covered:
         return {"runs": self.cover.runs, "beats": self.cover.beats, "bins": len(self.shown.counts), "hit": self.shown.hit}
 
 
+class Lacking(NamedTuple):
+    """A part that isn't there as a whole, or a file that is none, and why."""
+
+    what: str
+    why: str
+
+
 @dataclass
 class Report:
-    """What came of the runs that are asked for, by their places, and why the others weren't judged."""
+    """What came of the runs that are asked for, by their places."""
 
     asked: Asked
     made: Dict[int, Outcome]
     seconds: float
-    stopped: str = ""
+    stopped: Sequence[str] = ("",)  # of each part why a run of it wasn't judged, where one wasn't
     waivers: Sequence[Waiver] = ()
     covered: Optional[Covered] = None
+    lacking: Sequence[Lacking] = ()
+    call: Optional[Dict[str, object]] = None  # where this is a part, what it has in common with the others
 
     def outcomes(self) -> Iterator[Outcome]:
         """What came of each run, in the order in which they were asked for."""
         for job in self.asked:
-            yield self.made.get(job.place) or Outcome(job, State.UNJUDGED, why=self.stopped)
+            yield self.made.get(job.place) or Outcome(job, State.UNJUDGED, why=self.stopped[job.place % len(self.stopped)])
 
     def count(self, state: State) -> int:
         if state is State.UNJUDGED:
@@ -147,7 +193,8 @@ class Report:
         """The status of all runs together."""
         if self.count(State.WRONG) or self.count(State.SLOW):
             return Status.WRONG
-        return Status.DONE if self.count(State.RIGHT) + self.count(State.WAIVED) == len(self.asked) else Status.FAULT
+        are_all_good = self.count(State.RIGHT) + self.count(State.WAIVED) == len(self.asked)
+        return Status.DONE if are_all_good and not self.lacking else Status.FAULT
 
     def met(self) -> Iterator[Tuple[Waiver, int]]:
         """Each waiver, and how many lines it waived."""
@@ -171,6 +218,11 @@ class Report:
         for waiver, count in self.met():
             yield f"{f'waived {count}' if count else 'met nothing'}: {waiver_text(waiver)}\n"
         yield from self.coverage()
+        yield from (f"{one_line(it.what)}: {one_line(it.why)}\n" for it in self.lacking[:MOST_NAMED])
+        if len(self.lacking) > MOST_NAMED:
+            yield f"and {len(self.lacking) - MOST_NAMED} more parts or files\n"
+        if self.asked.part:
+            yield f"{self.asked.part}: {len(self.asked)} of {self.asked.count} runs\n"
         yield f"{len(self.asked)} runs: {self.counts()}\n"
 
     def coverage(self) -> Iterator[str]:
@@ -204,7 +256,7 @@ class Report:
 
     def junit(self) -> Iterator[str]:
         """JUnit XML: a wrong run or a slow one is a failure, one that is waived is skipped, and one that couldn't be judged, or wasn't, an
-        error. What each waiver waived is a property, and so is what the runs reached."""
+        error. What each waiver waived is a property, and so is what the runs reached, and each part that isn't there as a whole."""
         bad, waived, count = self.count(State.WRONG) + self.count(State.SLOW), self.count(State.WAIVED), len(self.asked)
         errors = count - bad - waived - self.count(State.RIGHT)
         counts = f'tests="{count}" failures="{bad}" errors="{errors}" time="{self.seconds:.3f}"'
@@ -219,7 +271,8 @@ class Report:
     def properties(self) -> List[Tuple[str, str]]:
         """What is said of all runs together: each a name and a value."""
         found = [(waiver_text(waiver), f"waived {count}" if count else "met nothing") for waiver, count in self.met()]
-        return found + ([("covered", self.covered.shown.reached())] if self.covered else [])
+        found += [("covered", self.covered.shown.reached())] if self.covered else []
+        return found + [(one_line(it.what), one_line(it.why)) for it in self.lacking]
 
     def reached(self) -> Iterator[str]:
         """What the runs reached, for zuldegei-cover."""
@@ -228,13 +281,29 @@ class Report:
 
     def json(self) -> Iterator[str]:
         """JSON: the seconds of all, what each waiver waived, what the runs reached, and an entry for each run."""
-        waivers = [{"place": it.place, "what": it.what(), "reason": it.reason, "waived": count} for it, count in self.met()]
-        listed = f' "waivers": {json.dumps(waivers)},\n' if self.waivers else ""
-        listed += f' "covered": {json.dumps(self.covered.entry())},\n' if self.covered else ""
-        yield f'{{\n "seconds": {round(self.seconds, 3)},\n{listed} "runs": ['
+        yield f'{{\n "seconds": {round(self.seconds, 3)},\n'
+        yield from (f" {json.dumps(name)}: {json.dumps(entry)},\n" for name, entry in self.heads())
+        yield ' "runs": ['
         for at, it in enumerate(self.outcomes()):
-            yield f"{',' if at else ''}\n{textwrap.indent(json.dumps(it.entry(), indent=1), '  ')}"
+            entry = it.part_entry() if self.asked.part else it.entry()
+            yield f"{',' if at else ''}\n{textwrap.indent(json.dumps(entry, indent=1), '  ')}"
         yield "\n ]\n}\n"
+
+    def heads(self) -> Iterator[Tuple[str, object]]:
+        """What the JSON has ahead of the runs, where there is any of it."""
+        if self.asked.part:
+            yield "part", self.part_entry()
+        if self.waivers:
+            yield "waivers", [{"place": it.place, "what": it.what(), "reason": it.reason, "waived": count} for it, count in self.met()]
+        if self.covered:
+            yield "covered", self.covered.entry()
+        if self.lacking:
+            yield "lacking", [it._asdict() for it in self.lacking]
+
+    def part_entry(self) -> Dict[str, object]:
+        """Which part it is, of which call, why a run of it wasn't judged, and what its runs reached."""
+        reached = json.loads(self.covered.cover.json()) if self.covered else None
+        return {**self.asked.part._asdict(), "call": self.call, "stopped": self.stopped[0], "reached": reached}
 
 
 def name_of(it: Outcome) -> str:

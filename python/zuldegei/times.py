@@ -1,4 +1,4 @@
-"""zuldegei-times: how long requests and bursts took, how many were in flight, and what took too long."""
+"""zuldegei-times: how long requests and bursts took, how many were in flight, what took too long, and how long beats waited for ready."""
 
 import argparse
 import json
@@ -8,8 +8,9 @@ from typing import Dict, Iterator, List, Optional, Sequence
 
 from .command import Fault, Status, Words, ended, words_of
 from .latency import Latencies, Times
-from .observation import plural
-from .one_pass import opened
+from .observation import Beat
+from .one_pass import opened, read
+from .wait_times import Waits
 from .whole import written
 
 NAME = "zuldegei-times"
@@ -29,6 +30,9 @@ Of each client's operations, and of the reads and writes of the AXI4 port, it pr
 A clock is the least step between two times, unless --clock says how long it is. What a reset cuts, and what isn't answered at the
 end, counts as in flight and isn't among the answered.
 
+Where lines `waited PORT CLOCKS` stand in it, it prints of each port for how many clocks its beats waited for ready, 0 where no line
+says so, which waited longest first, and a histogram. These are clocks, and no units of time; no --late looks at them.
+
 With --late N each request and each burst that took longer than N is told, the first to begin first, answered or not:
 
   = late 229 client 0 source 13 at 2215 answered after 1290: PutFull of 2 bytes at 00001fe0
@@ -47,8 +51,9 @@ def counting(text: str) -> int:
 class Tables:
     """What is told of an observation, as text and as JSON."""
 
-    def __init__(self, found: Latencies, clock: Optional[int]):
+    def __init__(self, found: Latencies, waits: Waits, clock: Optional[int]):
         self.found = found
+        self.waits = waits.ports()
         self.clock = clock or found.step or 1
         self.clocks = (found.now - found.first) / self.clock + 1
         self.kinds = sorted(found.kinds.items())
@@ -62,22 +67,24 @@ class Tables:
         for name, it in self.kinds:
             numbers = (it.count, it.least, it.part(5), it.part(9), it.most)
             yield f"{name:{wide}} {' '.join(f'{number:7}' for number in numbers)}  {it.bytes / self.clocks:13.3f}"
-        yield from self.histograms(wide)
+        yield from histograms("how many took", wide, {name: it.histogram() for name, it in self.kinds})
         if self.sides:
             yield f"{'in flight':{wide}} average    most"
         for name, load in self.sides:
             yield f"{name:{wide}} {self.average(load.total):7.3f} {load.most:7}"
+        yield from self.waited(wide)
         yield f"from {self.found.first} to {self.found.now}, with a clock of {self.clock}"
 
-    def histograms(self, wide: int) -> Iterator[str]:
-        """How many took how long: a column for each power of two, from the least that any took to the most."""
-        counts = {name: it.histogram() for name, it in self.kinds}
-        used = sorted({least for it in counts.values() for least in it})
-        columns = [it for it in (0, *(1 << at for at in range(65))) if used and used[0] <= it <= used[-1]]
-        if columns:
-            yield f"{'how many took':{wide}} {' '.join(f'{it:>7}' for it in columns)}"
-        for name, it in counts.items():
-            yield f"{name:{wide}} {' '.join(f'{it.get(least, 0):7}' for least in columns)}"
+    def waited(self, wide: int) -> Iterator[str]:
+        """How many clocks beats waited, by port."""
+        if self.waits:
+            yield f"{'waited, clocks':{wide}} {'beats':>7} {'least':>7} {'half':>7} {'9 of 10':>7} {'most':>7}  first"
+        for name, it in self.waits:
+            times, longest = it.times, it.longest
+            numbers = (times.count, times.least, times.part(5), times.part(9), times.most)
+            first = f"  line {longest.line} at {longest.time}" if longest else ""
+            yield f"{name:{wide}} {' '.join(f'{number:7}' for number in numbers)}{first}"
+        yield from histograms("of these beats", wide, {name: it.times.histogram() for name, it in self.waits})
 
     def average(self, total: int) -> float:
         """How many were in flight on average, of which all together were so long."""
@@ -99,13 +106,12 @@ class Tables:
             late = {"late": {"limit": found.watch.limit, "count": found.watch.count, "first": self.late_entries()}}
         kinds = {name: self.kind_entry(it) for name, it in self.kinds}
         sides = {name: {"average": round(self.average(it.total), 6), "most": it.most} for name, it in self.sides}
-        return {"begin": found.first, "end": found.now, "clock": self.clock, "answered": kinds, "in flight": sides, **late}
+        waits = {name: {**numbers_of(it.times), "longest": it.longest and it.longest.line} for name, it in self.waits}
+        more = {**({"waited": waits} if waits else {}), **late}
+        return {"begin": found.first, "end": found.now, "clock": self.clock, "answered": kinds, "in flight": sides, **more}
 
     def kind_entry(self, it: Times) -> Dict[str, object]:
-        numbers = {"count": it.count, "least": it.least, "half": it.part(5), "9 of 10": it.part(9), "most": it.most}
-        mean, bytes_a_clock = round(it.total / it.count, 6), round(it.bytes / self.clocks, 6)
-        histogram = {str(least): count for least, count in it.histogram().items()}
-        return {**numbers, "mean": mean, "bytes": it.bytes, "bytes a clock": bytes_a_clock, "histogram": histogram}
+        return {**numbers_of(it), "bytes": it.bytes, "bytes a clock": round(it.bytes / self.clocks, 6)}
 
     def late_entries(self) -> List[Dict[str, object]]:
         now = self.found.now
@@ -115,13 +121,48 @@ class Tables:
         ]
 
 
-def latencies_of(path: str, late: Optional[int], most: int) -> Latencies:
-    """How long what a file has took."""
+def numbers_of(it: Times) -> Dict[str, object]:
+    """What the JSON has of times."""
+    numbers = {"count": it.count, "least": it.least, "half": it.part(5), "9 of 10": it.part(9), "most": it.most}
+    histogram = {str(least): count for least, count in it.histogram().items()}
+    return {**numbers, "mean": round(it.total / it.count, 6), "histogram": histogram}
+
+
+def histograms(title: str, wide: int, counts: Dict[str, Dict[int, int]]) -> Iterator[str]:
+    """How many took how long: a column for each power of two, from the least that any took to the most."""
+    used = sorted({least for it in counts.values() for least in it})
+    columns = [it for it in (0, *(1 << at for at in range(65))) if used and used[0] <= it <= used[-1]]
+    if columns:
+        yield f"{title:{wide}} {' '.join(f'{it:>7}' for it in columns)}"
+    for name, it in counts.items():
+        yield f"{name:{wide}} {' '.join(f'{it.get(least, 0):7}' for least in columns)}"
+
+
+class Found:
+    """Takes an observation: how long what it has took, and how long beats waited."""
+
+    def __init__(self, late: Optional[int], most: int):
+        self.latencies, self.waits = Latencies(late, most), Waits()
+
+    def take(self, it: Beat) -> None:
+        """Takes a line."""
+        self.latencies.take(it)
+        self.waits.take(it)
+
+    def finish(self) -> None:
+        """The observation is over."""
+        self.latencies.finish()
+
+
+def found_in(path: str, late: Optional[int], most: int) -> Found:
+    """What a file has."""
+    found = Found(late, most)
     with opened(path) as file:
         try:
-            return Latencies(late, most).take_all(file)
+            read(file, found)
         except Fault as why:
             raise Fault(f"{path}: {why}") from why
+    return found
 
 
 def all_words() -> Words:
@@ -137,8 +178,9 @@ def all_words() -> Words:
 def work(arguments: Sequence[str]) -> int:
     """Does what the words ask for."""
     given = all_words().parse_args(arguments)
-    found = latencies_of(given.observation, given.late, given.n)
-    tables = Tables(found, given.clock)
+    both = found_in(given.observation, given.late, given.n)
+    found = both.latencies
+    tables = Tables(found, both.waits, given.clock)
     for line in tables.text():
         print(line)
     for line in tables.late() if found.watch else ():

@@ -1,7 +1,7 @@
 -- The rule in worked cases: what a reader may be told after some events, computed from the definitions. Written from what each order of the requests leaves.
 use Rattle.std.proofs.Common.{◌≡◌, ℕ, ◌++◌, Bool, true, false, List, [], ◌∷◌, map, Option, None, Some, refl}
 use Rattle.byte_orders.specs.Holdings.{is_compared, may_be_told}
-use Rattle.byte_orders.specs.Runs.{Ends, Event, Fails, Gives, LeavesOut, NoneOlderThan, Reads, Resets, Settles, TakesEffect, Writes, first_run, run_after}
+use Rattle.byte_orders.specs.Runs.{Crowds, Ends, Event, Fails, Gives, LeavesOut, NoneOlderThan, Reads, Resets, Settles, TakesEffect, Writes, first_run, run_after}
 
 -- which of some bytes the request that began at a number may be told; and whether it is compared
 abbrev may_tell : Option ℕ → List Event → ℕ → List ℕ → List Bool
@@ -95,22 +95,26 @@ pruned_by_oldest = refl
 pruned_by_newer : may_tell (Some 0) (Reads 1 ∷ put 2 1 ++ Ends 2 ∷ NoneOlderThan 3 ∷ []) 1 (0 ∷ 1 ∷ []) ≡ false ∷ true ∷ []
 pruned_by_newer = refl
 
--- eight in flight over what was there are too many: any may be told, until all of them have ended and one more
-abbrev eight_puts : List Event
-eight_puts = put 1 1 ++ (put 2 2 ++ (put 3 3 ++ (put 4 4 ++ (put 5 5 ++ (put 6 6 ++ (put 7 7 ++ put 8 8))))))
+-- no room for three in flight: any may be told, until all of them have ended and one more
+abbrev three_puts : List Event
+three_puts = put 1 1 ++ (put 2 2 ++ put 3 3)
 
-crowded : may_tell (Some 0) (eight_puts ++ Reads 9 ∷ []) 9 (0 ∷ 8 ∷ 99 ∷ []) ≡ true ∷ true ∷ true ∷ []
+crowded : may_tell (Some 0) (three_puts ++ Crowds ∷ Reads 4 ∷ []) 4 (0 ∷ 3 ∷ 99 ∷ []) ≡ true ∷ true ∷ true ∷ []
 crowded = refl
 
 abbrev all_ended : List Event
-all_ended = Ends 1 ∷ Ends 2 ∷ Ends 3 ∷ Ends 4 ∷ Ends 5 ∷ Ends 6 ∷ Ends 7 ∷ Ends 8 ∷ []
+all_ended = Ends 1 ∷ Ends 2 ∷ Ends 3 ∷ []
 
-crowd_over : may_tell (Some 0) (eight_puts ++ (all_ended ++ (NoneOlderThan 9 ∷ put 9 9 ++ Ends 9 ∷ Reads 10 ∷ []))) 10 (0 ∷ 8 ∷ 9 ∷ []) ≡ false ∷ false ∷ true ∷ []
+crowd_over : may_tell (Some 0) (three_puts ++ (Crowds ∷ all_ended ++ (NoneOlderThan 4 ∷ put 4 9 ++ Ends 4 ∷ Reads 5 ∷ []))) 5 (0 ∷ 3 ∷ 9 ∷ []) ≡ false ∷ false ∷ true ∷ []
 crowd_over = refl
 
--- seven aren't
-seven : may_tell (Some 0) (put 1 1 ++ (put 2 2 ++ (put 3 3 ++ (put 4 4 ++ (put 5 5 ++ (put 6 6 ++ (put 7 7 ++ Reads 8 ∷ []))))))) 8 (0 ∷ 7 ∷ 99 ∷ []) ≡ true ∷ true ∷ false ∷ []
-seven = refl
+-- a crowd while one of them is in flight: any, whatever another gives and ends
+crowd_stays : may_tell (Some 0) (three_puts ++ (Crowds ∷ Ends 2 ∷ Ends 3 ∷ NoneOlderThan 1 ∷ put 4 9 ++ Ends 4 ∷ Reads 5 ∷ [])) 5 (0 ∷ 9 ∷ 99 ∷ []) ≡ true ∷ true ∷ true ∷ []
+crowd_stays = refl
+
+-- where there is room for them it is one of what was there and what they give
+roomy : may_tell (Some 0) (three_puts ++ Reads 4 ∷ []) 4 (0 ∷ 3 ∷ 99 ∷ []) ≡ true ∷ true ∷ false ∷ []
+roomy = refl
 
 -- one that is left alone settles, and a reader may be told that alone
 settled : may_tell (Some 0) (put 1 1 ++ Ends 1 ∷ NoneOlderThan 2 ∷ Settles ∷ Reads 2 ∷ []) 2 (0 ∷ 1 ∷ []) ≡ false ∷ true ∷ []

@@ -1,20 +1,20 @@
 -- Each run blames rightly: its list is kept short of all that was given, whatever the events are.
 use Rattle.std.proofs.Common.{◌≡◌, ℕ, ◌+◌, ◌<◌, ◌≤◌, ◌==◌, Bool, true, false, ◌&&◌, not, List, [], ◌∷◌, ◌++◌, map, Option, Some, None, is_none, if◌then◌else◌, append-nil, ◌⊎◌, inl, inr, ⊎_elim, refl, sym, ◌∙◌, ap, subst, arith}
-use Rattle.std.specs.Prelude.{filter, filter_map, length, nat_lt, option_map}
+use Rattle.std.specs.Prelude.{filter, filter_map, option_map}
 use Rattle.std.specs.List.{AllByRecursion, cons_option}
-use Rattle.std.proofs.lemmas.Bool.{and_right, eqb-false, lt-ltb, ne_eqb}
+use Rattle.std.proofs.lemmas.Bool.{and_right, eqb-false, ne_eqb}
 use Rattle.byte_orders.specs.Accesses.{Access, AreDistinct, AreTimed, IsOneOf}
-use Rattle.byte_orders.specs.Exact.{AlwaysHasRoom, AnswersAsWhole, HasRoom, IsExact}
-use Rattle.byte_orders.specs.Holdings.{Holding, NoOrderExplains, all_holdings, anew, beginning, begun_within, changed, cut_off, holding_of, is_open_of, may_be_told, settled_as, with_begun, with_change, with_reset, without}
+use Rattle.byte_orders.specs.Exact.{AnswersAsWhole, HasRoom, IsExact, NeverCrowds}
+use Rattle.byte_orders.specs.Holdings.{Holding, NoOrderExplains, all_holdings, anew, beginning, changed, cut_off, holding_of, is_open_of, may_be_told, settled_as, with_begun, with_change, with_reset, without}
 use Rattle.byte_orders.specs.Keeping.{IsShortOf, NoneOlder}
-use Rattle.byte_orders.specs.Runs.{AllMayCome, Event, IsBlamedInRuns, IsInFlight, MayCome, NoneBefore, Reads, Writes, Others, Tells, Gives, LeavesOut, TakesEffect, Fails, Ends, Resets, NoneOlderThan, Settles, Run, changed_of, cut_short, first_run, ending, failing, giving, giving_nothing, reading, run_after, run_next, taking_effect, telling, with_changed, writing}
+use Rattle.byte_orders.specs.Runs.{AllMayCome, Event, IsBlamedInRuns, IsInFlight, MayCome, NoneBefore, Reads, Writes, Others, Tells, Gives, LeavesOut, TakesEffect, Fails, Ends, Resets, NoneOlderThan, Settles, Crowds, Run, changed_of, cut_short, first_run, ending, failing, giving, giving_nothing, reading, run_after, run_next, taking_effect, telling, with_changed, writing}
 use Rattle.byte_orders.proofs.AsWhole.{told_as_whole}
 use Rattle.byte_orders.proofs.Changes.{IsOwnChange, by_change, own_change, own_ended, own_failed, own_sure, own_value, reset_change, short_reset}
 use Rattle.byte_orders.proofs.KeptExact.{exact_begun, exact_changed, exact_first, exact_pruned_at, exact_settled_as, exact_without}
-use Rattle.byte_orders.proofs.KeptShort.{short_first, short_later}
+use Rattle.byte_orders.proofs.KeptShort.{short_begun, short_first, short_later}
 use Rattle.byte_orders.proofs.LastGivers.{holding_parts}
 use Rattle.byte_orders.proofs.Members.{HasOne, all_of, from_append, from_filter_map, from_map}
-use Rattle.byte_orders.proofs.ShorterLists.{same_tests, short_begun_within, short_pruned_at, short_settled_as, short_without}
+use Rattle.byte_orders.proofs.ShorterLists.{same_tests, short_crowd, short_pruned_at, short_settled_as, short_without}
 use Rattle.byte_orders.proofs.ShortLists.{short_rightly, still_told}
 
 -- ---- the holdings of accesses that change
@@ -124,7 +124,7 @@ kept_step now f begun ended = record {
   live = λ a none. sym (ended a) ∙ none;
 }
 
--- what is true of each run; and if its list always had room it's exact
+-- what is true of each run; and if its list never became a crowd it's exact
 record Holds (room : Type 0) (start : Option ℕ) (run : Run) : Type 0 where
   pub timed : AreTimed run.accesses
   pub begun : (a : Access) → IsOneOf a run.accesses → a.begun ≤ run.now
@@ -391,19 +391,15 @@ module _ (room : Type 0) (start : Option ℕ) (run : Run) (holds : Holds room st
       (short_later run.oldest run.now number holds.settled whole run.held (omega (arith, comes)) holds.short))
       (λ has. subst (λ hs. IsExact holds.settled hs run.held) (sym same) (holds.exact has))
 
-  writes_holds : (number : ℕ) → run.now < number → (room → length run.held < 8) → Holds room start (run_next run (Writes number))
-  writes_holds number comes has_room =
+  writes_holds : (number : ℕ) → run.now < number → Holds room start (run_next run (Writes number))
+  writes_holds number comes =
       let same : all_holdings start (run.accesses ++ writing number ∷ []) ≡ with_begun number whole =
       ap (λ hs. beginning start ∷ hs) (appended run.accesses (writing number)) in
-      begun_holds number (writing number) (begun_within 8 number run.held) comes refl refl
-      (subst (λ hs. IsShortOf run.oldest number holds.settled hs (begun_within 8 number run.held)) (sym same)
-      (short_begun_within 8 run.oldest run.now number holds.settled whole run.held comes holds.short))
-      (λ has. subst (λ hs. IsExact holds.settled hs (begun_within 8 number run.held)) (sym same) (with_room has))
-    where
-      with_room : room → IsExact holds.settled (with_begun number whole) (begun_within 8 number run.held)
-      with_room has =
-          let fits : nat_lt (length run.held) 8 ≡ true = lt-ltb (length run.held) 8 (has_room has) in
-          rw fits (exact_begun holds.settled number whole run.held (omega (arith, comes, holds.short.settled_past)) (holds.exact has))
+      begun_holds number (writing number) (with_begun number run.held) comes refl refl
+      (subst (λ hs. IsShortOf run.oldest number holds.settled hs (with_begun number run.held)) (sym same)
+      (short_begun run.oldest run.now number holds.settled whole run.held comes holds.short))
+      (λ has. subst (λ hs. IsExact holds.settled hs (with_begun number run.held)) (sym same)
+      (exact_begun holds.settled number whole run.held (omega (arith, comes, holds.short.settled_past)) (holds.exact has)))
 
   others_holds : (number : ℕ) → run.now < number → Holds room start (run_next run (Others number))
   others_holds number comes = record {
@@ -451,9 +447,20 @@ module _ (room : Type 0) (start : Option ℕ) (run : Run) (holds : Holds room st
         exact = λ has. exact_settled_as run.oldest run.now holds.settled whole run.held value is holds.short (holds.exact has);
       }
 
-  next_holds : (event : Event) → MayCome run event → (room → HasRoom run event) → Holds room start (run_next run event)
+  crowds_holds : (room → ⊥) → Holds room start (run_next run Crowds)
+  crowds_holds none = record {
+    timed = holds.timed;
+    begun = holds.begun;
+    live = holds.live;
+    coming = holds.coming;
+    settled = holds.settled;
+    short = short_crowd run.oldest run.now holds.settled whole run.held holds.short;
+    exact = λ has. absurd (none has);
+  }
+
+  next_holds : (event : Event) → MayCome run event → (room → HasRoom event) → Holds room start (run_next run event)
   next_holds (Reads number) may has = reads_holds number may
-  next_holds (Writes number) may has = writes_holds number may has
+  next_holds (Writes number) may has = writes_holds number may
   next_holds (Others number) may has = others_holds number may
   next_holds (Tells number byte) may has = told_holds number byte
   next_holds (Gives number value) may has = gives_holds number value
@@ -464,6 +471,7 @@ module _ (room : Type 0) (start : Option ℕ) (run : Run) (holds : Holds room st
   next_holds Resets may has = resets_holds
   next_holds (NoneOlderThan number) may has = oldest_holds number may
   next_holds Settles may has = settles_holds
+  next_holds Crowds may has = crowds_holds has
 
   blames_rightly : (number byte : ℕ) → IsInFlight number run.accesses → may_be_told run.held number byte ≡ false
       → NoOrderExplains start run.accesses number byte
@@ -482,12 +490,12 @@ first_holds room start = record {
   exact = λ has. exact_first start;
 }
 
-after_holds : (room : Type 0) (start : Option ℕ) (run : Run) (events : List Event) → AllMayCome run events → (room → AlwaysHasRoom run events)
+after_holds : (room : Type 0) (start : Option ℕ) (run : Run) (events : List Event) → AllMayCome run events → (room → NeverCrowds events)
     → Holds room start run → Holds room start (run_after run events)
 after_holds room start run [] may has holds = holds
 after_holds room start run (event ∷ events) may has holds =
-    after_holds room start (run_next run event) events may.1 (λ always. (has always).1)
-    (next_holds room start run holds event may.0 (λ always. (has always).0))
+    after_holds room start (run_next run event) events may.1 (λ never. (has never).1)
+    (next_holds room start run holds event may.0 (λ never. (has never).0))
 
 -- each run blames rightly, whatever was seen
 pub runs_rightly : (held : List Holding) (number byte : ℕ) → may_be_told held number byte ≡ false → IsBlamedInRuns held number byte
@@ -496,7 +504,7 @@ runs_rightly held number byte none start events may same flight =
     blames_rightly ⊥ start run (after_holds ⊥ start (first_run start) events may (λ never. absurd never) (first_holds ⊥ start)) number byte flight
     (ap (λ hs. may_be_told hs number byte) (sym same) ∙ none)
 
--- ---- and where its list always had room it tells just what all that was given does
+-- ---- and where its list never became a crowd it tells just what all that was given does
 
 -- two accesses that began at one number are one
 same_access : (accesses : List Access) (a b : Access) → AreDistinct accesses → IsOneOf a accesses → IsOneOf b accesses → a.begun ≡ b.begun → a ≡ b
@@ -513,7 +521,7 @@ same_access (x ∷ accesses) a b apart first second same =
         ⊎_elim (λ mine. ⊎_elim (λ other. mine ∙ sym other) (λ later. absurd (never a b mine later same)) two)
         (λ here. ⊎_elim (λ other. absurd (never b a other here (sym same))) (λ later. deeper here later) two) one
 
-module _ (start : Option ℕ) (events : List Event) (may : AllMayCome (first_run start) events) (has : AlwaysHasRoom (first_run start) events)
+module _ (start : Option ℕ) (events : List Event) (may : AllMayCome (first_run start) events) (has : NeverCrowds events)
     (number byte : ℕ) (flight : IsInFlight number (run_after (first_run start) events).accesses) where
   abbrev final : Run
   final = run_after (first_run start) events
@@ -521,9 +529,8 @@ module _ (start : Option ℕ) (events : List Event) (may : AllMayCome (first_run
   abbrev all : List Holding
   all = all_holdings start final.accesses
 
-  final_holds : Holds (AlwaysHasRoom (first_run start) events) start final
-  final_holds = after_holds (AlwaysHasRoom (first_run start) events) start (first_run start) events may (λ always. always)
-      (first_holds (AlwaysHasRoom (first_run start) events) start)
+  final_holds : Holds (NeverCrowds events) start final
+  final_holds = after_holds (NeverCrowds events) start (first_run start) events may (λ never. never) (first_holds (NeverCrowds events) start)
 
   late : final.oldest ≤ number
   late = subst (λ n. final.oldest ≤ n) flight.begun (final_holds.live flight.one flight.there flight.live)

@@ -1,13 +1,13 @@
--- What makes a short list shorter, and what a full one becomes: none of it blames what wasn't blamed before.
-use Rattle.std.proofs.Common.{◌≡◌, ℕ, ◌<◌, ◌≤◌, ◌==◌, Bool, true, false, ◌&&◌, not, List, [], ◌∷◌, map, filter, length, Option, Some, None, is_none, is_some, if◌then◌else◌, ◌⊎◌, inl, inr, ⊎_elim, refl, sym, ◌∙◌, ap, subst, arith}
+-- What makes a short list shorter, and what one becomes for which there is no room: none of it blames what wasn't blamed before.
+use Rattle.std.proofs.Common.{◌≡◌, ℕ, ◌<◌, ◌≤◌, ◌==◌, Bool, true, false, ◌&&◌, not, List, [], ◌∷◌, map, filter, Option, Some, None, is_none, is_some, if◌then◌else◌, ◌⊎◌, inl, inr, ⊎_elim, refl, sym, ◌∙◌, ap, subst, arith}
 use Rattle.std.specs.Prelude.{nat_lt}
 use Rattle.std.specs.List.{list_any}
 use Rattle.std.proofs.lemmas.Bool.{and_left, and_parts, and_right, both_ways, false_from_ne_true, ltb-true, not-true, not_from_false}
 use Rattle.byte_orders.specs.Accesses.{IsOneOf, may_show}
-use Rattle.byte_orders.specs.Holdings.{Holding, beginning, closed, crowd, hides, is_hidden, is_open_of, is_own, may_be_told, may_find, begun_within, pruned, pruned_at, settled_as, with_begun, with_closed, without}
+use Rattle.byte_orders.specs.Holdings.{Holding, beginning, closed, crowd, hides, is_hidden, is_open_of, is_own, may_be_told, may_find, pruned, pruned_at, settled_as, with_closed, without}
 use Rattle.byte_orders.specs.Keeping.{HasFor, IsCrowdOf, IsFrom, IsKept, IsSettledOf, IsShortOf, IsTimed, NoneOlder, StandsFor}
 use Rattle.byte_orders.proofs.Changes.{by_option, not_none}
-use Rattle.byte_orders.proofs.KeptShort.{IsChange, short_begun, short_changed}
+use Rattle.byte_orders.proofs.KeptShort.{IsChange, short_changed}
 use Rattle.byte_orders.proofs.Members.{HasOne, any_from, any_to, from_filter, in_filter}
 use Rattle.byte_orders.proofs.ShortLists.{before_from, came_at, hidden_later, hidden_too, hides_from, hides_parts}
 
@@ -288,18 +288,6 @@ module _ (hs : List Holding) (timed : (h : Holding) → IsOneOf h hs → OverLat
   pruned_tells byte = same_told (λ h. may_show h.value byte)
 
 -- ---- as the calls of a list have it
-
--- a writer begins, and a full list becomes a crowd
-pub short_begun_within : (most oldest now number settled : ℕ) (whole hs : List Holding) → now < number → IsShortOf oldest now settled whole hs
-    → IsShortOf oldest number settled (with_begun number whole) (begun_within most number hs)
-short_begun_within most oldest now number settled whole hs comes short = by_test (nat_lt (length hs) most)
-  where
-    more : IsShortOf oldest number settled (with_begun number whole) (with_begun number hs)
-    more = short_begun oldest now number settled whole hs comes short
-
-    by_test : (room : Bool) → IsShortOf oldest number settled (with_begun number whole) (if room then with_begun number hs else crowd number ∷ [])
-    by_test true = more
-    by_test false = short_crowd oldest number settled (with_begun number whole) (with_begun number hs) more
 
 -- a request has ended, and none in flight is older than one
 pub short_pruned_at : (oldest late now settled : ℕ) (whole hs : List Holding) → oldest ≤ late → NoneOlder late whole → IsShortOf oldest now settled whole hs

@@ -1,6 +1,6 @@
 -- The rule: which values one byte may have, by a short list of what was given to it. Of each writer that still counts there is a holding. A reader may be told
 -- what a holding says that isn't hidden from it: no other writer came wholly between. Nothing else of the requests plays a part.
-use Rattle.std.specs.Prelude.{ℕ, ◌==◌, Bool, true, false, ◌&&◌, not, List, [], ◌∷◌, ◌++◌, map, filter, filter_map, length, Option, Some, None, if◌then◌else◌, is_none, is_some, nat_lt, option_map}
+use Rattle.std.specs.Prelude.{ℕ, ◌==◌, Bool, true, false, ◌&&◌, not, List, [], ◌∷◌, ◌++◌, map, filter, filter_map, Option, Some, None, if◌then◌else◌, is_none, is_some, nat_lt, option_map}
 use Rattle.std.specs.List.{list_any}
 use Rattle.byte_orders.specs.Accesses.{Access, IsExplained, is_before, may_show, with_told}
 
@@ -129,10 +129,6 @@ with_closed oldest now hs = map (closed oldest now) hs
 -- both, when a request has ended
 abbrev pub pruned_at : ℕ → ℕ → List Holding → List Holding
 pruned_at oldest now hs = pruned oldest (with_closed oldest now hs)
-
--- a writer begins, where a list has at most so many: a full one becomes one that stands for all writers
-abbrev pub begun_within : ℕ → ℕ → List Holding → List Holding
-begun_within most number hs = if nat_lt (length hs) most then with_begun number hs else crowd number ∷ []
 
 -- what the byte is settled as, none where nobody knows it, if only that is left, and nothing can come of its writer any more
 abbrev pub settled_as : List Holding → Option (Option ℕ)

@@ -2,10 +2,11 @@
 -- `IsRun`; and that its list blames rightly is a law of it alone.
 use Rattle.std.specs.Prelude.{ℕ, ◌≡◌, ◌<◌, ◌≤◌, ◌+◌, ◌==◌, ⊤, true, false, ◌&&◌, List, [], ◌∷◌, ◌++◌, map, Option, Some, None, if◌then◌else◌, is_none, option_map}
 use Rattle.byte_orders.specs.Accesses.{Access, IsOneOf}
-use Rattle.byte_orders.specs.Holdings.{Holding, NoOrderExplains, beginning, begun_within, pruned_at, with_ended, with_failed, with_reset, with_settled, with_sure, with_value, without}
+use Rattle.byte_orders.specs.Holdings.{Holding, NoOrderExplains, beginning, crowd, pruned_at, with_begun, with_ended, with_failed, with_reset, with_settled, with_sure, with_value, without}
 
 -- what is seen: requests begin, each at a number, which read the byte alone, or may give it, or do neither; one is told a byte that isn't found wrong; what it
--- gives comes, or is what its reply shows; it gives nothing; it takes effect; it has failed; it ends; a reset; that none in flight is older than one; and that a list which has settled begins anew
+-- gives comes, or is what its reply shows; it gives nothing; it takes effect; it has failed; it ends; a reset; that none in flight is older than one; that a
+-- list which has settled begins anew; and that there is no room for the list, so that what is held becomes one that stands for all that have begun
 pub data Event : Type 0 where
   Reads : ℕ → Event
   Writes : ℕ → Event
@@ -19,6 +20,7 @@ pub data Event : Type 0 where
   Resets : Event
   NoneOlderThan : ℕ → Event
   Settles : Event
+  Crowds : Event
 
 -- so many have begun; none in flight is older than one; what was done to the byte; and what is held of it
 pub record Run : Type 0 where
@@ -70,7 +72,7 @@ cut_short now a = if is_none a.ended then record a { ended = Some now; sure = fa
 -- the run with one more event
 abbrev pub run_next : Run → Event → Run
 run_next run (Reads number) = record run { now = number; accesses = run.accesses ++ reading number ∷ [] }
-run_next run (Writes number) = record run { now = number; accesses = run.accesses ++ writing number ∷ []; held = begun_within 8 number run.held }
+run_next run (Writes number) = record run { now = number; accesses = run.accesses ++ writing number ∷ []; held = with_begun number run.held }
 run_next run (Others number) = record run { now = number }
 run_next run (Tells number byte) = record run { accesses = with_changed number (telling byte) run.accesses }
 run_next run (Gives number value) = record run { accesses = with_changed number (giving value) run.accesses; held = with_value number value run.held }
@@ -83,6 +85,7 @@ run_next run (Ends number) =
 run_next run Resets = record run { accesses = map (cut_short run.now) run.accesses; held = with_reset run.now run.held }
 run_next run (NoneOlderThan number) = record run { oldest = number; held = pruned_at number run.now run.held }
 run_next run Settles = record run { held = with_settled run.held }
+run_next run Crowds = record run { held = crowd run.now ∷ [] }
 
 -- none that hasn't ended began before a number
 abbrev pub NoneBefore : ℕ → List Access → Type 0
@@ -101,6 +104,7 @@ MayCome run (Fails number) = ⊤
 MayCome run (Ends number) = ⊤
 MayCome run Resets = ⊤
 MayCome run Settles = ⊤
+MayCome run Crowds = ⊤
 MayCome run (NoneOlderThan number) = (run.oldest ≤ number) × (number ≤ run.now + 1) × NoneBefore number run.accesses
 
 abbrev pub run_after : Run → List Event → Run

@@ -1,6 +1,6 @@
 -- A beat that asks for room where some pages have it asks for it also where none has.
-use Rattle.std.proofs.Common.{◌≡◌, ◌/◌, ℕ, Bool, true, false, not, Option, Some, None, refl}
-use Rattle.std.specs.Prelude.{◌&&◌, slice_get}
+use Rattle.std.proofs.Common.{◌≡◌, ℕ, Bool, true, false, Option, Some, None, refl}
+use Rattle.std.specs.Prelude.{slice_get}
 use Rattle.std.proofs.lemmas.Bool.{and_from, and_parts}
 use Rattle.tl_messages.specs.declared.ABeat.{ABeat}
 use Rattle.serial_memory.specs.SerialMemory.{lacks_room}

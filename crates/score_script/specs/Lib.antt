@@ -7,6 +7,7 @@ pub mod ObservedLines
 pub mod Profiles
 pub mod ScoreStates
 pub mod Scores
+pub mod Takings
 pub mod UnansweredTexts
 pub mod UnknownDigits
 pub mod WaitLines

@@ -9,13 +9,15 @@ use Rattle.axi_beats.specs.declared.Resp.{Resp}
 use Rattle.axi_beats.specs.declared.Resp.TheVariants.{Okay, ExOkay, SlvErr, DecErr}
 use Rattle.axi_beats.specs.declared.WBeat.{WBeat}
 use Rattle.axi_checker.specs.declared.AxiBeat.TheVariants.{Ar as OnAr, Aw as OnAw, B as OnB, R as OnR, W as OnW}
-use Rattle.line_text.specs.Fields.{Field, address_field, byte_field, first_wrong, flag_field, is_set, read_as, unless_wrong}
+use Rattle.line_text.specs.Fields.{Field, address_field, byte_field, flag_field, is_set, read_as}
 use Rattle.script_text.specs.Forms.{told_as}
 use Rattle.line_text.specs.OfferLines.{beat_in}
 use Rattle.line_text.specs.Words.{dec_at, hex_at, is_dec_to, is_hex_to, word_at}
 use Rattle.score_script.specs.FillLines.{fill_line}
 use Rattle.score_script.specs.UnknownDigits.{or_unknown, payload_at, payload_field, unknown_lanes}
 use Rattle.score_script.specs.WaitLines.{is_wait, waited_line}
+use Rattle.score_script.specs.declared.lines.BeatField.{BeatField}
+use Rattle.score_script.specs.declared.lines.BeatField.TheVariants as field
 use Rattle.score_script.specs.declared.lines.Channel.{Channel}
 use Rattle.score_script.specs.declared.lines.Channel.TheVariants as channel
 use Rattle.score_script.specs.declared.lines.SeenBeat.{SeenBeat}
@@ -187,39 +189,37 @@ loose fields = map or_unknown fields
 abbrev pub Stands : Option ℕ → Result ⊤ ℕ → Type 0
 Stands word result = MatchResult result (λ done. word ≡ None) (λ wrong. word ≡ Some wrong)
 
--- of a client's beat all but the client
-abbrev pub unknown_a : List (List ℕ) → Result ℕ ℕ
-unknown_a words = read_as (byte_field ∷ loose (drop 1 a_fields)) words (dec_at words 2)
+-- which words are a field
+abbrev pub field_test : BeatField → Field
+field_test field.Byte = byte_field
+field_test field.Address = address_field
+field_test field.Mask = mask_field
+field_test field.Payload = payload_field
+field_test field.Flag = flag_field
+field_test field.Response = resp_field
 
--- the same of channel D
-abbrev pub unknown_d : List (List ℕ) → Result ℕ ℕ
-unknown_d words = read_as (byte_field ∷ loose (drop 1 d_fields)) words (dec_at words 2)
+-- whether a channel is a client's, and none of the AXI4 port
+abbrev pub is_of_client : Channel → Bool
+is_of_client channel.A = true
+is_of_client channel.D = true
+is_of_client _ = false
 
--- the first wrong word of a line of the AXI4 port
-abbrev pub unknown_address : List (List ℕ) → Option ℕ
-unknown_address words = first_wrong (loose burst_fields) words 2
+-- the fields of a channel's lines behind its name, but for the client
+abbrev pub fields_behind : Channel → List Field
+fields_behind channel.A = drop 1 a_fields
+fields_behind channel.D = drop 1 d_fields
+fields_behind channel.Aw = burst_fields
+fields_behind channel.W = w_fields
+fields_behind channel.B = b_fields
+fields_behind channel.Ar = burst_fields
+fields_behind channel.R = r_fields
 
--- of write data
-abbrev pub unknown_w : List (List ℕ) → Option ℕ
-unknown_w words = first_wrong (loose w_fields) words 2
-
--- of a write response
-abbrev pub unknown_b : List (List ℕ) → Option ℕ
-unknown_b words = first_wrong (loose b_fields) words 2
-
--- of read data
-abbrev pub unknown_r : List (List ℕ) → Option ℕ
-unknown_r words = first_wrong (loose r_fields) words 2
-
--- the client of such a beat, 0 on the AXI4 port; or its first wrong word
+-- the client of such a beat, which has to be known, and 0 on the AXI4 port; or its first wrong word
 abbrev pub unknown_line : Channel → List (List ℕ) → Result ℕ ℕ
-unknown_line channel.A words = unknown_a words
-unknown_line channel.D words = unknown_d words
-unknown_line channel.Aw words = unless_wrong 0 (unknown_address words)
-unknown_line channel.W words = unless_wrong 0 (unknown_w words)
-unknown_line channel.B words = unless_wrong 0 (unknown_b words)
-unknown_line channel.Ar words = unless_wrong 0 (unknown_address words)
-unknown_line channel.R words = unless_wrong 0 (unknown_r words)
+unknown_line channel words =
+    if is_of_client channel
+    then read_as (byte_field ∷ loose (fields_behind channel)) words (dec_at words 2)
+    else read_as (loose (fields_behind channel)) words 0
 
 -- what a channel's line says: a beat, or else one of which nobody knows a field
 abbrev pub command_told : Channel → List (List ℕ) → Result SeenBeat ℕ → Result Command ℕ

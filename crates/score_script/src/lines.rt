@@ -1,10 +1,9 @@
 //! The lines of observed beats, and of the answers between them.
-ghost use Rattle.std.specs.Prelude.{◌≡◌, ◌<◌, ◌||◌, IfOk, Ok, true};
+ghost use Rattle.std.specs.Prelude.{◌≡◌, ◌<◌, ◌≤◌, ◌+◌, IfOk, Ok, length, map, true};
 ghost use Rattle.score_script.specs.declared.score.Command.TheVariants.{Answer, Observed};
-ghost use Rattle.line_text.specs.Fields.{Reads, address_field, byte_field, flag_field};
+ghost use Rattle.line_text.specs.Fields.{Reads, first_wrong};
 ghost use Rattle.line_text.specs.Words.{word_at};
-ghost use Rattle.score_script.specs.UnknownDigits.{StandsAt, payload_field, unknown_field};
-ghost use Rattle.score_script.specs.ObservedLines.{Stands, a_line, address_line, answer_command, ar_line, asked_command, aw_line, b_line, channel_command, channel_of, command_of, d_line, is_answer, is_settling, is_withdrawal, known, mask_field, only_settles, other_command, r_line, resp_field, resp_in, seen_line, time_line, unknown_a, unknown_address, unknown_b, unknown_d, unknown_line, unknown_r, unknown_w, w_line};
+ghost use Rattle.score_script.specs.ObservedLines.{Stands, a_line, address_line, answer_command, ar_line, asked_command, aw_line, b_line, channel_command, channel_of, command_of, d_line, field_test, fields_behind, is_answer, is_of_client, is_settling, is_withdrawal, known, loose, only_settles, other_command, r_line, resp_field, resp_in, seen_line, time_line, unknown_line, w_line};
 
 use crate::fills::fill_line;
 use crate::score::Command;
@@ -50,6 +49,13 @@ impl Channel {
             [b'R'] => Some(Channel::R),
             _ => None,
         }
+    }
+
+    /// Whether it is a client's, and none of the AXI4 port.
+    fn is_of_client(self) -> bool
+        ensures { result ≡ is_of_client self }
+    {
+        matches!(self, Channel::A | Channel::D)
     }
 }
 
@@ -244,142 +250,82 @@ fn seen_line(channel: Channel, words: &Words<'_>) -> Result<SeenBeat, u32>
     }
 }
 
-/// That word `n` is a byte, or one that nobody knows.
-fn loose_byte(words: &Words<'_>, n: u32) -> Result<(), u32>
-    requires { 0 < n }
-    ensures { StandsAt (byte_field (word_at words.now n) || unknown_field (word_at words.now n)) n result }
-{
-    or_unknown(words, n, words.byte(n).is_ok())
+/// A field of an observed beat.
+#[derive(Clone, Copy)]
+enum BeatField {
+    /// A decimal number of 8 bits.
+    Byte,
+    /// An address.
+    Address,
+    /// A mask or strobes.
+    Mask,
+    /// A payload.
+    Payload,
+    /// A flag.
+    Flag,
+    /// A response, by its name.
+    Response,
 }
 
-/// The same of an address.
-fn loose_address(words: &Words<'_>, n: u32) -> Result<(), u32>
-    requires { 0 < n }
-    ensures { StandsAt (address_field (word_at words.now n) || unknown_field (word_at words.now n)) n result }
-{
-    or_unknown(words, n, words.address(n).is_ok())
+use BeatField::{Address, Byte, Flag, Mask, Payload, Response};
+
+impl BeatField {
+    /// Whether word `n` is such a field.
+    fn is_right(self, words: &Words<'_>, n: u32) -> bool
+        requires { 0 < n }
+        ensures { result ≡ field_test self (word_at words.now n) }
+    {
+        match self {
+            Byte => words.byte(n).is_ok(),
+            Address => words.address(n).is_ok(),
+            Mask => words.mask(n).is_ok(),
+            Payload => payload_at(words, n).is_ok(),
+            Flag => words.flag(n).is_ok(),
+            Response => resp(words, n).is_ok(),
+        }
+    }
 }
 
-/// The same of a mask.
-fn loose_mask(words: &Words<'_>, n: u32) -> Result<(), u32>
-    requires { 0 < n }
-    ensures { StandsAt (mask_field (word_at words.now n) || unknown_field (word_at words.now n)) n result }
+/// The fields of a channel's lines behind its name, but for the client.
+fn fields_behind(channel: Channel) -> &'static [BeatField]
+    ensures fields { map field_test result.now ≡ fields_behind channel }
+    ensures few { length result.now ≤ 8 }
 {
-    or_unknown(words, n, words.mask(n).is_ok())
+    match channel {
+        Channel::A => &[Byte, Byte, Byte, Byte, Address, Mask, Payload, Flag],
+        Channel::D => &[Byte, Byte, Byte, Byte, Flag, Payload, Flag],
+        Channel::Aw | Channel::Ar => &[Byte, Address, Byte, Byte, Byte],
+        Channel::W => &[Payload, Mask, Flag],
+        Channel::B => &[Byte, Response],
+        Channel::R => &[Byte, Payload, Response, Flag],
+    }
 }
 
-/// The same of a payload.
-fn loose_payload(words: &Words<'_>, n: u32) -> Result<(), u32>
-    requires { 0 < n }
-    ensures { StandsAt (payload_field (word_at words.now n) || unknown_field (word_at words.now n)) n result }
+/// That a line's fields from word `from` on are these, each right or one that nobody knows, and that it has no more.
+fn fields_stand(words: &Words<'_>, fields: &[BeatField], from: u32) -> Result<(), u32>
+    requires { (0 < from) × (from + length fields.now ≤ 64) }
+    ensures { Stands (first_wrong (loose (map field_test fields.now)) words.now from) result }
 {
-    or_unknown(words, n, payload_at(words, n).is_ok())
-}
-
-/// The same of a flag.
-fn loose_flag(words: &Words<'_>, n: u32) -> Result<(), u32>
-    requires { 0 < n }
-    ensures { StandsAt (flag_field (word_at words.now n) || unknown_field (word_at words.now n)) n result }
-{
-    or_unknown(words, n, words.flag(n).is_ok())
-}
-
-/// The same of a response.
-fn loose_resp(words: &Words<'_>, n: u32) -> Result<(), u32>
-    requires { 0 < n }
-    ensures { StandsAt (resp_field (word_at words.now n) || unknown_field (word_at words.now n)) n result }
-{
-    or_unknown(words, n, resp(words, n).is_ok())
-}
-
-/// The client of an A beat, if each of its fields is right or nobody knows it.
-fn unknown_a(words: &Words<'_>) -> Result<u8, u32>
-    ensures { result ≡ unknown_a words.now }
-{
-    let client = words.byte(2)?;
-    loose_byte(words, 3)?;
-    loose_byte(words, 4)?;
-    loose_byte(words, 5)?;
-    loose_byte(words, 6)?;
-    loose_address(words, 7)?;
-    loose_mask(words, 8)?;
-    loose_payload(words, 9)?;
-    loose_flag(words, 10)?;
-    words.end(10)?;
-    Ok(client)
-}
-
-/// The same of a D beat.
-fn unknown_d(words: &Words<'_>) -> Result<u8, u32>
-    ensures { result ≡ unknown_d words.now }
-{
-    let client = words.byte(2)?;
-    loose_byte(words, 3)?;
-    loose_byte(words, 4)?;
-    loose_byte(words, 5)?;
-    loose_byte(words, 6)?;
-    loose_flag(words, 7)?;
-    loose_payload(words, 8)?;
-    loose_flag(words, 9)?;
-    words.end(9)?;
-    Ok(client)
-}
-
-/// That each field of an address is right, or nobody knows it.
-fn unknown_address(words: &Words<'_>) -> Result<(), u32>
-    ensures { Stands (unknown_address words.now) result }
-{
-    loose_byte(words, 2)?;
-    loose_address(words, 3)?;
-    loose_byte(words, 4)?;
-    loose_byte(words, 5)?;
-    loose_byte(words, 6)?;
-    words.end(6)
-}
-
-/// The same of write data.
-fn unknown_w(words: &Words<'_>) -> Result<(), u32>
-    ensures { Stands (unknown_w words.now) result }
-{
-    loose_payload(words, 2)?;
-    loose_mask(words, 3)?;
-    loose_flag(words, 4)?;
-    words.end(4)
-}
-
-/// The same of a write response.
-fn unknown_b(words: &Words<'_>) -> Result<(), u32>
-    ensures { Stands (unknown_b words.now) result }
-{
-    loose_byte(words, 2)?;
-    loose_resp(words, 3)?;
-    words.end(3)
-}
-
-/// The same of read data.
-fn unknown_r(words: &Words<'_>) -> Result<(), u32>
-    ensures { Stands (unknown_r words.now) result }
-{
-    loose_byte(words, 2)?;
-    loose_payload(words, 3)?;
-    loose_resp(words, 4)?;
-    loose_flag(words, 5)?;
-    words.end(5)
+    let mut n = from;
+    for field in fields {
+        or_unknown(words, n, field.is_right(words, n))?;
+        n += 1;
+    }
+    words.end(n - 1)
 }
 
 /// The client of a beat of which nobody knows a field but its payload, 0 on the AXI4 port; or its first wrong word.
 fn unknown_line(channel: Channel, words: &Words<'_>) -> Result<u8, u32>
     ensures { result ≡ unknown_line channel words.now }
 {
-    match channel {
-        Channel::A => return unknown_a(words),
-        Channel::D => return unknown_d(words),
-        Channel::Aw | Channel::Ar => unknown_address(words)?,
-        Channel::W => unknown_w(words)?,
-        Channel::B => unknown_b(words)?,
-        Channel::R => unknown_r(words)?,
+    let fields = fields_behind(channel);
+    if !channel.is_of_client() {
+        fields_stand(words, fields, 2)?;
+        return Ok(0);
     }
-    Ok(0)
+    let client = words.byte(2)?;
+    fields_stand(words, fields, 3)?;
+    Ok(client)
 }
 
 /// What a channel's line says, or its first wrong word.

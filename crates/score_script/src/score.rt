@@ -1,5 +1,5 @@
 //! What was found of the beats that were read so far, and what each line finds.
-ghost use Rattle.std.specs.Prelude.{◌≡◌, ◌⊎◌, Err, IfErr, IfOk, IfSome, None, OnErr, OnOk, Some, false, if◌then◌else◌, is_some, true};
+ghost use Rattle.std.specs.Prelude.{ℕ, ◌≡◌, ◌⊎◌, Err, IfErr, IfOk, IfSome, None, OnErr, OnOk, Some, false, if◌then◌else◌, is_some, true};
 ghost use Rattle.std.specs.Option.{option_or};
 ghost use Rattle.script_text.specs.Stages.{Writes, WritesEnd};
 ghost use Rattle.script_text.specs.declared.faults.ScriptFault.TheVariants as script;
@@ -9,7 +9,8 @@ ghost use Rattle.score_setup.specs.ScoreSetups.{lists_of, ranges_of, score_setup
 ghost use Rattle.setups.specs.declared.SetupFault.TheVariants.{NoMemory};
 ghost use Rattle.score_script.specs.Profiles.{byte_in, filled_in};
 ghost use Rattle.score_script.specs.declared.profiles.Asked.{Asked};
-ghost use Rattle.score_script.specs.Scores.{found, FailsBy, Leaves, LeavesBy, begins_after, called_score, command_wants, held_wants, counts_of, finds_at_once, judged_behind, commanded, commanded_score, unanswered_by, wrong_command, wrong_fill, beats_judged, client_of, closing, counted, ended_score, finds, judging, line_at, misplaced_in, observing, opening_score, reset_score, settling, unclear, unknown_on, with_more, without_data, wrong_behind};
+ghost use Rattle.score_script.specs.Scores.{found, FailsBy, Leaves, begins_after, command_wants, held_wants, counts_of, judged_behind, commanded, unanswered_by, wrong_command, wrong_fill, beats_judged, client_of, closing, counted, judging, line_at, misplaced_in, observing, opening_score, ended_score, finds, reset_behind, settled_alone, settling, unclear, unknown_on, with_more, without_data, wrong_behind};
+ghost use Rattle.score_script.specs.Takings.{Gives, Settles, SettlesBefore, Takes, TakesAs, TakesAtOnce};
 ghost use Rattle.score_script.specs.ScoreStates.{score_of};
 ghost use Rattle.score_script.specs.declared.score.Command.TheVariants.{Answer, Observed};
 ghost use Rattle.score_script.specs.FindingTexts.{WritesText};
@@ -323,11 +324,7 @@ impl Score {
     /// refused; then nothing has changed.
     #[inline(always)]
     fn settle(&mut self, finding: &mut Option<Finding>) -> Result<(), AllocError>
-        ensures found { OnOk result (finding.new ≡ (settling (score_of self.old)).0) }
-        ensures state { OnOk result (score_of self.new ≡ (settling (score_of self.old)).1) }
-        ensures kept { OnErr result (score_of self.new ≡ score_of self.old) }
-        ensures quiet { OnErr result (finding.new ≡ finding.old) }
-        ensures cause { OnErr result (held_wants (score_of self.old).board self.old.held ≡ true) }
+        ensures { Settles (score_of self.old) finding.old (score_of self.new) finding.new result }
     {
         if self.held.is_none() {
             *finding = None;
@@ -340,11 +337,7 @@ impl Score {
     #[inline(never)]
     fn settle_held(&mut self, finding: &mut Option<Finding>) -> Result<(), AllocError>
         requires held { is_some self.old.held ≡ true }
-        ensures found { OnOk result (finding.new ≡ (settling (score_of self.old)).0) }
-        ensures state { OnOk result (score_of self.new ≡ (settling (score_of self.old)).1) }
-        ensures kept { OnErr result (score_of self.new ≡ score_of self.old) }
-        ensures quiet { OnErr result (finding.new ≡ finding.old) }
-        ensures cause { OnErr result (held_wants (score_of self.old).board self.old.held ≡ true) }
+        ensures { Settles (score_of self.old) finding.old (score_of self.new) finding.new result }
     {
         let Some(held) = self.held else {
             unreachable!();
@@ -370,12 +363,7 @@ impl Score {
         seen: &SeenBeat,
         findings: &mut Findings,
     ) -> Result<(), AllocError>
-        ensures held { OnOk result (findings.new.held ≡ (observing (settling (score_of self.old)) line seen.now).held) }
-        ensures own { OnOk result (findings.new.own ≡ (observing (settling (score_of self.old)) line seen.now).own) }
-        ensures state { OnOk result (score_of self.new ≡ (observing (settling (score_of self.old)) line seen.now).after) }
-        ensures kept { OnErr result (score_of self.new ≡ score_of self.old) }
-        ensures quiet { OnErr result (findings.new.held ≡ findings.old.held) }
-        ensures cause { OnErr result (held_wants (score_of self.old).board self.old.held ≡ true) }
+        ensures { SettlesBefore (observing (settling (score_of self.old)) line seen.now) (score_of self.old) findings.old (score_of self.new) findings.new result }
     {
         self.settle(&mut findings.held)?;
         let ObservedBeat::A(client, beat) = seen.beat else {
@@ -401,12 +389,7 @@ impl Score {
         client: u8,
         findings: &mut Findings,
     ) -> Result<(), AllocError>
-        ensures held { OnOk result (findings.new.held ≡ (unclear (settling (score_of self.old)) line channel client).held) }
-        ensures own { OnOk result (findings.new.own ≡ (unclear (settling (score_of self.old)) line channel client).own) }
-        ensures state { OnOk result (score_of self.new ≡ (unclear (settling (score_of self.old)) line channel client).after) }
-        ensures kept { OnErr result (score_of self.new ≡ score_of self.old) }
-        ensures quiet { OnErr result (findings.new.held ≡ findings.old.held) }
-        ensures cause { OnErr result (held_wants (score_of self.old).board self.old.held ≡ true) }
+        ensures { SettlesBefore (unclear (settling (score_of self.old)) line channel client) (score_of self.old) findings.old (score_of self.new) findings.new result }
     {
         self.settle(&mut findings.held)?;
         let wrong = unknown_on(self.board.clients(), channel, client);
@@ -418,12 +401,7 @@ impl Score {
 
     /// The held beat is judged, and then the board is reset. The one error is that memory was refused.
     fn reset(&mut self, findings: &mut Findings) -> Result<(), AllocError>
-        ensures held { OnOk result (findings.new.held ≡ (settling (score_of self.old)).0) }
-        ensures own { OnOk result (findings.new.own ≡ None) }
-        ensures state { OnOk result (score_of self.new ≡ reset_score (settling (score_of self.old)).1) }
-        ensures kept { OnErr result (score_of self.new ≡ score_of self.old) }
-        ensures quiet { OnErr result (findings.new.held ≡ findings.old.held) }
-        ensures cause { OnErr result (held_wants (score_of self.old).board self.old.held ≡ true) }
+        ensures { SettlesBefore (reset_behind (settling (score_of self.old))) (score_of self.old) findings.old (score_of self.new) findings.new result }
     {
         self.settle(&mut findings.held)?;
         findings.own = None;
@@ -433,12 +411,7 @@ impl Score {
 
     /// The observation is over: the held beat is judged, and what has no answer is wrong. The one error is that memory was refused.
     fn finish(&mut self, findings: &mut Findings) -> Result<(), AllocError>
-        ensures held { OnOk result (findings.new.held ≡ (settling (score_of self.old)).0) }
-        ensures own { OnOk result (findings.new.own ≡ None) }
-        ensures state { OnOk result (score_of self.new ≡ ended_score (settling (score_of self.old)).1) }
-        ensures kept { OnErr result (score_of self.new ≡ score_of self.old) }
-        ensures quiet { OnErr result (findings.new.held ≡ findings.old.held) }
-        ensures cause { OnErr result (held_wants (score_of self.old).board self.old.held ≡ true) }
+        ensures { SettlesBefore (record (settled_alone (settling (score_of self.old))) { after = ended_score (settling (score_of self.old)).1 }) (score_of self.old) findings.old (score_of self.new) findings.new result }
     {
         self.settle(&mut findings.held)?;
         findings.own = None;
@@ -495,21 +468,15 @@ impl Score {
         }
     }
 
-    /// Puts what a line of this number finds into its place. A fault is the wrong word of its line, or that memory was refused.
+    /// Carries out a command, by the number of its line, and puts what it finds into its place. A fault is the wrong word of its line,
+    /// or that memory was refused; then nothing has changed.
     fn find(
         &mut self,
         number: u32,
         command: &Command,
         findings: &mut Findings,
     ) -> Result<(), ScriptFault>
-        ensures may { OnOk result (wrong_command (score_of self.old) command.now ≡ None) }
-        ensures held { OnOk result (findings.new.held ≡ (finds (score_of self.old) number command.now).held) }
-        ensures own { OnOk result (findings.new.own ≡ (finds (score_of self.old) number command.now).own) }
-        ensures state { OnOk result (score_of self.new ≡ (finds (score_of self.old) number command.now).after) }
-        ensures kept { OnErr result (score_of self.new ≡ score_of self.old) }
-        ensures quiet { OnErr result (findings.new.held ≡ findings.old.held) }
-        ensures fault { IfErr result (λ fault. FailsBy number (wrong_command (score_of self.old) command.now) fault) }
-        ensures cause { IfErr result (λ fault. fault ≡ script.NoMemory → command_wants (score_of self.old) command.now ≡ true) }
+        ensures { TakesAs (finds (score_of self.old) number command.now) (score_of self.old) number command.now findings.old (score_of self.new) findings.new result }
     {
         match command {
             Command::Observed(seen) => {
@@ -553,43 +520,14 @@ impl Score {
         Ok(())
     }
 
-    /// The same of a beat that was observed, and then its line has come.
-    #[inline(always)]
-    fn take_seen(
-        &mut self,
-        number: u32,
-        seen: &SeenBeat,
-        findings: &mut Findings,
-    ) -> Result<(), ScriptFault>
-        ensures may { OnOk result (wrong_behind (score_of self.old) ≡ None) }
-        ensures held { OnOk result (findings.new.held ≡ (finds (score_of self.old) number (Observed seen.now)).held) }
-        ensures own { OnOk result (findings.new.own ≡ (finds (score_of self.old) number (Observed seen.now)).own) }
-        ensures state { OnOk result (score_of self.new ≡ commanded_score (score_of self.old) number (Observed seen.now)) }
-        ensures kept { OnErr result (score_of self.new ≡ score_of self.old) }
-        ensures fault { IfErr result (λ fault. FailsBy number (wrong_behind (score_of self.old)) fault) }
-        ensures cause { IfErr result (λ fault. fault ≡ script.NoMemory → held_wants (score_of self.old).board self.old.held ≡ true) }
-    {
-        self.check_open(number)?;
-        self.observe(self.line_at(number), seen, findings)?;
-        self.begins = false;
-        Ok(())
-    }
-
-    /// The same of any command.
+    /// The same of one that was read, and then its line has come.
     pub(crate) fn take(
         &mut self,
         number: u32,
         command: &Command,
         findings: &mut Findings,
     ) -> Result<(), ScriptFault>
-        ensures may { OnOk result (wrong_command (score_of self.old) command.now ≡ None) }
-        ensures held { OnOk result (findings.new.held ≡ (finds (score_of self.old) number command.now).held) }
-        ensures own { OnOk result (findings.new.own ≡ (finds (score_of self.old) number command.now).own) }
-        ensures state { OnOk result (score_of self.new ≡ commanded_score (score_of self.old) number command.now) }
-        ensures kept { OnErr result (score_of self.new ≡ score_of self.old) }
-        ensures quiet { OnErr result (findings.new.held ≡ findings.old.held) }
-        ensures fault { IfErr result (λ fault. FailsBy number (wrong_command (score_of self.old) command.now) fault) }
-        ensures cause { IfErr result (λ fault. fault ≡ script.NoMemory → command_wants (score_of self.old) command.now ≡ true) }
+        ensures { Takes (score_of self.old) number command.now findings.old (score_of self.new) findings.new result }
     {
         let begins = begins_after(self.begins, command);
         self.find(number, command, findings)?;
@@ -605,9 +543,7 @@ impl Score {
         seen: &SeenBeat,
         findings: &mut Findings,
     ) -> Result<(), AllocError>
-        ensures held { OnOk result (findings.new.held ≡ (judged_behind (settling (score_of self.old)) line seen.now).held) }
-        ensures own { OnOk result (findings.new.own ≡ (judged_behind (settling (score_of self.old)) line seen.now).own) }
-        ensures state { OnOk result (score_of self.new ≡ (judged_behind (settling (score_of self.old)) line seen.now).after) }
+        ensures found { OnOk result (Gives (judged_behind (settling (score_of self.old)) line seen.now) findings.new (score_of self.new)) }
         ensures left { OnErr result (Leaves (score_of self.old) findings.old.held (score_of self.new) findings.new.held) }
     {
         self.settle(&mut findings.held)?;
@@ -621,12 +557,7 @@ impl Score {
         command: &Command,
         findings: &mut Findings,
     ) -> Result<(), ScriptFault>
-        ensures may { OnOk result (wrong_command (score_of self.old) command.now ≡ None) }
-        ensures held { OnOk result (findings.new.held ≡ (finds_at_once (score_of self.old) number command.now).held) }
-        ensures own { OnOk result (findings.new.own ≡ (finds_at_once (score_of self.old) number command.now).own) }
-        ensures state { OnOk result (score_of self.new ≡ called_score (score_of self.old) number command.now) }
-        ensures left { OnErr result (LeavesBy (wrong_command (score_of self.old) command.now) (score_of self.old) findings.old.held (score_of self.new) findings.new.held) }
-        ensures fault { IfErr result (λ fault. FailsBy number (wrong_command (score_of self.old) command.now) fault) }
+        ensures { TakesAtOnce (score_of self.old) number command.now findings.old (score_of self.new) findings.new result }
     {
         let Command::Observed(seen) = command else {
             return self.take(number, command, findings);
@@ -720,18 +651,16 @@ impl Score {
         ensures { Writes (command_wants (score_of self.old) (Observed seen.now)) number (commanded (score_of self.old) number (Observed seen.now)) (score_of self.new) (W.contents writer.old) (W.contents writer.new) result }
     {
         let mut findings = Findings::none();
-        self.take_seen(number, seen, &mut findings)?;
+        self.check_open(number)?;
+        self.observe(self.line_at(number), seen, &mut findings)?;
+        self.begins = false;
         Ok(findings_lines(&findings, writer)?)
     }
 
-    /// The same of an answer that settles the beat before it, and does nothing more.
+    /// The same of an answer, whatever its line's number, that settles the beat before it, and does nothing more.
     #[inline(always)]
-    pub(crate) fn answer<W: Write>(
-        &mut self,
-        _number: u32,
-        writer: &mut W,
-    ) -> Result<bool, ScriptFault>
-        ensures { Writes (command_wants (score_of self.old) Answer) _number (commanded (score_of self.old) _number Answer) (score_of self.new) (W.contents writer.old) (W.contents writer.new) result }
+    pub(crate) fn answer<W: Write>(&mut self, writer: &mut W) -> Result<bool, ScriptFault>
+        ensures { (number : ℕ) → Writes (command_wants (score_of self.old) Answer) number (commanded (score_of self.old) number Answer) (score_of self.new) (W.contents writer.old) (W.contents writer.new) result }
     {
         if self.held.is_none() {
             return Ok(false);

@@ -99,7 +99,7 @@ impl Kind for ScoreScript {
             return score.see(number, seen, writer);
         }
         if only_settles(words) {
-            return score.answer(number, writer);
+            return score.answer(writer);
         }
         let read = command_of(words);
         match &read {

@@ -19,3 +19,4 @@ pub mod Sources
 pub mod Taken
 pub mod ToldLanes
 pub mod UnknownBytes
+pub mod WholeRequests

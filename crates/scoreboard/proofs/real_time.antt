@@ -4,6 +4,7 @@ pub mod AheadBeside
 pub mod AlikeBeats
 pub mod Apart
 pub mod Arranged
+pub mod BeatsLeft
 pub mod Becoming
 pub mod BegunAhead
 pub mod Blames
@@ -53,5 +54,6 @@ pub mod ShadowPlaces
 pub mod Spared
 pub mod StepOrders
 pub mod Verdicts
+pub mod WholeMessages
 pub mod WiderRuns
 pub mod WiderVerdicts

@@ -18,4 +18,5 @@ pub mod Room
 pub mod Telling
 pub mod Unanswered
 pub mod Unknown
+pub mod Views
 pub mod Wider

@@ -193,6 +193,7 @@ impl Scoreboard {
     ghost use Rattle.serial_memory.specs.declared.FillFault.TheVariants.{NoMemory as NoRoom, Place};
     ghost use Rattle.scoreboard.specs.Right.{IsRight};
     ghost use Rattle.scoreboard.specs.Room.{asks_for_room, asks_room, gives_by_now, place_of_beat};
+    ghost use Rattle.scoreboard.specs.Views.{made_whole, whole_with};
     ghost use Rattle.scoreboard.specs.Wider.{IsWiderAlong, LetsRightPass};
     ghost use Rattle.scoreboard.specs.declared.Policy.TheVariants.{AcceptanceOrder, RealTime};
 
@@ -280,6 +281,7 @@ impl Scoreboard {
         ensures cause { OnErr result (asks_for_room self.old.policy (board_of self.old) (rooms_of self.old.memory) seen.now ≡ true) }
         ensures policy { self.new.policy ≡ self.old.policy }
         ensures unknown { self.new.unknown ≡ self.old.unknown }
+        ensures request { OnOk result (IfSome (whole_with self.old.policy (board_of self.old) seen.now) (λ message. self.new.request ≡ message)) }
         ensures exactly { IfOk result (λ wrong. self.old.policy ≡ AcceptanceOrder → (errors : Errors) (beginning : Beginning) (before : List ObservedBeat) → IsReached AcceptanceOrder (opening_from errors beginning) before (board_of self.old)
             → (wrong ≡ None) ↔ IsRight beginning (before ++ seen.now ∷ [])) }
         ensures memory { self.old.policy ≡ AcceptanceOrder → (errors : Errors) (beginning : Beginning) (before : List ObservedBeat) → IsReached AcceptanceOrder (opening_from errors beginning) before (board_of self.old)
@@ -306,6 +308,7 @@ impl Scoreboard {
         ensures cause { OnErr result (asks_for_room self.old.policy (board_of self.old) (rooms_of self.old.memory) seen.now ≡ true) }
         ensures policy { self.new.policy ≡ self.old.policy }
         ensures unknown { self.new.unknown ≡ self.old.unknown }
+        ensures request { OnOk result (IfSome (whole_with self.old.policy (board_of self.old) seen.now) (λ message. self.new.request ≡ message)) }
     {
         match seen {
             ObservedBeat::A(client, beat) => self.judge_request(*client, beat),
@@ -326,6 +329,7 @@ impl Scoreboard {
         ensures cause { OnErr result (asks_room self.old.policy (board_of self.old) (rooms_of self.old.memory) (slice_get (board_of self.old).clients client) beat.now ≡ true) }
         ensures policy { self.new.policy ≡ self.old.policy }
         ensures unknown { self.new.unknown ≡ self.old.unknown }
+        ensures request { OnOk result (IfSome (made_whole self.old.policy (slice_get (board_of self.old).clients client) beat.now) (λ message. self.new.request ≡ message)) }
     {
         match self.take_request(client, beat)? {
             Ok(_) => Ok(None),

@@ -14,12 +14,14 @@ ghost use Rattle.scoreboard.specs.Races.{beside_all, beside_dependent, unless_fa
 ghost use Rattle.scoreboard.specs.Resets.{reset_client};
 ghost use Rattle.scoreboard.specs.Telling.{flight_telling};
 ghost use Rattle.scoreboard.specs.Unanswered.{source_begun};
+ghost use Rattle.scoreboard.specs.Views.{begun_view, due_view, early_view};
 
 use crate::failed_bursts::{Reach, Span};
 use crate::flights::Flights;
 use crate::footprint::Footprint;
 use crate::in_flight::{InFlight, wrong_told};
 use crate::marks::{mark_dependent, mark_reached};
+use crate::views::{ReplyView, left_view};
 use crate::{Errors, Policy, ReplyRule, Telling, Wrong};
 use score_setup::ScoreConfig;
 use serial_memory::SerialMemory;
@@ -373,5 +375,41 @@ impl Client {
             }
             _ => Telling::nothing(),
         }
+    }
+
+    /// What is seen of the reply that has begun, if one has.
+    #[inline(always)]
+    pub(crate) fn begun_view(&self) -> Option<ReplyView>
+        ensures { result ≡ begun_view (Some (client_of self.now)) }
+    {
+        self.flights.begun_view()
+    }
+
+    /// What is seen of the reply that is due to a source, if one is of which no beat came.
+    #[inline(always)]
+    pub(crate) fn due_view(&self, source: u8) -> Option<ReplyView>
+        ensures { result ≡ due_view (Some (client_of self.now)) source }
+    {
+        self.flights.due_view(source)
+    }
+
+    /// What is seen of the reply that may come early to a source.
+    #[inline(always)]
+    pub(crate) fn early_view(&self, source: u8) -> Option<ReplyView>
+        ensures { result ≡ early_view (Some (client_of self.now)) source }
+    {
+        let due = self.early?;
+        if due.source != source {
+            return None;
+        }
+        left_view(&self.coming, &[due])
+    }
+
+    /// Whether the reply that has begun is over where a beat of a source comes.
+    #[inline(always)]
+    pub(crate) fn is_over(&self, source: u8) -> bool
+        ensures { result ≡ is_over (client_of self.now).flights source }
+    {
+        self.flights.is_over(source)
     }
 }

@@ -6,12 +6,13 @@ ghost use Rattle.scoreboard.specs.FailedBursts.{reach_of_burst, reach_of_reset, 
 use axi_beats::{ArBeat, AwBeat, last_byte};
 use std::marker::Model;
 
-/// The bytes of a burst, from the first to the last (AXI4, A3.4.1). The last one has more than 32 bits where the burst runs past the
-/// last address.
-#[derive(Clone, Copy)]
-pub(crate) struct Span {
-    pub(crate) first: u32,
-    pub(crate) last: u64,
+/// The bytes of a burst, from the first to the last (AXI4, A3.4.1).
+#[derive(Clone, Copy, Debug, PartialEq, Eq)]
+pub struct Span {
+    /// The address of the first one.
+    pub first: u32,
+    /// The address of the last one. It has more than 32 bits where the burst runs past the last address.
+    pub last: u64,
 }
 
 impl Model for Span {

@@ -1,5 +1,5 @@
 //! A client's requests in flight.
-ghost use Rattle.std.specs.Prelude.{List, ◌≡◌, ◌≤◌, ◌==◌, ◌++◌, [], ◌∷◌, ℕ, None, Some, IfOk, false, is_some, length, map, slice_get};
+ghost use Rattle.std.specs.Prelude.{List, ◌≡◌, ◌≤◌, ◌==◌, ◌++◌, [], ◌∷◌, ℕ, None, Some, IfOk, false, is_some, length, map, option_and_then, slice_get};
 ghost use Rattle.std.specs.List.{list_any, position};
 ghost use Rattle.std.specs.Option.{option_map};
 ghost use Rattle.std.specs.Vec.{vec_capacity};
@@ -12,6 +12,7 @@ ghost use Rattle.scoreboard.specs.InsideBoards.{HaveRoomToWrite, IsMarkedAlone, 
 ghost use Rattle.scoreboard.specs.Races.{beside_all, beside_dependent, flight_beside};
 ghost use Rattle.scoreboard.specs.Replies.{DuesHaveRoom, due_flights, due_footprint};
 ghost use Rattle.scoreboard.specs.Telling.{left_telling};
+ghost use Rattle.scoreboard.specs.Views.{view_of};
 ghost use Rattle.tl_messages.specs.declared.DBeat.{DBeat};
 
 use crate::failed_bursts::{Reach, Span};
@@ -19,6 +20,7 @@ use crate::footprint::Footprint;
 use crate::in_flight::{InFlight, left_telling};
 use crate::marks::{mark_dependent, mark_reached};
 use crate::replies::Replies;
+use crate::views::{ReplyView, left_view};
 use crate::{Policy, ReplyRule, Telling, Wrong};
 use serial_memory::SerialMemory;
 use std::alloc::{AllocError, Global};
@@ -424,5 +426,25 @@ impl Flights {
         let due = &self.due[place];
         let beats = self.replies.beats(due.source);
         Some(left_telling(policy, &due.footprint, beats))
+    }
+
+    /// What is seen of the reply that has begun, if one has.
+    #[inline(always)]
+    pub(crate) fn begun_view(&self) -> Option<ReplyView>
+        ensures { result ≡ option_and_then view_of (flights_of self.now).begun }
+    {
+        let flight = self.begun()?;
+        flight.view()
+    }
+
+    /// What is seen of the reply that is due to a source, if one is of which no beat came.
+    #[inline(always)]
+    pub(crate) fn due_view(&self, source: u8) -> Option<ReplyView>
+        ensures { result ≡ option_and_then view_of (due_to (flights_of self.now) source) }
+    {
+        let place = place_of(&self.due, source)?;
+        let due = &self.due[place];
+        let beats = self.replies.beats(due.source);
+        left_view(&due.footprint, beats)
     }
 }

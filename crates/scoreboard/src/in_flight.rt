@@ -13,10 +13,12 @@ ghost use Rattle.serial_memory.specs.SerialMemory.{HasRoomToGive, IsCheckedReque
 ghost use Rattle.scoreboard.specs.InsideBoards.{fails_by, flight_of, footprint_of, words_of};
 ghost use Rattle.scoreboard.specs.Races.{alone, flight_beside, unless_failed};
 ghost use Rattle.scoreboard.specs.Telling.{left_telling};
+ghost use Rattle.scoreboard.specs.Views.{view_of};
 
 use crate::failed_bursts::Span;
 use crate::footprint::Footprint;
 use crate::in_turn::wrong_in_turn;
+use crate::views::{ReplyView, left_view};
 use crate::{Errors, Policy, ReplyRule, Telling, Wrong};
 use bus_words::{has_lane, lane_byte};
 use serial_memory::SerialMemory;
@@ -412,5 +414,13 @@ impl InFlight {
         ensures { result ≡ left_telling policy (footprint_of self.now.footprint) self.now.beats }
     {
         left_telling(policy, &self.footprint, self.beats())
+    }
+
+    /// What is seen of its reply; nothing, where no beat is left.
+    #[inline(always)]
+    pub(crate) fn view(&self) -> Option<ReplyView>
+        ensures { result ≡ view_of (flight_of self.now) }
+    {
+        left_view(&self.footprint, self.beats())
     }
 }

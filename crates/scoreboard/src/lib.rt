@@ -20,15 +20,18 @@ mod replies;
 mod tellings;
 mod unknown;
 mod unknown_beats;
+mod views;
 
 use axi_checker::{AxiBeat, AxiRule};
 pub use board::Scoreboard;
+pub use failed_bursts::Span;
 pub use filling::can_fill;
 pub use places::AxiPlaces;
 pub use serial_memory::FillFault;
 pub use tellings::Telling;
 use tl_checker::TlRule;
 use tl_messages::{ABeat, DBeat};
+pub use views::ReplyView;
 
 /// In which orders requests may take effect.
 #[derive(Clone, Copy, Debug, PartialEq, Eq)]

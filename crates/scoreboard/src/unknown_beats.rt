@@ -1,5 +1,5 @@
 //! Beats of which nobody knows some lanes.
-ghost use Rattle.std.specs.Prelude.{◌≡◌, ◌<◌, ℕ, false, true, IfOk, OnErr, OnOk, slice_get, slice_set, []};
+ghost use Rattle.std.specs.Prelude.{◌≡◌, ◌<◌, ℕ, false, true, IfOk, IfSome, OnErr, OnOk, slice_get, slice_set, []};
 ghost use Rattle.bus_words.specs.Lanes.{has_lane};
 ghost use Rattle.tl_messages.specs.Requests.{request_of};
 ghost use Rattle.scoreboard.specs.Boards.{a_wrong, after_seen, d_wrong, wrong_at};
@@ -9,6 +9,7 @@ ghost use Rattle.serial_memory.specs.SerialMemory.{rooms_of};
 ghost use Rattle.scoreboard.specs.declared.ObservedBeat.TheVariants as seen;
 ghost use Rattle.scoreboard.specs.InsideBoards.{IsTaken, board_of, unknown_board};
 ghost use Rattle.scoreboard.specs.Unknown.{after_seen_unknown, doubted_on, is_looked_at, known_of, some_begun, unknown_request, unknown_wrong, with_given};
+ghost use Rattle.scoreboard.specs.Views.{made_whole, whole_with};
 ghost use Rattle.tl_checker.specs.declared.Progress.TheVariants.{More, Whole};
 
 use crate::board::Scoreboard;
@@ -40,6 +41,7 @@ impl Scoreboard {
         ensures grows { OnErr result (is_request seen.now ≡ true) }
         ensures cause { OnErr result (asks_for_room self.old.policy (board_of self.old) (rooms_of self.old.memory) seen.now ≡ true) }
         ensures policy { self.new.policy ≡ self.old.policy }
+        ensures request { OnOk result (IfSome (whole_with self.old.policy (board_of self.old) seen.now) (λ message. self.new.request ≡ message)) }
         ensures known { lanes ≡ 0 → IfOk result (λ wrong. wrong ≡ wrong_at self.old.policy (board_of self.old) seen.now) }
         ensures board { lanes ≡ 0 → some_begun self.old.unknown ≡ false
             → OnOk result ((board_of self.new ≡ after_seen self.old.policy (board_of self.old) seen.now) × (some_begun self.new.unknown ≡ false)) }
@@ -65,6 +67,7 @@ impl Scoreboard {
         ensures refused { OnErr result (unknown_board self.new ≡ unknown_board self.old) }
         ensures cause { OnErr result (asks_room self.old.policy (board_of self.old) (rooms_of self.old.memory) (slice_get (board_of self.old).clients client) beat.now ≡ true) }
         ensures policy { self.new.policy ≡ self.old.policy }
+        ensures request { OnOk result (IfSome (made_whole self.old.policy (slice_get (board_of self.old).clients client) beat.now) (λ message. self.new.request ≡ message)) }
     {
         let progress = match self.take_request(client, beat)? {
             Ok(progress) => progress,
@@ -85,6 +88,7 @@ impl Scoreboard {
         ensures whole { progress ≡ Whole
             → unknown_board self.new ≡ doubted_on (record (unknown_board self.old) { lanes = with_given self.old.unknown client given }) client (request_of self.old.request) }
         ensures policy { self.new.policy ≡ self.old.policy }
+        ensures request { self.new.request ≡ self.old.request }
     {
         keep_given(&mut self.unknown, client, given);
         match progress {
@@ -98,6 +102,7 @@ impl Scoreboard {
         requires taken { IsTaken self.old }
         ensures state { unknown_board self.new ≡ doubted_on (unknown_board self.old) client (request_of self.old.request) }
         ensures policy { self.new.policy ≡ self.old.policy }
+        ensures request { self.new.request ≡ self.old.request }
     {
         let Scoreboard {
             errors,

@@ -93,9 +93,13 @@ IsCheckedRequest message = (limits : TlPortLimits) × (limits.max_size ≤ 12) �
 abbrev pub HasRoomToGive : MemoryState → WholeRequest → Type 0
 HasRoomToGive state q = has_data q.operation ≡ true → IfSome (place_in (memory_of state) q) (λ address. rooms_of state (address / 4096) ≡ true)
 
--- the address of a good page at which an operation that gives bytes acts, if it has one
+-- the address of a good page at which an operation acts that is asked at an address, if it has one
+abbrev pub place_at : Memory → Operation → ℕ → Option ℕ
+place_at memory operation address = on_good_page memory.faults (translated memory.regions operation address)
+
+-- the same of an operation that gives bytes
 abbrev pub place_given : Memory → Operation → ℕ → Option ℕ
-place_given memory operation address = if has_data operation then on_good_page memory.faults (translated memory.regions operation address) else None
+place_given memory operation address = if has_data operation then place_at memory operation address else None
 
 -- whether an address, if there is one, is of a page without room
 abbrev pub lacks_room : (ℕ → Bool) → Option ℕ → Bool

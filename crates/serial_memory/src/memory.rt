@@ -53,7 +53,7 @@ impl Drop for SerialMemory {
 
 impl SerialMemory {
     ghost use Rattle.serial_memory.specs.declared.FillFault.TheVariants.{NoMemory, Place};
-    ghost use Rattle.serial_memory.specs.SerialMemory.{byte_at, can_fill, carried_out, doubts_of, filled, is_page_of, known_from, lacks_room, meaning_in, memory_of, on_good_page, place_given, place_in, rooms_of, some_lacks_room};
+    ghost use Rattle.serial_memory.specs.SerialMemory.{byte_at, can_fill, carried_out, doubts_of, filled, is_page_of, known_from, lacks_room, meaning_in, memory_of, on_good_page, place_at, place_given, place_in, rooms_of, some_lacks_room};
 
     /// The memory behind a page map, of these ranges of pages and bad words, which `memory_fault` doesn't refuse; all bytes are zero,
     /// and those of ranges of unknown bytes are in doubt. No page has room. The one error is that memory was refused.
@@ -179,6 +179,14 @@ impl SerialMemory {
         ensures good { IfSome result (λ address. is_good (standing_at (memory_of self.now).faults address) ≡ true) }
     {
         self.if_good(place_if_sound(&self.map, request))
+    }
+
+    /// The address of a good page at which an operation acts that is asked at an address; none where it acts on no good page. A request
+    /// that isn't corrupt acts where its operation does.
+    pub fn place_at(&self, operation: Operation, address: u32) -> Option<u32>
+        ensures { result ≡ place_at (memory_of self.now) operation address }
+    {
+        self.if_good(self.map.translate(operation, address))
     }
 
     /// Carries out a request that a checker let pass, whole and at once, and puts the beats of its reply into a box.

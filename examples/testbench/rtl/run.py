@@ -36,6 +36,7 @@ import traffic
 
 HERE = Path(__file__).resolve().parent
 SETUP = (HERE / "setup.lines").read_text()
+CLIENT = HERE.parents[2] / "interfaces/systemverilog/zuldegei_client.sv"  # plays a stimulus
 FILES = ("testbench.sv", "client.sv", "bridge.sv", "streaming_bridge.sv", "fifo.sv", "memory.sv", "monitor.sv")
 SIMULATORS = ("iverilog", "verilator")
 HAVE_X = ("iverilog",)  # simulators of four states
@@ -50,6 +51,8 @@ FAILING = "FAILING"  # bursts to good pages fail by lot, which no set-up can say
 RIGHT = "NONE"
 BUGS = ("LANE_SWAPPED", "STROBE_LOST", "OTHER_SOURCE", "REPLY_TWICE", "WLAST_EARLY", "PAGE_CROSSED", "REGION_UNASKED")
 BUGS += ("FIRST_MASK", "ANSWERED_EARLY", "CUT_SHORT", "REPLY_LOST", "BEAT_DROPPED", "UNKNOWN_READ")
+BUGS_OF_ORDER = ("UNGUARDED", "READS_MIXED", "WRITES_MIXED")  # which don't show in front of a memory that answers in order
+BUGS_IN_CORNERS = ("BEHIND_REGION", "WAITING_DROPPED", "PAGE_BEGIN_MOVED", "EMPTY_LAST_FILLED")  # to which plain lots hardly come
 SHOWN_BY_X = ("UNKNOWN_READ",)  # faults that nothing but an x shows for certain
 WRONG = re.compile(r"^= wrong (\d+) (.*?)(?: expected .*?)?(?: at (\d+))?$", re.MULTILINE)
 ENDED = re.compile(r"^= judged (\d+) wrong (\d+) outstanding (\d+) open (\d+) compared \d+ of \d+$", re.MULTILINE)
@@ -88,6 +91,7 @@ class Bench(NamedTuple):
     began: str = ""  # what the memory begins with, where that isn't what the set-up says
     resets: int = 0  # how often all is reset meanwhile
     corners: int = CORNERS
+    is_played: bool = False  # by clients that play a stimulus
 
     @property
     def name(self):
@@ -109,7 +113,12 @@ class Bench(NamedTuple):
     def defines(self):
         chosen = [f"-DBRIDGE={self.bridge}"] if self.bridge != BRIDGES[0] else []
         began = f"-DBEGAN={self.began or PAGES[self.asked.pages]}"
-        return [*chosen, f"-DHABIT={self.habit}", f"-DMEMORY={self.memory}", began, f"-DBUG={self.bug}", f"-DCALM={int(self.is_calm)}"]
+        played = ["-DPLAYED"] * self.is_played
+        return [*chosen, *played, f"-DHABIT={self.habit}", f"-DMEMORY={self.memory}", began, f"-DBUG={self.bug}", f"-DCALM={int(self.is_calm)}"]
+
+    @property
+    def files(self):
+        return [*FILES, CLIENT] if self.is_played else FILES
 
 
 class Wrong(NamedTuple):
@@ -148,7 +157,7 @@ def compiled(simulator, bench, folder):
         words = ["verilator", "--binary", "--timing", "-Wno-fatal", *bench.defines, "--top-module", "testbench", "-Mdir", folder]
         words += ["-o", made.name]
         runs = [made]
-    simulated([*words, *FILES])
+    simulated([*words, *bench.files])
     return runs
 
 

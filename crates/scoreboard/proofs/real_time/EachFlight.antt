@@ -1,5 +1,5 @@
 -- What holds of each request in flight as it joins the others, and stays where others join and beats of its reply come, holds along beats.
-use Rattle.std.proofs.Common.{◌≡◌, ℕ, ◌==◌, Bool, true, false, List, [], ◌∷◌, map, drop, Option, Some, None, Result, Ok, Err, if◌then◌else◌, refl, subst}
+use Rattle.std.proofs.Common.{◌≡◌, ◌<◌, ℕ, ◌==◌, Bool, true, false, List, [], ◌∷◌, length, map, drop, Option, Some, None, Result, Ok, Err, if◌then◌else◌, refl, subst, arith}
 use Rattle.std.specs.Prelude.{is_some, slice_get, unwrap_or}
 use Rattle.std.specs.List.{AllByRecursion, find}
 use Rattle.std.specs.Option.{option_map, option_to_list}
@@ -37,7 +37,7 @@ abbrev pub AreOfEach : (InFlight → Type 0) → List ClientBoard → Type 0
 AreOfEach P clients = (number : ℕ) (client : ClientBoard) → slice_get clients number ≡ Some client → IsOfEach P client
 
 module _ (P : InFlight → Type 0) (beside_kept : (footprint : Footprint) (flight : InFlight) → P flight → P (flight_beside footprint flight))
-    (left_kept : (flight : InFlight) → P flight → P (record flight { beats = drop 1 flight.beats })) where
+    (left_kept : (flight : InFlight) → 0 < length (drop 1 flight.beats) → P flight → P (record flight { beats = drop 1 flight.beats })) where
   -- ---- one client
 
   due_beside : (footprint : Footprint) (due : List InFlight) → AllByRecursion P due → AllByRecursion P (map (flight_beside footprint) due)
@@ -56,12 +56,12 @@ module _ (P : InFlight → Type 0) (beside_kept : (footprint : Footprint) (fligh
   begun_left None source all = tt
   begun_left (Some flight) source all = by_source (flight.source == source)
     where
-      left : (beats : List DBeat) → P (record flight { beats = beats }) → AllByRecursion P (option_to_list (with_left flight beats))
+      left : (beats : List DBeat) → (0 < length beats → P (record flight { beats = beats })) → AllByRecursion P (option_to_list (with_left flight beats))
       left [] own = tt
-      left (beat ∷ beats) own = (own, tt)
+      left (beat ∷ beats) own = (own (omega arith), tt)
 
       by_source : (b : Bool) → AllByRecursion P (option_to_list (if b then with_left flight (drop 1 flight.beats) else Some flight))
-      by_source true = left (drop 1 flight.beats) (left_kept flight all.0)
+      by_source true = left (drop 1 flight.beats) (λ some. left_kept flight some all.0)
       by_source false = all
 
   pub each_replied : (client : ClientBoard) (source : ℕ) (told : Bool) → IsOfEach P client

@@ -160,8 +160,8 @@ quiet_reply board number (Some client) beat there is =
     record {
       known = is.known;
       quiet = each_client (IsOfEach IsQuiet) board.clients number client (client_after beat changed) there is.quiet
-          (each_replied IsQuiet (λ footprint flight quiet. quiet) (λ flight quiet. quiet) changed beat.source (unwrap_or (told_to changed) beat.denied)
-          (each_cut IsQuiet (λ footprint flight quiet. quiet) (λ flight quiet. quiet) client beat.source (is.quiet number client there)));
+          (each_replied IsQuiet (λ footprint flight quiet. quiet) (λ flight some quiet. quiet) changed beat.source (unwrap_or (told_to changed) beat.denied)
+          (each_cut IsQuiet (λ footprint flight quiet. quiet) (λ flight some quiet. quiet) client beat.source (is.quiet number client there)));
     }
 
 pub quiet_next : (board : Board) (seen : ObservedBeat) → IsQuietBoard board → IsQuietBoard (after_seen AcceptanceOrder board seen)

@@ -305,7 +305,7 @@ plain_next : (board : Board) (seen : ObservedBeat) → IsPlainBoard board → wr
     → IsPlainBoard (after_seen RealTime board seen)
 plain_next board seen plain none =
     record {
-      alike = seen_each TellAlike (λ footprint flight tells. tells) (λ flight tells. (tells.0, left_alike tells.0 flight.beats tells.1, left_own flight.source flight.beats tells.2)) board plain.alike
+      alike = seen_each TellAlike (λ footprint flight tells. tells) (λ flight some tells. (tells.0, left_alike tells.0 flight.beats tells.1, left_own flight.source flight.beats tells.2)) board plain.alike
           (λ q. (_, shown_tells q _, shown_source q _)) (λ number client there q. (_, shown_tells q _, shown_source q _)) (λ any span flight tells. tells) seen;
       plain = subst (λ (errors : Errors). ArePlain errors (after_seen RealTime board seen).clients) (sym (errors_kept board seen)) (plain_request board seen plain none);
     }

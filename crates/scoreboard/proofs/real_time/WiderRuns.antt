@@ -227,7 +227,7 @@ strict_next : (board : Board) (seen : ObservedBeat) → IsStrict board → IsStr
 strict_next board seen strict =
     record {
       errors = errors_kept board seen ∙ strict.errors;
-      unfailed = seen_each IsUnfailed (λ footprint flight sound. sound) (λ flight sound. sound) board strict.unfailed
+      unfailed = seen_each IsUnfailed (λ footprint flight sound. sound) (λ flight some sound. sound) board strict.unfailed
           (λ q. fails_flag (fails board.errors board.memory q) (joining board.indeterminate (footprints_of board.clients) (place_on board q) q) refl ∙ sound q)
           (λ number client there q. ap₂ (λ (one other : Bool). one || other) (strict.late number client there).1
           (fails_flag (fails board.errors board.memory q) (alone board.indeterminate (place_on board q) q) refl ∙ sound q))

@@ -8,5 +8,5 @@ returns g c =
     let take = c.in_ok-take.ensures in
     let written =
     text_written (score_of c.args.self.now) (score_of c.take.new.self) c.args.number c.args.command.now c.take.new.findings.held c.take.new.findings.own _ _ _ c.in_ok-found.found c.in_ok-left.left
-    take.held take.own take.state c.in_ok-found.ensures c.in_ok-left.ensures in
-    rw take.may (written.0, take.state, written.1, written.2)
+    take.1.held take.1.own take.1.after c.in_ok-found.ensures c.in_ok-left.ensures in
+    rw take.0 (written.0, take.1.after, written.1, written.2)

@@ -1,5 +1,5 @@
 use Rattle.std.proofs.Common.{rules}
 use Rattle.score_script.proofs.score.Score.settle.Goals as goal
 
-pub returns-then-is_none-clause-found : goal.returns-then-is_none-clause-found
-returns-then-is_none-clause-found c = search rules
+pub returns-then-is_none : goal.returns-then-is_none
+returns-then-is_none c = search rules

@@ -1,0 +1,7 @@
+-- Those so far are changed.
+use Rattle.std.proofs.Common.{◌≡◌, ◌++◌, drop, map, take}
+use Rattle.byte_values.specs.Words.{closed_by}
+use Rattle.byte_values.proofs.held.close_each.Given as goal
+
+abbrev pub invariant-loop-holding : goal.invariant-loop-holding
+invariant-loop-holding l = l.held ≡ map (closed_by l.oldest l.now) (take l.holding-index l.fn.held) ++ drop l.holding-index l.fn.held

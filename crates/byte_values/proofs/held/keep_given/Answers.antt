@@ -1,0 +1,7 @@
+-- What the closure answers is the test.
+use Rattle.std.proofs.Common.{rules}
+use Rattle.arrayvec.proofs.ArrayVecLemmas.{filter-from_retain}
+use Rattle.byte_values.proofs.held.keep_given.Goals as goal
+
+pub returns : goal.returns
+returns c = filter-from_retain _ _ _ (λ x b f' y called. search rules) _ _ c.retain.ensures.filtered

@@ -1,0 +1,9 @@
+-- The lanes so far and those of what is left are those of all.
+use Rattle.std.proofs.Common.{◌≡◌, ◌∷◌, drop}
+use Rattle.byte_values.specs.Parts.{unknown_by, with_all}
+use Rattle.byte_values.specs.Words.{beginning_of}
+use Rattle.byte_values.proofs.held.unknown_lanes.Given as goal
+
+abbrev pub invariant-loop-holding : goal.invariant-loop-holding
+invariant-loop-holding l =
+    with_all (unknown_by l.held l.number) l.lanes (drop l.holding-index l.held) ≡ with_all (unknown_by l.held l.number) 0 (beginning_of l.fn.settled ∷ l.held)

@@ -1,0 +1,6 @@
+pub mod Beginnings
+pub mod Counting
+pub mod Going
+pub mod HeldLaws
+pub mod MemoryGoes
+pub mod RangeWords

@@ -1,0 +1,7 @@
+-- The words so far have the request in their lists, as far as these aren't given up.
+use Rattle.std.proofs.Common.{ℕ}
+use Rattle.value_memory.specs.InsideValues.{HasBegunUntil, KeepsRest}
+use Rattle.value_memory.proofs.memory.ValueMemory.begin_each.Given as goal
+
+abbrev pub invariant-loop-place : goal.invariant-loop-place
+invariant-loop-place l = KeepsRest l.fn.self l.self × ((x : ℕ) → HasBegunUntil l.fn.self.begun l.range l.place l.fn.self l.self l.crowded x)

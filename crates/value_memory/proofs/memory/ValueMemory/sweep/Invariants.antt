@@ -1,0 +1,8 @@
+-- Lists are kept short so far, and nothing else has changed.
+use Rattle.std.proofs.Common.{[], false}
+use Rattle.value_memory.specs.InsideValues.{KeepsRest}
+use Rattle.value_memory.specs.ValueMemory.{AllGo, to_all}
+use Rattle.value_memory.proofs.memory.ValueMemory.sweep.Given as goal
+
+abbrev pub invariant-loop-place : goal.invariant-loop-place
+invariant-loop-place l = AllGo l.fn.self.oldest false l.fn.self l.self (to_all []) × KeepsRest l.fn.self l.self

@@ -1,0 +1,3 @@
+pub mod ByteEvents
+pub mod InsideValues
+pub mod ValueMemory

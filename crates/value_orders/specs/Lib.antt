@@ -1,0 +1,4 @@
+pub mod Bytes
+pub mod Histories
+pub mod Places
+pub mod RunOrders

@@ -1,0 +1,3 @@
+mod Places
+pub mod ShelfLaws
+pub mod TableLaws

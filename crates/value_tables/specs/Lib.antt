@@ -1,0 +1,3 @@
+pub mod InsideShelves
+pub mod Shelves
+pub mod Tables
