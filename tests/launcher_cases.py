@@ -218,6 +218,23 @@ def time_of_a_test(copy):
     return None if "isn't known" in unknown else repr(unknown)
 
 
+def beside_each_other(copy):
+    """Commands by .ci/beside.py: what they count is added up; a last line of another kind, or a status that no line explains, is a failure."""
+    said = {"3 passed, 0 failed": 0, "one fails\\n2 passed, 1 failed": 1, "nothing": 0, "5 passed, 0 failed": 3}
+    command = f"\t{sys.executable}\t-c\tprint('%s'); raise SystemExit(%d)\n"
+    copy.source("tries", "".join(command % it for it in said.items()))
+    ran = subprocess.run([sys.executable, TOP / ".ci/beside.py", "tries"], cwd=copy.root, stdout=subprocess.PIPE, text=True, timeout=60)
+    lines = ran.stdout.splitlines()
+    is_right = ran.returncode == 1 and lines[-1] == "10 passed, 3 failed" and "one fails" in lines
+    return None if is_right and sum(it.startswith("== ") for it in lines) == 4 else f"status {ran.returncode}, {lines}"
+
+
+def beside_each_other_all_right(copy):
+    copy.source("tries", f"\t{sys.executable}\t-c\tprint('3 passed, 0 failed')\n" * 9)
+    ran = subprocess.run([sys.executable, TOP / ".ci/beside.py", "tries"], cwd=copy.root, stdout=subprocess.PIPE, text=True, timeout=60)
+    return None if (ran.returncode, ran.stdout.splitlines()[-1]) == (0, "27 passed, 0 failed") else f"status {ran.returncode}, {ran.stdout!r}"
+
+
 def unproved(answer, text="main 1", builds=None, tool="tlbridge"):
     """Tells how an answer isn't that of a program of which nothing is proved, which is said each time."""
     got, output, errors, noted = answer
@@ -489,6 +506,8 @@ def cases(program):
         "how long each crate took": times_noted,
         "how long a whole test took": times_kept,
         "how long a whole test will take": time_of_a_test,
+        "commands beside each other": beside_each_other,
+        "commands beside each other, none of which fails": beside_each_other_all_right,
         "a program that isn't proved": unproved_use,
         "a program that isn't proved, and one that is": unproved_apart,
         "a program that isn't proved, and can't be built": unproved_fails,

@@ -7,15 +7,20 @@ A, D, AW, AR, W, B, R = "A", "D", "AW", "AR", "W", "B", "R"
 HEXADECIMAL = "0-9a-fA-F"
 
 
+# A field of which a digit isn't known, whatever else it is: of at most 20 digits.
+UNKNOWN = rf"(?=[^ ]{{1,20}}(?: |$))[{HEXADECIMAL}]*[xXzZ][{HEXADECIMAL}xXzZ]*"
+
+
 def field(digits: str, most: int) -> str:
     """A field of so many digits behind leading zeros, or one of which a digit isn't known."""
-    return rf"(?:0*[{digits}]{{1,{most}}}|[{digits}]*[xXzZ][{digits}xXzZ]*)"
+    return rf"(?:0*[{digits}]{{1,{most}}}|{UNKNOWN})"
 
 
-DECIMAL = r"(?:0*(?:25[0-5]|2[0-4]\d|1?\d?\d)|\d*[xXzZ][\dxXzZ]*)"  # to 255
+DECIMAL = rf"(?:0*(?:25[0-5]|2[0-4]\d|1?\d?\d)|{UNKNOWN})"  # to 255
 FLAG = field("01", 1)
-ADDRESS, LANES, PAYLOAD = (field(HEXADECIMAL, most) for most in (8, 2, 16))
-CLIENT, RESPONSE = r"0*\d{1,3}", r"(?:OKAY|EXOKAY|SLVERR|DECERR|[xXzZ]+)"
+ADDRESS, LANES = (field(HEXADECIMAL, most) for most in (8, 2))
+PAYLOAD = field(f"{HEXADECIMAL}xXzZ", 16)
+CLIENT, RESPONSE = r"0*\d{1,3}", rf"(?:OKAY|EXOKAY|SLVERR|DECERR|{UNKNOWN})"
 HEX, DEC = rf"[{HEXADECIMAL}]{{1,16}}", r"\d{1,20}"
 # What stands behind the first word of a beat, a time, a wait, or a line of the set-up that is looked at.
 LINES = {
