@@ -1,12 +1,12 @@
-"""Short histories of requests to a few bytes, most of which race, and what tlscore reports of their replies by `profile tilelink`, beside a
-search over all orders of what the requests do to a byte: Puts, Gets and atomics, corrupt beats, resets, bytes that nobody knows, and by
-errors any early replies and error responses. A beat is reported exactly where no order has one of its bytes be told so, whatever others were
-told, but for atomics, which leave what they make of what they were told. And it is counted how much more two searches see that tlscore lets
-pass, by what lies there: orders of a byte that explain all that was told of it, and orders of whole requests.
+"""Short histories of requests to a few bytes, most of which race, beside a search over all orders of what the requests do to a byte: Puts,
+Gets and atomics, corrupt beats, resets, bytes that nobody knows, and by errors any early replies and error responses. A reply is found
+wrong exactly where no order has one of its bytes be told so, whatever was told else, but that an atomic leaves what it makes of what it
+was told: so it is by the rule of values, written plainly (value_sets.py), and so tlscore reports it by `profile tilelink`. It is counted
+what passes all the same though no order explains it with all else that was told, of that byte or of whole requests, by what lies there.
 
     python3 tests/value_orders.py TLSCORE [HISTORIES] [--seed WORD] [--measure]
 
-By --measure it prints these counts alone, and asks for nothing.
+By --measure nothing is asked of tlscore, and what it reports is counted alone.
 """
 
 import argparse
@@ -16,28 +16,17 @@ import random
 import re
 import secrets
 import sys
-from collections import Counter, defaultdict
-from dataclasses import dataclass, field
+from collections import Counter
 from typing import Dict, FrozenSet, Iterable, Iterator, List, NamedTuple, Optional, Sequence, Set, Tuple
 
 from ends import started, told
-from model import ARITHMETIC, GET, LOGICAL, PUT_FULL, PUT_PARTIAL
+from value_histories import BYTES, PUTS, History, Request, Value
+from value_sets import ValueSets
 
-from client import beats_of  # model.py says where it stands
-from random_bench import applied, full_mask
-
-PUTS, CLIENTS, SOURCES, AXI = (PUT_FULL, PUT_PARTIAL), 3, 2, 0x10000
-SETUP = (f"config {CLIENTS} 4 16 2 16 12 {'h' * CLIENTS} 8", "region 0 4 10 gpah", "profile tilelink", "x data")
-# Opcodes, params and sizes of requests, all of which lie in the first 16 bytes of a page.
-PLAIN = [(PUT_FULL, 0, 4), (PUT_FULL, 0, 3), (PUT_FULL, 0, 0), (PUT_PARTIAL, 0, 4), (GET, 0, 0), (GET, 0, 4), *[(GET, 0, 3)] * 2]
-ATOMS = [(ARITHMETIC, 4, 3), (ARITHMETIC, 4, 0), (ARITHMETIC, 3, 3), (LOGICAL, 3, 3), (LOGICAL, 0, 0)]
-ADDRESSES, MASKS = (0, 3, 8), (0xFF, 0xF0, 0x0F, 0x11, 0)
-# How many moves and requests there are at the most, how many requests a client has at once, and how many Gets when all is quiet.
-MOVES, REQUESTS, AT_ONCE, QUIET = 200, 7, 2, 2
 WRONG = re.compile(r"(?m)^= wrong (\d+) reply [78] (?:PAYLOAD|X)\b")
-# How many beats these are at least in a history, on the average.
-WANTED = {"told": 3, "told so in no order": 0.5, "told so in some order": 1, "told of bytes that raced": 0.5}
-Value = Optional[int]  # a byte, or one that nobody knows
+# How much there is at least of these in a history, on the average.
+WANTED = {"replies that tell": 3, "told so in no order": 0.5, "told so in some order": 1, "resets": 0.1, "error responses": 0.1}
+WANTED.update({"early replies": 0.05, "corrupt beats": 0.1, "atomics": 0.5, "beats with bytes that nobody knows": 0.1})
 NO_BYTE = 256  # a value that none gives
 
 
@@ -92,230 +81,6 @@ def is_explained(operations: Tuple[Operation, ...], start: Tuple[Value, ...]) ->
     return False
 
 
-# ---- what was seen of requests
-
-
-@dataclass(eq=False)
-class Request:
-    """A request by lot, and in which lines what came of it."""
-
-    client: int
-    opcode: int
-    param: int
-    size: int
-    source: int
-    address: int
-    masks: List[int]
-    payloads: List[int]
-    unknown: List[Set[int]]  # of each beat the lanes that nobody knows
-    corrupt: List[int]
-    came: List[int] = field(default_factory=list)  # its beats
-    replied: List[int] = field(default_factory=list)  # the beats of its reply
-    told: Dict[int, Dict[int, Value]] = field(default_factory=dict)  # by line, what beats told that are looked at
-    struck: float = math.inf  # an error response told of it
-    ended: float = math.inf
-    cut: float = math.inf  # by a reset
-
-    @property
-    def span(self) -> range:
-        return range(self.address, self.address + 2**self.size)
-
-    @property
-    def writes(self) -> bool:
-        return self.opcode != GET
-
-    @property
-    def lacks(self) -> bool:
-        """Whether a beat of it is still to come."""
-        return len(self.came) < len(self.masks)
-
-    @property
-    def is_answered(self) -> bool:
-        return len(self.replied) == beats_of(self.size, self.opcode not in PUTS)
-
-    def offered(self, address: int) -> Tuple[bool, Value]:
-        """Whether its mask has a byte, and the byte that it offers, for an atomic as its operand."""
-        at, lane = (address - (self.address & -8)) // 8, address % 8
-        return bool(self.masks[at] >> lane & 1), None if lane in self.unknown[at] else self.payloads[at] >> 8 * lane & 0xFF
-
-    def has_failed(self, time: int, errors: str) -> bool:
-        """Whether it has failed by a time: a beat was corrupt, or, by errors any, a response told of it, or its reply came early."""
-        is_corrupt = any(corrupt for corrupt, line in zip(self.corrupt, self.came) if line <= time)
-        is_early = any(line <= time and (self.lacks or line < self.came[-1]) for line in self.replied)
-        return is_corrupt or errors == "any" and (self.struck <= time or is_early)
-
-    def read_by(self, time: int, wrong: Iterable[int]) -> Dict[int, Value]:
-        """What it was told by a time, by beats that weren't wrong."""
-        lines = (told for line, told in self.told.items() if line <= time and line not in wrong)
-        return {address: value for told in lines for address, value in told.items() if value is not None}
-
-    def made(self, read: Dict[int, Value]) -> Dict[int, Value]:
-        """What an atomic makes of what it was told."""
-        old, operand = [read.get(it) for it in self.span], [self.offered(it)[1] for it in self.span]
-        if None in old or None in operand:
-            return dict.fromkeys(self.span)
-        numbers = (int.from_bytes(bytes(it), "little") for it in (old, operand))
-        return dict(zip(self.span, applied(self.opcode, self.param, len(old), *numbers).to_bytes(len(old), "little")))
-
-    def gives_by(self, time: int, errors: str, wrong: Iterable[int]) -> Dict[int, Value]:
-        """What it gives, as far as that is known by a time. A corrupt one gives nothing by errors strict."""
-        if not self.writes or self.has_failed(time, errors) and errors == "strict":
-            return {}
-        if self.lacks or time < self.came[-1]:
-            return dict.fromkeys(self.span)
-        left = {it: self.offered(it)[1] for it in self.span if self.offered(it)[0]}
-        left = left if self.opcode in PUTS else self.made(self.read_by(time, wrong))
-        return dict.fromkeys(left) if self.has_failed(time, errors) else left
-
-    def is_sure_by(self, time: int, errors: str) -> bool:
-        """Whether it has taken effect for certain."""
-        return self.writes and self.ended <= time < self.cut and not self.has_failed(time, errors)
-
-
-class History:
-    """Clients that make requests and are told replies in a random schedule, and when all is quiet Gets that read what is left."""
-
-    def __init__(self, rng: random.Random):
-        self.rng, self.errors, self.pages = rng, rng.choice(("strict", "any")), rng.choice(("good", "good", "any"))
-        self.lines = [*SETUP, f"page 10 4 {self.pages}", f"errors {self.errors}"]
-        self.requests: List[Request] = []
-        self.kinds = PLAIN + ATOMS * rng.choice((0, 0, 1, 2))
-        self.is_few = rng.random() < 0.5  # hardly any different bytes
-        self.honest = rng.choice((0, 0.5, 0.9, 0.97))
-        self.given: Dict[int, List[int]] = defaultdict(lambda: [self.byte() if self.pages == "any" else 0])
-        self.shares = {it: rng.choice((0, share)) for it, share in (("reset", 0.02), ("strike", 0.05), ("corrupt", 0.1), ("x", 0.05))}
-        for _ in range(MOVES):
-            self.move()
-        self.end()
-        for _ in range(QUIET):
-            self.begin(0, (GET, 0, 4))
-            self.end()
-
-    def does(self, what: str) -> bool:
-        return self.rng.random() < self.shares[what]
-
-    def byte(self) -> int:
-        return self.rng.randrange(1, 4 if self.is_few else 256)
-
-    def live(self, client: Optional[int] = None) -> List[Request]:
-        """Those that haven't ended."""
-        return [it for it in self.requests if it.ended == math.inf and client in (None, it.client)]
-
-    def move(self) -> None:
-        """A reset, an error response, a beat of a reply, or one of a message."""
-        rng, client = self.rng, self.rng.randrange(CLIENTS)
-        is_over = len(self.requests) >= REQUESTS
-        if not is_over and self.does("reset"):
-            self.reset()
-        elif self.errors == "any" and self.live() and self.does("strike"):
-            self.strike()
-        elif rng.random() < 0.5:
-            self.answer(client)
-        else:
-            lacking = [it for it in self.live(client) if it.lacks]
-            if lacking:
-                self.offer(lacking[0])
-            elif not is_over and len(self.live(client)) < AT_ONCE:
-                self.begin(client, rng.choice(self.kinds))
-
-    def end(self) -> None:
-        """All requests end."""
-        while self.live():
-            for request in self.live():
-                if request.lacks:
-                    self.offer(request)
-                else:
-                    self.answer(request.client)
-
-    def reset(self) -> None:
-        self.lines.append("= reset")
-        for request in self.live():
-            request.ended = request.cut = len(self.lines)
-
-    def strike(self) -> None:
-        """A burst fails, of which nobody knows whose it is: each in flight that shares a byte with it may have failed."""
-        word, is_write = self.rng.choice((0, 8)), self.rng.random() < 0.5
-        self.lines.append(f"{'AW' if is_write else 'AR'} 0 {AXI + word:08x} 0 3 1")
-        self.lines += [f"W {0:016x} ff 1", "B 0 SLVERR"] if is_write else [f"R 0 {0:016x} DECERR 1"]
-        for request in self.live():
-            if set(request.span) & set(range(word, word + 8)):
-                request.struck = min(request.struck, len(self.lines))
-
-    # ---- channel A
-
-    def begin(self, client: int, kind: Tuple[int, int, int]) -> None:
-        """The first beat of a request comes."""
-        rng, (opcode, param, size) = self.rng, kind
-        address = rng.choice(ADDRESSES) & -(2**size)
-        source = min(set(range(SOURCES)) - {it.source for it in self.live(client)})
-        request = Request(client, opcode, param, size, source, address, [], [], [], [])
-        full = full_mask(size, address)
-        for _ in range(beats_of(size, opcode != GET)):
-            request.masks.append(full & rng.choice(MASKS) if opcode == PUT_PARTIAL else full)
-            request.payloads.append(int.from_bytes(bytes(self.byte() for _ in range(8)), "little"))
-            request.unknown.append({rng.randrange(8)} if opcode != GET and self.does("x") else set())
-            request.corrupt.append(int(opcode in PUTS and self.does("corrupt")))
-        self.requests.append(request)
-        self.offer(request)
-
-    def offer(self, request: Request) -> None:
-        """The next beat of a message comes, which may end its request."""
-        at = len(request.came)
-        payload = shown(request.payloads[at], request.unknown[at])
-        fields = f"{request.opcode} {request.param} {request.size} {request.source} {request.address:08x} {request.masks[at]:02x}"
-        self.lines.append(f"A {request.client} {fields} {payload} {request.corrupt[at]}")
-        request.came.append(len(self.lines))
-        if request.is_answered:
-            request.ended = len(self.lines)
-        for address in request.span[8 * at : 8 * at + 8] if request.opcode in PUTS else ():
-            has, value = request.offered(address)
-            self.given[address] += [value] if has and value is not None else []
-
-    # ---- channel D
-
-    def answer(self, client: int) -> None:
-        """The next beat of a client's reply comes, or the first one of another, at times before its request is whole."""
-        going_on = [it for it in self.live(client) if it.replied and not it.is_answered]
-        due = [it for it in self.live(client) if not it.replied and (not it.lacks or self.errors == "any" and self.rng.random() < 0.1)]
-        if going_on or due:
-            self.reply(self.rng.choice(going_on or due))
-
-    def reply(self, request: Request) -> None:
-        line = len(self.lines) + 1
-        if request.opcode in PUTS:
-            is_denied = int(request.has_failed(line, self.errors) and self.errors == "strict")
-            self.lines.append(f"D {request.client} 0 0 {request.size} {request.source} {is_denied} {0:016x} 0")
-        else:
-            self.tell(request, line)
-        request.replied.append(line)
-        if request.is_answered and not request.lacks:
-            request.ended = line
-        if request.opcode not in (*PUTS, GET):
-            for address, value in request.made(request.read_by(line, ())).items():
-                self.given[address] += [] if value is None else [value]
-
-    def tell(self, request: Request, line: int) -> None:
-        """A beat tells bytes: most often what was given last, in some order, or else what was given some time, or anything."""
-        read = {it: self.drawn(it) for it in request.span[8 * len(request.replied) :][:8]}
-        unknown = {self.rng.choice(list(read)) % 8} if self.does("x") else set()
-        payload = shown(sum(value << 8 * (it % 8) for it, value in read.items()), unknown)
-        self.lines.append(f"D {request.client} 1 0 {request.size} {request.source} 0 {payload} 0")
-        if not request.has_failed(line, self.errors):
-            request.told[line] = {it: None if it % 8 in unknown else value for it, value in read.items()}
-
-    def drawn(self, address: int) -> int:
-        rng, given = self.rng, self.given[address]
-        if rng.random() < self.honest:
-            return given[-1]
-        return rng.choice(given[-3:]) if rng.random() < 0.8 else rng.choice([*given, rng.randrange(256)])
-
-
-def shown(payload: int, unknown: Set[int]) -> str:
-    """A payload with x in the lanes that nobody knows."""
-    digits = f"{payload:016x}"
-    return "".join("x" if 7 - at // 2 in unknown else digit for at, digit in enumerate(digits))
-
-
 # ---- what the orders explain
 
 
@@ -365,8 +130,8 @@ def kind(orders: Orders, address: int) -> str:
 # ---- what is reported
 
 
-def judged(program: str, history: History) -> Set[int]:
-    """The lines of beats that are reported for their payload."""
+def reported(program: str, history: History) -> Set[int]:
+    """The lines of beats that tlscore reports, all of them for their payload."""
     ran = started([program], "".join(f"{it}\n" for it in history.lines).encode())
     text = ran.text.decode()
     wrong = {int(it) for it in WRONG.findall(text)}
@@ -375,51 +140,91 @@ def judged(program: str, history: History) -> Set[int]:
     return wrong
 
 
-def faults(program: str, history: History, counts: Counter) -> Iterator[str]:
-    """How what is reported of a history isn't what its orders say."""
-    wrong = judged(program, history)
-    beats = sorted((line, request) for request in history.requests for line in request.told)
-    spent: Set[int] = set()  # bytes of which no order explains what was told
-    is_torn = False
-    for line, request in sorted(beats, key=lambda it: it[0]):
-        before = {it for it in wrong if it < line}
-        orders = Orders(history, line, before | {line})
-        refused = [it for it, value in request.told[line].items() if not orders.explain_alone(request, it, value)]
-        counts.update({"told": 1, "told so in no order": bool(refused), "told so in some order": not refused, "reported": line in wrong})
+def refused(history: History) -> Set[int]:
+    """The lines of beats that are wrong by the rule of values."""
+    tellings = ValueSets(history.lines).tellings
+    return {it.line for it in tellings if it.is_wrong([byte.value for byte in it.told])}
+
+
+def beats_of_replies(history: History) -> List[Tuple[int, Request]]:
+    """The beats that tell bytes, by line, each with its request."""
+    return sorted(((line, it) for it in history.requests for line in it.told), key=lambda it: it[0])
+
+
+def in_no_order(history: History, line: int, request: Request, wrong: Set[int]) -> List[int]:
+    """The bytes of a beat that no order has be told so."""
+    orders = Orders(history, line, wrong | {line})
+    return [it for it, value in request.told[line].items() if not orders.explain_alone(request, it, value)]
+
+
+def faults(history: History, wrong: Set[int], counts: Counter) -> Iterator[str]:
+    """How what was found wrong of a history isn't what the orders say of it."""
+    for line, request in beats_of_replies(history):
+        refused, beat = in_no_order(history, line, request, wrong), f"line {line}, {history.lines[line - 1]}"
+        counts.update({"replies that tell": 1, "told so in no order": bool(refused), "told so in some order": not refused})
+        counts["reported"] += line in wrong
         if line in wrong and not refused:
-            counts["reported, and so in some order"] += 1
-            yield f"line {line}, {history.lines[line - 1]}, is reported, and each of its bytes may be told so"
+            counts["told so in some order, and reported"] += 1
+            yield f"{beat}, is found wrong, and each of its bytes may be told so"
         if refused and line not in wrong:
-            counts["told so in no order, and not reported"] += 1
-            yield f"line {line}, {history.lines[line - 1]}, isn't reported, and no order has it so at {refused}"
-        if line not in wrong:
-            is_torn = more(Orders(history, line, wrong), request.told[line], spent, is_torn or bool(refused), counts)
+            counts["told so in no order, and pass"] += 1
+            yield f"{beat}, isn't found wrong, and no order has it be told so at {refused}"
 
 
-def more(orders: Orders, told: Dict[int, Value], spent: Set[int], is_torn: bool, counts: Counter) -> bool:
-    """Counts what all that was told rules out, of a beat that isn't reported. Whether no order of whole requests explains it any more."""
-    everything = orders.all_told()
-    for address in set(told) - spent:
-        if not orders.explain([address], everything):
-            spent.add(address)
-            counts.update([f"passed, and no order of the byte explains all that was told: {kind(orders, address)}"] * (not is_torn))
-            is_torn = True
-    if not is_torn and not orders.explain(range(16), everything):
-        counts["passed, and no order of whole requests explains all that was told"] += 1
-        return True
-    return is_torn
+def passed(history: History, wrong: Set[int], counts: Counter) -> None:
+    """Counts by its kind the first beat that passes, and may be told so, where no order explains any more all that was told of a byte, or
+    of all bytes."""
+    for line, request in beats_of_replies(history):
+        if line in wrong:
+            continue
+        if in_no_order(history, line, request, wrong):
+            return
+        orders = Orders(history, line, wrong)
+        everything = orders.all_told()
+        torn = [it for it in request.told[line] if not orders.explain([it], everything)]
+        if torn:
+            counts[f"pass first against all that was told of a byte: {kind(orders, torn[0])}"] += 1
+            return
+        if not orders.explain(range(BYTES), everything):
+            counts["pass first against all that was told of all bytes"] += 1
+            return
+
+
+def features(history: History) -> Counter:
+    """How much there is of each kind that is to be tried."""
+    words = [it.split() for it in history.lines]
+    early = sum(line < it.came[-1] for it in history.requests for line in it.replied)
+    return Counter({
+        "resets": words.count(["=", "reset"]),
+        "error responses": sum(it[0] in ("B", "R") for it in words),
+        "early replies": early,
+        "corrupt beats": sum(it[0] == "A" and it[9] == "1" for it in words),
+        "atomics": sum(it[0] == "A" and it[2] in "23" for it in words),
+        "beats with bytes that nobody knows": sum(it[0] in "AD" and "x" in it[-2] for it in words),
+    })  # fmt: skip
+
+
+def tried(history: History, wrong: Set[int], counts: Counter) -> str:
+    """What was found wrong of a history, beside its orders."""
+    counts.update(features(history))
+    passed(history, wrong, counts)
+    return "; ".join(faults(history, wrong, counts))
 
 
 def cases(given: argparse.Namespace) -> Iterator[Tuple[str, Optional[str]]]:
-    counts: Counter = Counter()
+    counts, by_the_rule = Counter(), Counter()
     for number in range(given.histories):
-        history = History(random.Random(f"{given.seed} {number}"))
-        yield f"seed {given.seed}, history {number}", "; ".join(faults(given.tlscore, history, counts))
-    for what in sorted(counts):
-        print(f"{counts[what]} beats are {what}")
+        history, name = History(random.Random(f"{given.seed} {number}")), f"seed {given.seed}, history {number}"
+        yield f"{name}, by the rule", tried(history, refused(history), by_the_rule)
+        why = tried(history, reported(given.tlscore, history), counts)
+        if not given.measure:
+            yield name, why
+    print(f"{'tlscore':>8} {'the rule':>8}")
+    for what in sorted({*counts, *by_the_rule}):
+        print(f"{counts[what]:8} {by_the_rule[what]:8} {what}")
     for what, least in WANTED.items():
-        count, wanted = counts[what], least * given.histories
-        yield f"seed {given.seed}: beats that are {what}", None if count >= wanted else f"{count}, not {wanted}"
+        count, wanted = by_the_rule[what], least * given.histories
+        yield f"seed {given.seed}, {what}", None if count >= wanted else f"{count}, not {wanted}"
 
 
 def main() -> int:
@@ -427,10 +232,8 @@ def main() -> int:
     asked.add_argument("tlscore")
     asked.add_argument("histories", nargs="?", type=int, default=300)
     asked.add_argument("--seed", default=secrets.token_hex(4))
-    asked.add_argument("--measure", action="store_true", help="print the counts alone, and ask for nothing")
-    given = asked.parse_args()
-    status = told(cases(given))
-    return 0 if given.measure else status
+    asked.add_argument("--measure", action="store_true", help="count what tlscore reports, and ask for nothing of it")
+    return told(cases(asked.parse_args()))
 
 
 if __name__ == "__main__":

@@ -1,12 +1,14 @@
 """How many wrong payloads tlscore tells by `profile tilelink` where requests race, beside the rule of values, written plainly
-(value_sets.py). Of right runs of both bridges of examples/testbench/rtl, in front of each memory, and of this project's bridge with its
-atomics, all by plain lots, which ask often for the same bytes: none is found wrong, and nearly all bytes are compared that can be. Then bits
-of them are flipped, one in a run, or words are stale: an older writer's bytes stand in place of those that came, which may be right. What
-the rule tells of these at that very beat tlscore tells there, and it tells nothing else there.
+(value_sets.py). Of right runs none is found wrong, and nearly all bytes are compared that can be: of both bridges of
+examples/testbench/rtl, in front of each memory, and of this project's bridge with its atomics, all by plain lots, which ask often for the
+same bytes. Then a bit is flipped of a byte that a reply told, or its word is stale: an older writer's bytes stand in place of those that
+came, which may be right. What the rule tells of these at that very beat tlscore tells there, and nothing else. A row by itself has runs of
+many requests at once to very few bytes (any_order.py), of which there may be more than a scoreboard keeps.
 
-    python3 tests/values.py TLSCORE TLBRIDGE [--runs N] [--seed WORD] [--measure]
+    python3 tests/values.py TLSCORE TLBRIDGE [--runs N] [--changes N] [--jobs N] [--seed WORD] [--measure]
 
-It prints a table; by --measure that is all, and nothing is asked of it. --runs 440 has 20 seeds of each testbench.
+It prints a table. By --measure nothing is asked of tlscore but that right runs aren't found wrong. --runs 560 has 20 seeds of each
+testbench, and --runs 2000 --changes 0 --jobs 4 judges right runs alone.
 """
 
 import argparse
@@ -15,12 +17,14 @@ import re
 import secrets
 import sys
 import tempfile
-from collections import Counter
+from collections import Counter, defaultdict
+from concurrent.futures import ThreadPoolExecutor
 from pathlib import Path
 from typing import Callable, Dict, Iterator, List, NamedTuple, Optional, Tuple
 
+import any_order
 from ends import started, told
-from value_sets import Request, Telling, ValueSets, Why
+from value_sets import Telling, ValueSets, Why
 from waves import RTL
 
 sys.path.append(str(RTL.parent))
@@ -29,11 +33,13 @@ import run  # noqa: E402
 from zuldegei.client import Interactive  # noqa: E402
 
 STRICT, FREE = run.Asked("tilelink"), run.Asked("tilelink", "any")
+# Of memory.sv: where it begins, how many words it has, which part of the lots is that of its first bytes; and the most bytes of a line.
+MEMORY, WORDS, MEMORY_PART, LONGEST_FILL, FILLED = 0x10000, 2048, 3, 32, "bytes that were filled"
 STEPS = 2_000  # of a run of random_bench.py
-CHANGES = 20  # flipped bits, and stale words, in copies of each run
 OLDER = 4  # of so many writers before it a stale word may be
 # How many per cent are asked for: of the bytes that can be compared, and of what the rule tells of flipped bits and of stale words.
 COMPARED, FLIPPED, STALE = 90, 97, 95
+MANY = "many at once"  # the row that stands by itself
 NOT_COMPARABLE = (Why.FAILED, Why.BAD_WORD, Why.NEVER_GIVEN)
 PAYLOAD = re.compile(rb"(?m)^= wrong (\d+) reply 7 PAYLOAD")
 JUDGED = re.compile(rb"(?m)^= judged \d+ wrong (\d+) outstanding 0 open 0 compared (\d+) of (\d+)$")
@@ -59,19 +65,34 @@ def benches() -> Iterator[Tuple[str, run.Bench]]:
     for memory, habit in zip((run.FAILING, *run.MEMORIES), run.HABITS * 3):
         yield "streaming, errors any", run.Bench("streaming_bridge", FREE, memory, habit=habit)
     yield "bridge", run.Bench("bridge", FREE, run.FAILING)
-    for bridge, asked in (("bridge", STRICT), ("streaming_bridge", FREE)):
-        yield "two resets", run.Bench(bridge, asked, resets=2)
-        yield "memory of any bytes", run.Bench(bridge, asked._replace(pages="any"))
+    for bench in (run.Bench("bridge", STRICT), run.Bench("streaming_bridge", FREE)):
+        yield "two resets", bench._replace(resets=2)
+        yield "bytes of any kind", bench._replace(asked=bench.asked._replace(pages="any"))
+        yield FILLED, bench._replace(began="NOISE")
+
+
+def fill_lines(seed: int) -> Iterator[str]:
+    """What memory.sv begins with by -DBEGAN=NOISE, as the set-up has it."""
+    lots, words = (seed * 4 + MEMORY_PART) * 0x9E3779B1 % 2**32, []
+    for _ in range(2 * WORDS):
+        lots ^= lots << 13 & 0xFFFFFFFF
+        lots ^= lots >> 17
+        lots ^= lots << 5 & 0xFFFFFFFF
+        words.append((lots % 0xFFFFFFFF).to_bytes(4, "little"))
+    for at in range(0, 4 * len(words), LONGEST_FILL):
+        yield f"fill {MEMORY + at:x} {b''.join(words)[at : at + LONGEST_FILL].hex(' ')}"
 
 
 def rtl(simulator: str, folder: Path, row: str, bench: run.Bench) -> Testbench:
-    """A testbench in RTL, which is made once."""
-    words: List[str] = []
+    """A testbench in RTL, once it is made."""
+    its_folder = Path(tempfile.mkdtemp(dir=folder))
+    words = run.compiled(simulator, bench, its_folder)
 
     def observed(seed: int) -> str:
-        words[:] = words or run.compiled(simulator, bench, Path(tempfile.mkdtemp(dir=folder)))
-        run.simulated([*words, f"+seed={seed}", *bench.words, f"+observed={folder / 'seen.lines'}"])
-        return f"{bench.asked.setup}{(folder / 'seen.lines').read_text()}= end\n"
+        seen = its_folder / f"{seed}.lines"
+        run.simulated([*words, f"+seed={seed}", *bench.words, f"+observed={seen}"])
+        filled = "".join(f"{it}\n" for it in (fill_lines(seed) if row == FILLED else ()))
+        return f"{bench.asked.setup}{filled}{seen.read_text()}= end\n"
 
     return Testbench(row, f"{bench.device} {bench.memory}", observed)
 
@@ -87,16 +108,17 @@ def own(program: str) -> Testbench:
             config, rest = random_bench.observed(bridge).split("\n", 1)
             return f"{config}\nprofile tilelink\n{rest}"
 
-    return Testbench("this project's", "random_bench.py", observed)
+    return Testbench("this project's bridge", "random_bench.py", observed)
 
 
-def testbenches(program: str, folder: Path) -> List[Testbench]:
-    """All of them; where no simulator is installed that one alone which needs none."""
-    simulator, of_our_own = run.installed(), [own(program)] * 4
+def testbenches(given: argparse.Namespace, folder: Path) -> List[Testbench]:
+    """All of them; where no simulator is installed those alone which need none."""
+    simulator, others = run.installed(), [own(given.bridge), Testbench(MANY, "any_order.py", any_order.observed)] * 4
     if not simulator:
         print(f"skipped: runs of the bridges in RTL, as neither {' nor '.join(run.SIMULATORS)} is installed")
-        return of_our_own
-    return [rtl(simulator, folder, row, bench._replace(corners=0)) for row, bench in benches()] + of_our_own
+        return others
+    chosen = [*benches()][: given.runs]
+    return [rtl(simulator, folder, row, bench._replace(corners=0)) for row, bench in chosen] + others
 
 
 # ---- wrong beats
@@ -139,49 +161,53 @@ def stale(rng: random.Random, telling: Telling, sets: ValueSets) -> Optional[Cha
     return Change(telling, values) if values != [it.value for it in telling.told] else None
 
 
-def changes(rng: random.Random, sets: ValueSets) -> Iterator[Tuple[str, Change]]:
+def changes(rng: random.Random, sets: ValueSets, count: int) -> Iterator[Tuple[str, Change]]:
     """So many flipped bits and stale words of a run, where there are so many."""
     tellings = [it for it in sets.tellings if comparable(it)]
     weights = [len(comparable(it)) for it in tellings]
     if not tellings:
         return
-    yield from (("flipped", flipped(rng, it)) for it in rng.choices(tellings, weights, k=CHANGES))
-    found = (stale(rng, it, sets) for it in rng.choices(tellings, weights, k=4 * CHANGES))
-    yield from (("stale", it) for it in [it for it in found if it][:CHANGES])
+    yield from (("flipped", flipped(rng, it)) for it in rng.choices(tellings, weights, k=count))
+    found = (stale(rng, it, sets) for it in rng.choices(tellings, weights, k=4 * count))
+    yield from (("stale", it) for it in [it for it in found if it][:count])
 
 
 # ---- what is told of them
 
 
-class Row:
-    """A row of the table: runs, and what is told of them and of their changed copies, by tlscore and by the rule."""
+class Tried:
+    """A right run and its changed copies: what is told of them, by tlscore and by the rule, and how that isn't as it has to be."""
 
-    def __init__(self) -> None:
-        self.counts: Counter = Counter()
-
-    def add(self, score: str, rng: random.Random, text: str) -> Iterator[str]:
-        """Takes a right run, and says what of it isn't as it has to be."""
-        lines = text.splitlines()
-        sets, ran = ValueSets(lines), started([score], text.encode())
+    def __init__(self, score: str, rng: random.Random, text: str, count: int):
+        self.score, self.lines, self.counts, self.wrong = score, text.splitlines(), Counter(runs=1), []
+        sets, ran = ValueSets(self.lines), started([score], text.encode())
         judged = JUDGED.search(ran.text)
-        self.counts.update(runs=1, blamed=ran.status != 0)
         if ran.status or not judged:
-            yield f"a right run is found wrong: status {ran.status}, {ran.text[-200:].decode()}{ran.line.decode()}"
+            self.counts["blamed"] += 1
+            self.wrong.append(f"a right run is found wrong: status {ran.status}, {ran.text[-200:].decode()}{ran.line.decode()}")
             return
         self.counts.update(compared=int(judged[2]), told=int(judged[3]))
         self.counts.update(it.why for telling in sets.tellings for it in telling.told)
         if int(judged[3]) != sum(len(it.told) for it in sets.tellings):
-            yield f"{judged[0].decode()}: the bytes that are told aren't so many"
-        yield from (f"line {it.line} isn't right by the rule" for it in sets.tellings if it.is_wrong([byte.value for byte in it.told]))
-        yield from filter(None, [self.change(score, kind, change, lines) for kind, change in changes(rng, sets)])
+            self.wrong.append(f"{judged[0].decode()}: the bytes that are told aren't so many")
+        self.wrong += [f"line {it.line} isn't right by the rule" for it in sets.tellings if it.is_wrong([byte.value for byte in it.told])]
+        for kind, change in changes(rng, sets, count):
+            self.change(kind, change)
 
-    def change(self, score: str, kind: str, change: Change, lines: List[str]) -> Optional[str]:
-        """Takes a changed copy, and says where tlscore tells more of it than the rule."""
-        copy = change.lines(lines)
-        told_at = {int(it) for it in PAYLOAD.findall(started([score], "".join(f"{it}\n" for it in copy).encode()).text)}
+    def change(self, kind: str, change: Change) -> None:
+        """Takes a changed copy, of which tlscore may tell no more than the rule."""
+        copy = change.lines(self.lines)
+        told_at = {int(it) for it in PAYLOAD.findall(started([self.score], "".join(f"{it}\n" for it in copy).encode()).text)}
         is_told, is_wrong = change.telling.line in told_at, change.telling.is_wrong(change.values)
-        self.counts.update([kind, *[f"{kind} told"] * is_told, *[f"{kind} by the rule"] * is_wrong, *[f"{kind} both"] * (is_told and is_wrong)])
-        return f"{copy[-1]} is found wrong in line {len(copy)}, and may be right" if is_told and not is_wrong else None
+        self.counts.update({kind: 1, f"{kind} told": is_told, f"{kind} by the rule": is_wrong, f"{kind} both": is_told and is_wrong})
+        if is_told and not is_wrong:
+            self.wrong.append(f"{copy[-1]} is found wrong in line {len(copy)}, and may be right")
+
+
+class Row(NamedTuple):
+    """A row of the table: what is told of its runs and of their changed copies."""
+
+    counts: Counter
 
     @property
     def comparable(self) -> int:
@@ -198,53 +224,61 @@ HEAD = ["", "runs", "blamed", "bytes told", *(it.value for it in Why if it is no
 HEAD += ["bits flipped: told, by the rule", "stale words: told, by the rule"]
 
 
+def together(rows: Dict[str, Row]) -> Row:
+    """All rows but the one that stands by itself."""
+    return Row(sum((row.counts for name, row in rows.items() if name != MANY), Counter()))
+
+
 def table(rows: Dict[str, Row]) -> Iterator[str]:
-    """The rows, and what they are together."""
-    total = Row()
-    for row in rows.values():
-        total.counts.update(row.counts)
     yield f"| {' | '.join(HEAD)} |"
     yield "|---" * len(HEAD) + "|"
-    yield from (f"| {name} | {' | '.join(row.cells())} |" for name, row in [*rows.items(), ("all", total)])
+    of_all = {name: row for name, row in rows.items() if name != MANY}
+    last = {MANY: rows[MANY]} if MANY in rows else {}
+    yield from (f"| {name} | {' | '.join(row.cells())} |" for name, row in {**of_all, "all of these": together(rows), **last}.items())
 
 
-def asked_of(counts: Counter, comparable: int) -> Iterator[Case]:
+def asked_of(row: Row) -> Iterator[Case]:
     """What is asked of all rows together."""
+    counts = row.counts
     for name, got, of, least in (
-        ("bytes that can be compared", counts["compared"], comparable, COMPARED),
+        ("bytes that can be compared", counts["compared"], row.comparable, COMPARED),
         ("flipped bits that the rule tells", counts["flipped both"], counts["flipped by the rule"], FLIPPED),
         ("stale words that the rule tells", counts["stale both"], counts["stale by the rule"], STALE),
     ):
-        yield f"{name}, {least} per cent", None if of and 100 * got >= least * of else f"{got} of {of}"
+        yield f"{name}, {least} per cent", None if 100 * got >= least * of else f"{got} of {of}"
+
+
+def tried(given: argparse.Namespace, number: int, bench: Testbench) -> Tuple[str, str, Tried]:
+    """A run by its number: its row, its name, and what came of it."""
+    rng = random.Random(f"{given.seed} {number}")
+    seed = rng.randrange(1, 10**6)
+    name = f"--seed {given.seed}, run {number}, {bench.name} of seed {seed}"
+    return bench.row, name, Tried(given.score, rng, bench.observed(seed), given.changes)
 
 
 def cases(given: argparse.Namespace) -> Iterator[Case]:
-    rows: Dict[str, Row] = {}
-    with tempfile.TemporaryDirectory() as folder:
-        benches_of = testbenches(given.bridge, Path(folder))
-        for number in range(given.runs):
-            rng, bench = random.Random(f"{given.seed} {number}"), benches_of[number % len(benches_of)]
-            seed = rng.randrange(1, 10**6)
-            row = rows.setdefault(bench.row, Row())
-            wrong = list(row.add(given.score, rng, bench.observed(seed)))
-            yield f"--seed {given.seed}, run {number}, {bench.name} of seed {seed}", "; ".join(wrong)
+    rows: Dict[str, Row] = defaultdict(lambda: Row(Counter()))
+    with tempfile.TemporaryDirectory() as folder, ThreadPoolExecutor(given.jobs) as jobs:
+        all_of_them = testbenches(given, Path(folder))
+        chosen = [all_of_them[number % len(all_of_them)] for number in range(given.runs)]
+        for row, name, found in jobs.map(tried, [given] * given.runs, range(given.runs), chosen):
+            rows[row].counts.update(found.counts)
+            yield name, "; ".join(found.wrong)
     print("\n".join(table(rows)), flush=True)
-    total = Row()
-    for row in rows.values():
-        total.counts.update(row.counts)
-    yield from asked_of(total.counts, total.comparable)
+    if not given.measure:
+        yield from asked_of(together(rows))
 
 
 def main() -> int:
     asked = argparse.ArgumentParser(description=__doc__)
     asked.add_argument("score", metavar="TLSCORE")
     asked.add_argument("bridge", metavar="TLBRIDGE")
-    asked.add_argument("--runs", type=int, default=22, help="how many runs in all (22)")
+    asked.add_argument("--runs", type=int, default=28, help="how many runs in all (28)")
+    asked.add_argument("--changes", type=int, default=20, help="in how many copies of a run a bit is flipped, and a word is stale (20)")
+    asked.add_argument("--jobs", type=int, default=1, help="how many runs at once (1)")
     asked.add_argument("--seed", default=secrets.token_hex(4))
-    asked.add_argument("--measure", action="store_true", help="print the table alone, and ask for nothing")
-    given = asked.parse_args()
-    status = told(cases(given))
-    return 0 if given.measure else status
+    asked.add_argument("--measure", action="store_true", help="ask for nothing but that right runs aren't found wrong")
+    return told(cases(asked.parse_args()))
 
 
 if __name__ == "__main__":
