@@ -93,10 +93,12 @@ class Request:
         return dict(zip(self.span, applied(self.opcode, self.param, len(old), *numbers).to_bytes(len(old), "little")))
 
     def gives_by(self, time: int, errors: str, wrong: Iterable[int]) -> Dict[int, Value]:
-        """What it gives, as far as that is known by a time. A corrupt one gives nothing by errors strict."""
-        if not self.writes or self.has_failed(time, errors) and errors == "strict":
+        """What it gives, as far as that is known by a time. By errors strict a corrupt one gives nothing, once it is whole, or from its first
+        beat on, if that is corrupt."""
+        is_whole, is_strict = not self.lacks and self.came[-1] <= time, errors == "strict"
+        if not self.writes or is_strict and (self.has_failed(time, errors) if is_whole else self.corrupt[0]):
             return {}
-        if self.lacks or time < self.came[-1]:
+        if not is_whole:
             return dict.fromkeys(self.span)
         left = {it: self.offered(it)[1] for it in self.span if self.offered(it)[0]}
         left = left if self.opcode in PUTS else self.made(self.read_by(time, wrong))

@@ -207,11 +207,14 @@ class ValueSets:
         return request
 
     def failed_so_far(self, request: Request, beat: ABeat) -> None:
-        """A beat may say that its request fails. Where errors are told as this project's bridge tells them a corrupt one does nothing."""
-        is_bad = any(it & ~7 in self.bad for it in request.span)
+        """A beat may say that its request fails. Where errors are told as this project's bridge tells them that does nothing, from its
+        first beat on if that is corrupt, else once it is whole."""
+        is_bad = request.first.opcode not in PUTS and any(it & ~7 in self.bad for it in request.span)
         if self.errors_any:
-            request.failed |= request.at is None or bool(beat.corrupt) or is_bad and request.first.opcode not in PUTS
-        elif beat.corrupt or is_bad and request.writes and request.first.opcode not in PUTS:
+            request.failed |= request.at is None or bool(beat.corrupt) or is_bad
+            return
+        is_corrupt = request.first.corrupt or request.is_whole and any(it.corrupt for it, _ in request.beats)
+        if is_corrupt or is_bad and request.writes:
             for address in request.span:
                 self.writers[address].remove(request)
             request.at = None

@@ -7,7 +7,7 @@ many requests at once to very few bytes (any_order.py), of which there may be mo
 
     python3 tests/values.py TLSCORE TLBRIDGE [--runs N] [--changes N] [--jobs N] [--seed WORD] [--measure]
 
-It prints a table. By --measure nothing is asked of tlscore but that right runs aren't found wrong. --runs 560 has 20 seeds of each
+It prints a table. By --measure it isn't asked how much tlscore compares and tells. --runs 560 has 20 seeds of each
 testbench, and --runs 2000 --changes 0 --jobs 4 judges right runs alone.
 """
 
@@ -277,7 +277,7 @@ def main() -> int:
     asked.add_argument("--changes", type=int, default=20, help="in how many copies of a run a bit is flipped, and a word is stale (20)")
     asked.add_argument("--jobs", type=int, default=1, help="how many runs at once (1)")
     asked.add_argument("--seed", default=secrets.token_hex(4))
-    asked.add_argument("--measure", action="store_true", help="ask for nothing but that right runs aren't found wrong")
+    asked.add_argument("--measure", action="store_true", help="don't ask how much is compared and told")
     return told(cases(asked.parse_args()))
 
 
