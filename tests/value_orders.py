@@ -21,9 +21,10 @@ from typing import Dict, FrozenSet, Iterable, Iterator, List, NamedTuple, Option
 
 from ends import started, told
 from value_histories import BYTES, PUTS, History, Request, Value
-from value_sets import ValueSets
+from value_sets import ValueSets, Why
 
 WRONG = re.compile(r"(?m)^= wrong (\d+) reply [78] (?:PAYLOAD|X)\b")
+COMPARED = re.compile(r"(?m)^= judged .* compared (\d+) of (\d+)$")
 # How much there is at least of these in a history, on the average.
 WANTED = {"replies that tell": 3, "told so in no order": 0.5, "told so in some order": 1, "resets": 0.1, "error responses": 0.1}
 WANTED.update({"early replies": 0.05, "corrupt beats": 0.1, "atomics": 0.5, "beats with bytes that nobody knows": 0.1})
@@ -130,20 +131,29 @@ def kind(orders: Orders, address: int) -> str:
 # ---- what is reported
 
 
-def reported(program: str, history: History) -> Set[int]:
-    """The lines of beats that tlscore reports, all of them for their payload."""
+class Verdict(NamedTuple):
+    """The lines of the beats that were found wrong, and how many bytes were compared of all that were told."""
+
+    wrong: Set[int]
+    compared: int
+    told: int
+
+
+def by_tlscore(program: str, history: History) -> Verdict:
+    """All that it reports is the payload of beats."""
     ran = started([program], "".join(f"{it}\n" for it in history.lines).encode())
-    text = ran.text.decode()
-    wrong = {int(it) for it in WRONG.findall(text)}
-    if ran.status != bool(wrong) or text.count("= wrong") != len(wrong):
+    text, wrong = ran.text.decode(), {int(it) for it in WRONG.findall(ran.text.decode())}
+    last = COMPARED.search(text)
+    if ran.status != bool(wrong) or text.count("= wrong") != len(wrong) or not last:
         raise SystemExit(f"tlscore ended with status {ran.status}: {ran.line.decode()}{text}\n" + "\n".join(history.lines))
-    return wrong
+    return Verdict(wrong, int(last[1]), int(last[2]))
 
 
-def refused(history: History) -> Set[int]:
-    """The lines of beats that are wrong by the rule of values."""
+def by_the_rule(history: History) -> Verdict:
     tellings = ValueSets(history.lines).tellings
-    return {it.line for it in tellings if it.is_wrong([byte.value for byte in it.told])}
+    wrong = {it.line for it in tellings if it.is_wrong([byte.value for byte in it.told])}
+    whys = [byte.why for it in tellings for byte in it.told]
+    return Verdict(wrong, whys.count(Why.COMPARED), len(whys))
 
 
 def beats_of_replies(history: History) -> List[Tuple[int, Request]]:
@@ -204,26 +214,30 @@ def features(history: History) -> Counter:
     })  # fmt: skip
 
 
-def tried(history: History, wrong: Set[int], counts: Counter) -> str:
+def tried(history: History, verdict: Verdict, counts: Counter) -> List[str]:
     """What was found wrong of a history, beside its orders."""
     counts.update(features(history))
-    passed(history, wrong, counts)
-    return "; ".join(faults(history, wrong, counts))
+    counts.update({"bytes compared": verdict.compared, "bytes told": verdict.told})
+    passed(history, verdict.wrong, counts)
+    return list(faults(history, verdict.wrong, counts))
 
 
 def cases(given: argparse.Namespace) -> Iterator[Tuple[str, Optional[str]]]:
-    counts, by_the_rule = Counter(), Counter()
+    of_tlscore, of_the_rule = Counter(), Counter()
     for number in range(given.histories):
         history, name = History(random.Random(f"{given.seed} {number}")), f"seed {given.seed}, history {number}"
-        yield f"{name}, by the rule", tried(history, refused(history), by_the_rule)
-        why = tried(history, reported(given.tlscore, history), counts)
+        verdict, rule = by_tlscore(given.tlscore, history), by_the_rule(history)
+        yield f"{name}, by the rule", "; ".join(tried(history, rule, of_the_rule))
+        why = tried(history, verdict, of_tlscore)
+        if verdict[1:] != rule[1:]:
+            why.append(f"compared {verdict.compared} of {verdict.told}, and by the rule {rule.compared} of {rule.told}")
         if not given.measure:
-            yield name, why
+            yield name, "; ".join(why)
     print(f"{'tlscore':>8} {'the rule':>8}")
-    for what in sorted({*counts, *by_the_rule}):
-        print(f"{counts[what]:8} {by_the_rule[what]:8} {what}")
+    for what in sorted({*of_tlscore, *of_the_rule}):
+        print(f"{of_tlscore[what]:8} {of_the_rule[what]:8} {what}")
     for what, least in WANTED.items():
-        count, wanted = by_the_rule[what], least * given.histories
+        count, wanted = of_the_rule[what], least * given.histories
         yield f"seed {given.seed}, {what}", None if count >= wanted else f"{count}, not {wanted}"
 
 
