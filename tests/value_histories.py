@@ -4,16 +4,16 @@ which lines (for value_orders.py). Right and wrong bytes are drawn by lot; all e
 import math
 import random
 from collections import defaultdict
-from dataclasses import dataclass, field
+from dataclasses import dataclass, field, replace
 from typing import Dict, Iterable, List, Optional, Set, Tuple
 
-from model import ARITHMETIC, GET, INTENT, LOGICAL, PUT_FULL, PUT_PARTIAL, REPLIES
+from model import ARITHMETIC, GET, INTENT, LOGICAL, PUT_FULL, PUT_PARTIAL, REPLIES, Memory, Setup
 
-from client import beats_of  # model.py says where it stands
+from client import ABeat, DBeat, beats_of  # model.py says where it stands
 from random_bench import applied, full_mask
 
-PUTS, CLIENTS, SOURCES, AXI, BYTES = (PUT_FULL, PUT_PARTIAL), 3, 2, 0x10000, 16
-SETUP = (f"config {CLIENTS} 4 16 2 16 12 {'h' * CLIENTS} 8", "region 0 4 10 gpah", "profile tilelink", "x data")
+PUTS, CLIENTS, SOURCES, PAGE, AXI, BYTES = (PUT_FULL, PUT_PARTIAL), 3, 2, 0x10, 0x10000, 16
+SETUP = Setup(CLIENTS, 4, 16, 2, 16, 12, 8, ((0, 1, PAGE, "gpah"),), {PAGE: "good"}, ())
 # Opcodes, params and sizes of requests, all of which lie in the first bytes of a page.
 PLAIN = [(PUT_FULL, 0, 4), (PUT_FULL, 0, 3), (PUT_FULL, 0, 0), (PUT_PARTIAL, 0, 4), (GET, 0, 0), (GET, 0, 4), *[(GET, 0, 3)] * 2]
 ATOMS = [(ARITHMETIC, 4, 3), (ARITHMETIC, 4, 0), (ARITHMETIC, 3, 3), (LOGICAL, 3, 3), (LOGICAL, 0, 0), (INTENT, 0, 3)]
@@ -45,6 +45,7 @@ class Request:
     struck: float = math.inf  # an error response told of it
     ended: float = math.inf
     cut: float = math.inf  # by a reset
+    due: Tuple[DBeat, ...] = ()  # its reply in order of acceptance, once it is whole
 
     @property
     def span(self) -> range:
@@ -67,6 +68,12 @@ class Request:
     @property
     def is_answered(self) -> bool:
         return len(self.replied) == beats_of(self.size, self.tells)
+
+    def beats(self) -> List[ABeat]:
+        """Its message, with zeros where nobody knows a byte."""
+        lanes = [sum(0xFF << 8 * it for it in unknown) for unknown in self.unknown]
+        rest = zip(self.masks, (payload & ~it for payload, it in zip(self.payloads, lanes)), self.corrupt)
+        return [ABeat(self.opcode, self.param, self.size, self.source, self.address, *it) for it in rest]
 
     def offered(self, address: int) -> Tuple[bool, Value]:
         """Whether its mask has a byte, and the byte that it offers, for an atomic as its operand."""
@@ -114,7 +121,9 @@ class History:
 
     def __init__(self, rng: random.Random):
         self.rng, self.errors, self.pages = rng, rng.choice(("strict", "any")), rng.choice(("good", "good", "any"))
-        self.lines = [*SETUP, f"page 10 4 {self.pages}", f"errors {self.errors}"]
+        kinds = replace(SETUP, pages={PAGE: self.pages}).lines
+        self.lines, self.memory = [*kinds, "profile tilelink", f"errors {self.errors}", "x data"], Memory(SETUP)
+        self.due: Dict[int, str] = {}  # by line, the beat that was due in order of acceptance
         self.requests: List[Request] = []
         self.kinds = PLAIN + ATOMS * rng.choice((0, 0, 1, 2))
         self.is_few = rng.random() < 0.5  # hardly any different bytes
@@ -204,6 +213,8 @@ class History:
         request.came.append(len(self.lines))
         if request.is_answered:
             request.ended = len(self.lines)
+        if not request.lacks:
+            request.due = self.memory.carry_out(request.client, request.beats())
         for address in request.span[8 * at : 8 * at + 8] if request.opcode in PUTS else ():
             has, value = request.offered(address)
             self.given[address] += [value] if has and value is not None else []
@@ -237,6 +248,8 @@ class History:
         unknown = {self.rng.choice(list(read)) % 8} if self.does("x") else set()
         payload = shown(sum(value << 8 * (it % 8) for it, value in read.items()), unknown)
         self.lines.append(f"D {request.client} 1 0 {request.size} {request.source} 0 {payload} 0")
+        due = request.due[len(request.replied)]
+        self.due[line] = f"D {request.client} 1 0 {request.size} {request.source} {due.denied} {due.payload:016x} {due.corrupt}"
         if not request.has_failed(line, self.errors):
             request.told[line] = {it: None if it % 8 in unknown else value for it, value in read.items()}
 

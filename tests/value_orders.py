@@ -23,7 +23,7 @@ from ends import started, told
 from value_histories import BYTES, PUTS, History, Request, Value
 from value_sets import ValueSets, Why
 
-WRONG = re.compile(r"(?m)^= wrong (\d+) reply [78] (?:PAYLOAD|X)\b")
+WRONG = re.compile(r"(?m)^= wrong (\d+) reply (7 PAYLOAD|8 X) expected (D .*)$")
 COMPARED = re.compile(r"(?m)^= judged .* compared (\d+) of (\d+)$")
 # How much there is at least of these in a history, on the average.
 WANTED = {"replies that tell": 3, "told so in no order": 0.5, "told so in some order": 1, "resets": 0.1, "error responses": 0.1}
@@ -140,11 +140,13 @@ class Verdict(NamedTuple):
 
 
 def by_tlscore(program: str, history: History) -> Verdict:
-    """All that it reports is the payload of beats."""
+    """All that it reports is the payload of beats. In the place of one whose bytes are known it has that which was due in order of
+    acceptance."""
     ran = started([program], "".join(f"{it}\n" for it in history.lines).encode())
-    text, wrong = ran.text.decode(), {int(it) for it in WRONG.findall(ran.text.decode())}
-    last = COMPARED.search(text)
-    if ran.status != bool(wrong) or text.count("= wrong") != len(wrong) or not last:
+    text = ran.text.decode()
+    found, last = [(int(line), rule, due) for line, rule, due in WRONG.findall(text)], COMPARED.search(text)
+    wrong, are_due = {line for line, _, _ in found}, all(due == history.due[line] for line, rule, due in found if rule == "7 PAYLOAD")
+    if ran.status != bool(wrong) or text.count("= wrong") != len(found) or not are_due or not last:
         raise SystemExit(f"tlscore ended with status {ran.status}: {ran.line.decode()}{text}\n" + "\n".join(history.lines))
     return Verdict(wrong, int(last[1]), int(last[2]))
 

@@ -98,12 +98,12 @@ def rtl(simulator: str, folder: Path, row: str, bench: run.Bench) -> Testbench:
     return Testbench(row, f"{bench.device} {bench.memory}", observed)
 
 
-def own(program: str) -> Testbench:
+def own(program: str, corners: int) -> Testbench:
     """This project's bridge, by random_bench.py."""
 
     def observed(seed: int) -> str:
         with Interactive([program, "run"]) as bridge:
-            why = random_bench.tried(random_bench.Bench(bridge, seed, corners=0), STEPS)
+            why = random_bench.tried(random_bench.Bench(bridge, seed, corners), STEPS)
             if why:
                 raise SystemExit(why)
             config, rest = random_bench.observed(bridge).split("\n", 1)
@@ -114,7 +114,8 @@ def own(program: str) -> Testbench:
 
 def testbenches(given: argparse.Namespace, folder: Path) -> List[Testbench]:
     """All of them; where no simulator is installed those alone which need none."""
-    simulator, others = run.installed(), [own(given.bridge), Testbench(MANY, "any_order.py", any_order.observed)] * 4
+    simulator, many = run.installed(), Testbench(MANY, "any_order.py", any_order.observed)
+    others = [it for corners in (0, 0, 0, random_bench.CORNERS) for it in (own(given.bridge, corners), many)]
     if not simulator:
         print(f"skipped: runs of the bridges in RTL, as neither {' nor '.join(run.SIMULATORS)} is installed")
         return others
