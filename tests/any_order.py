@@ -3,7 +3,7 @@ whole on a plain memory some time between its last beat and the first of its rep
 
 import random
 from dataclasses import dataclass
-from typing import Iterator, List, Optional, Tuple
+from typing import Iterator, List, Optional
 
 from model import Memory, Setup
 

@@ -10,7 +10,7 @@ took effect for certain and had ended before the reader began, and that began af
 from collections import defaultdict
 from dataclasses import dataclass, field
 from enum import Enum
-from typing import Dict, FrozenSet, Iterator, List, NamedTuple, Optional, Sequence, Set, Tuple
+from typing import Dict, FrozenSet, List, NamedTuple, Optional, Sequence, Set, Tuple
 
 from compared import WITHDRAWN, Kinds
 from model import GET, PUT_FULL, PUT_PARTIAL, Setup
@@ -84,11 +84,6 @@ class Request:
         """Whether it takes effect for certain."""
         return self.is_whole and not (self.failed or self.is_early or self.cut)
 
-    def word(self, at: int) -> range:
-        """The bytes of its beat of a number."""
-        low = (self.at & ~7) + 8 * at
-        return range(max(self.at, low), min(self.at + 2**self.first.size, low + 8))
-
     def offered(self, address: int) -> Tuple[bool, Value]:
         """Whether the mask of its beat has a byte, and what that byte is."""
         beat, unknown = self.beats[address // 8 - self.at // 8]
@@ -146,9 +141,11 @@ class ValueSets:
             held = words if words[:1] == ["A"] else None
             if words and not held:
                 self.take(number, words)
+        if held:
+            self.take_a(held)
 
     def take(self, number: int, words: List[str]) -> None:
-        """Any line but one of channel A."""
+        """Takes any line but one of channel A."""
         if words[0] in ("region", "page", "bad", "errors", "fill"):
             self.set_up(words)
         elif words[0] == "D":
