@@ -16,7 +16,8 @@ PUTS, CLIENTS, SOURCES, PAGE, AXI, BYTES = (PUT_FULL, PUT_PARTIAL), 3, 2, 0x10, 
 SETUP = Setup(CLIENTS, 4, 16, 2, 16, 12, 8, ((0, 1, PAGE, "gpah"),), {PAGE: "good"}, ())
 # Opcodes, params and sizes of requests, all of which lie in the first bytes of a page.
 PLAIN = [(PUT_FULL, 0, 4), (PUT_FULL, 0, 3), (PUT_FULL, 0, 0), (PUT_PARTIAL, 0, 4), (GET, 0, 0), (GET, 0, 4), *[(GET, 0, 3)] * 2]
-ATOMS = [(ARITHMETIC, 4, 3), (ARITHMETIC, 4, 0), (ARITHMETIC, 3, 3), (LOGICAL, 3, 3), (LOGICAL, 0, 0), (INTENT, 0, 3)]
+OTHERS = [(opcode, param, size) for opcode, params in ((ARITHMETIC, 5), (LOGICAL, 4)) for param in range(params) for size in (0, 3)]
+OTHERS += [(INTENT, param, 3) for param in range(2)]
 ADDRESSES, MASKS = (0, 3, 8), (0xFF, 0xF0, 0x0F, 0x11, 0)
 # How many moves and requests there are at the most, how many requests a client has at once, and how many Gets when all is quiet.
 MOVES, REQUESTS, AT_ONCE, QUIET = 200, 7, 2, 2
@@ -125,7 +126,7 @@ class History:
         self.lines, self.memory = [*kinds, "profile tilelink", f"errors {self.errors}", "x data"], Memory(SETUP)
         self.due: Dict[int, str] = {}  # by line, the beat that was due in order of acceptance
         self.requests: List[Request] = []
-        self.kinds = PLAIN + ATOMS * rng.choice((0, 0, 1, 2))
+        self.kinds = PLAIN + rng.choices(OTHERS, k=rng.choice((0, 0, 6, 12)))
         self.is_few = rng.random() < 0.5  # hardly any different bytes
         self.honest = rng.choice((0, 0.5, 0.9, 0.97))
         self.given: Dict[int, List[int]] = defaultdict(lambda: [self.byte() if self.pages == "any" else 0])
