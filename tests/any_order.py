@@ -1,18 +1,38 @@
-"""Right runs of a bridge that takes requests in any order: clients ask for the same few bytes, many at once, and each request is carried out
-whole on a plain memory some time between its last beat and the first of its reply. Nothing is seen of an AXI4 port (for values.py)."""
+"""Right runs of a bridge that takes requests in any order: clients ask for the same few bytes at once, and each request is carried out
+whole on a plain memory some time between its last beat and the first of its reply. Nothing is seen of an AXI4 port. Either many ask at once
+for very few bytes, or a few requests race for each of very many words, of which it stays open what they are (for values.py)."""
 
 import random
 from dataclasses import dataclass
-from typing import Iterator, List, Optional
+from typing import Iterator, List, NamedTuple, Optional
 
 from model import Memory, Setup
 
 from client import ABeat, DBeat  # model.py says where it stands
-from random_bench import beats_by_lot, random_kind
+from random_bench import ARITHMETIC, LOGICAL, beats_by_lot, random_kind
 
-CLIENTS, SOURCES, LARGEST, ROOM = 8, 16, 4, 64  # all requests lie in so many bytes
-SETUP = Setup(CLIENTS, 4, 16, 2, 16, LARGEST, 8, ((0, 1, 0x10, "gpah"),), {0x10: "good"}, ())
-REQUESTS, DEEP = 200, (1, 2, 3)  # of a run; how many each client has at once, at the most
+CLIENTS, SOURCES, WINDOW, PAGES = 8, 16, 64, 12
+SETUP = Setup(CLIENTS, 4, 16, 2, 16, 6, 8, ((0, PAGES, 0x10, "gpah"),), {0x10 + at: "good" for at in range(PAGES)}, ())
+
+
+class Traffic(NamedTuple):
+    """How many requests there are, of how many bytes, as powers of two, atomics aside, and how many a client has at once; how many ask
+    for bytes of a window before the next one's turn comes, and how many windows there are."""
+
+    requests: int
+    smallest: int
+    largest: int
+    at_once: int
+    each: int = 1
+    windows: int = 1
+
+    def window(self, begun: int) -> int:
+        """Where the window lies from which a request asks, by how many had begun before."""
+        return begun // self.each % self.windows * WINDOW
+
+
+DEEP = [Traffic(200, 0, 4, at_once) for at_once in (1, 2, 3)]
+WIDE = Traffic(4000, 6, 6, 2, each=4, windows=PAGES * 4096 // WINDOW)
 
 
 @dataclass(eq=False)
@@ -33,8 +53,8 @@ class Request:
 class AnyOrder:
     """Clients, and the memory behind the bridge."""
 
-    def __init__(self, rng: random.Random):
-        self.rng, self.memory, self.deep = rng, Memory(SETUP), rng.choice(DEEP)
+    def __init__(self, rng: random.Random, traffic: Traffic):
+        self.rng, self.memory, self.traffic = rng, Memory(SETUP), traffic
         self.live: List[Request] = []
         self.begun = 0
 
@@ -43,7 +63,7 @@ class AnyOrder:
         config, *rest = SETUP.lines
         yield from (config, "profile tilelink", *rest)
         moves = (self.ask, self.carry_out, self.answer)
-        while self.begun < REQUESTS or self.live:
+        while self.begun < self.traffic.requests or self.live:
             line = self.rng.choice(moves)()
             if line:
                 yield line
@@ -54,7 +74,7 @@ class AnyOrder:
         client = self.rng.randrange(CLIENTS)
         own = [it for it in self.live if it.client == client]
         request = next((it for it in own if not it.is_whole), None)
-        if not request and self.begun < REQUESTS and len(own) < self.deep:
+        if not request and self.begun < self.traffic.requests and len(own) < self.traffic.at_once:
             request = self.begin(client, {it.beats[0].source for it in own})
         if not request:
             return None
@@ -64,9 +84,10 @@ class AnyOrder:
 
     def begin(self, client: int, busy: "set[int]") -> Request:
         opcode, size, param = random_kind(self.rng)
-        size = min(size, LARGEST)
+        if opcode not in (ARITHMETIC, LOGICAL):
+            size = max(self.traffic.smallest, min(size, self.traffic.largest))
         source = self.rng.choice([it for it in range(SOURCES) if it not in busy])
-        address = self.rng.randrange(ROOM >> size) << size
+        address = self.traffic.window(self.begun) + (self.rng.randrange(WINDOW >> size) << size)
         request = Request(client, beats_by_lot(self.rng, opcode, size, param, source, address))
         self.live.append(request)
         self.begun += 1
@@ -92,6 +113,12 @@ class AnyOrder:
         return f"D {client} {it.opcode} {it.param} {it.size} {it.source} {it.denied} {it.payload:016x} {it.corrupt}"
 
 
-def observed(seed: int) -> str:
+def observed(seed: int, traffic: Optional[Traffic] = None) -> str:
     """A run, by its seed."""
-    return "".join(f"{it}\n" for it in AnyOrder(random.Random(seed)).lines())
+    rng = random.Random(seed)
+    return "".join(f"{it}\n" for it in AnyOrder(rng, traffic or rng.choice(DEEP)).lines())
+
+
+def wide(seed: int) -> str:
+    """One over many words."""
+    return observed(seed, WIDE)

@@ -2,8 +2,8 @@
 (value_sets.py). Of right runs none is found wrong, and nearly all bytes are compared that can be: of both bridges of
 examples/testbench/rtl, in front of each memory, and of this project's bridge with its atomics, all by plain lots, which ask often for the
 same bytes. Then a bit is flipped of a byte that a reply told, or its word is stale: an older writer's bytes stand in place of those that
-came, which may be right. What the rule tells of these at that very beat tlscore tells there, and nothing else. A row by itself has runs of
-many requests at once to very few bytes (any_order.py), of which there may be more than a scoreboard keeps.
+came, which may be right. What the rule tells of these at that very beat tlscore tells there, and nothing else. Rows by themselves have runs
+of many requests at once to very few bytes, and of races for very many words (any_order.py): more than a scoreboard may keep.
 
     python3 tests/values.py TLSCORE TLBRIDGE [--runs N] [--changes N] [--jobs N] [--seed WORD] [--measure]
 
@@ -39,7 +39,7 @@ STEPS = 2_000  # of a run of random_bench.py
 OLDER = 4  # of so many writers before it a stale word may be
 # How many per cent are asked for: of the bytes that can be compared, and of what the rule tells of flipped bits and of stale words.
 COMPARED, FLIPPED, STALE = 90, 97, 95
-MANY = "many at once"  # the row that stands by itself
+MANY, WIDE = "many at once", "many words"  # the rows that stand by themselves
 NOT_COMPARABLE = (Why.FAILED, Why.BAD_WORD, Why.NEVER_GIVEN)
 PAYLOAD = re.compile(rb"(?m)^= wrong (\d+) reply 7 PAYLOAD")
 JUDGED = re.compile(rb"(?m)^= judged \d+ wrong (\d+) outstanding 0 open 0 compared (\d+) of (\d+)$")
@@ -114,8 +114,8 @@ def own(program: str, corners: int) -> Testbench:
 
 def testbenches(given: argparse.Namespace, folder: Path) -> List[Testbench]:
     """All of them; where no simulator is installed those alone which need none."""
-    simulator, many = run.installed(), Testbench(MANY, "any_order.py", any_order.observed)
-    others = [it for corners in (0, 0, 0, random_bench.CORNERS) for it in (own(given.bridge, corners), many)]
+    simulator, many = run.installed(), [Testbench(MANY, "any_order.py", any_order.observed)] * 3
+    others = [own(given.bridge, 0)] * 3 + [own(given.bridge, random_bench.CORNERS), *many, Testbench(WIDE, "any_order.py", any_order.wide)]
     if not simulator:
         print(f"skipped: runs of the bridges in RTL, as neither {' nor '.join(run.SIMULATORS)} is installed")
         return others
@@ -231,15 +231,15 @@ HEAD += ["bits flipped: told, by the rule", "stale words: told, by the rule"]
 
 
 def together(rows: Dict[str, Row]) -> Row:
-    """All rows but the one that stands by itself."""
-    return Row(sum((row.counts for name, row in rows.items() if name != MANY), Counter()))
+    """All rows but those that stand by themselves."""
+    return Row(sum((row.counts for name, row in rows.items() if name not in (MANY, WIDE)), Counter()))
 
 
 def table(rows: Dict[str, Row]) -> Iterator[str]:
     yield f"| {' | '.join(HEAD)} |"
     yield "|---" * len(HEAD) + "|"
-    of_all = {name: row for name, row in rows.items() if name != MANY}
-    last = {MANY: rows[MANY]} if MANY in rows else {}
+    of_all = {name: row for name, row in rows.items() if name not in (MANY, WIDE)}
+    last = {name: rows[name] for name in (MANY, WIDE) if name in rows}
     yield from (f"| {name} | {' | '.join(row.cells())} |" for name, row in {**of_all, "all of these": together(rows), **last}.items())
 
 
