@@ -21,7 +21,7 @@ OTHERS += [(INTENT, param, 3) for param in range(2)]
 ADDRESSES, MASKS = (0, 3, 8), (0xFF, 0xF0, 0x0F, 0x11, 0)
 # How many moves and requests there are at the most, how many requests a client has at once, and how many Gets when all is quiet.
 MOVES, REQUESTS, AT_ONCE, QUIET = 200, 7, 2, 2
-# The shares of resets and error responses among moves, and of beats that are corrupt, or have a byte that nobody knows, where there are some.
+# The shares of resets and error responses among moves, and of beats that are corrupt or have a byte that nobody knows, if there are some.
 SHARES = (("reset", 0.05), ("strike", 0.05), ("corrupt", 0.2), ("x", 0.05))
 Value = Optional[int]  # a byte, or one that nobody knows
 
@@ -101,8 +101,8 @@ class Request:
         return dict(zip(self.span, applied(self.opcode, self.param, len(old), *numbers).to_bytes(len(old), "little")))
 
     def gives_by(self, time: int, errors: str, wrong: Iterable[int]) -> Dict[int, Value]:
-        """What it gives, as far as that is known by a time. By errors strict a corrupt one gives nothing, once it is whole, or from its first
-        beat on, if that is corrupt."""
+        """What it gives, as far as that is known by a time. By errors strict a corrupt one gives nothing, once it is whole, or from its
+        first beat on, if that is corrupt."""
         is_whole, is_strict = not self.lacks and self.came[-1] <= time, errors == "strict"
         if not self.writes or is_strict and (self.has_failed(time, errors) if is_whole else self.corrupt[0]):
             return {}
