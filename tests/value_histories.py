@@ -194,7 +194,7 @@ class History:
         """The first beat of a request comes."""
         rng, (opcode, param, size) = self.rng, kind
         address = rng.choice(ADDRESSES) & -(2**size)
-        source = min(set(range(SOURCES)) - {it.source for it in self.live(client)})
+        source = min(set(range(SOURCES)) - {it.source for it in self.live(client) if not it.replied or it.lacks})  # free once a reply begins
         request = Request(client, opcode, param, size, source, address, [], [], [], [])
         full = full_mask(size, address)
         for _ in range(beats_of(size, request.writes)):
