@@ -40,7 +40,7 @@ OLDER = 4  # of so many writers before it a stale word may be
 # How many per cent are asked for: of the bytes that can be compared, and of what the rule tells of flipped bits and of stale words.
 COMPARED, FLIPPED, STALE = 90, 97, 95
 MANY, WIDE = "many at once", "many words"  # the rows that stand by themselves
-NOT_COMPARABLE = (Why.FAILED, Why.BAD_WORD, Why.NEVER_GIVEN)
+NOT_COMPARABLE = (Why.FAILED, Why.BAD_WORD, Why.NEVER_GIVEN, Why.SPOILED)  # by no rule
 PAYLOAD = re.compile(rb"(?m)^= wrong (\d+) reply 7 PAYLOAD")
 JUDGED = re.compile(rb"(?m)^= judged \d+ wrong (\d+) outstanding 0 open 0 compared (\d+) of (\d+)$")
 Case = Tuple[str, Optional[str]]
