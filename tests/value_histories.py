@@ -82,10 +82,9 @@ class Request:
         return bool(self.masks[at] >> lane & 1), None if lane in self.unknown[at] else self.payloads[at] >> 8 * lane & 0xFF
 
     def has_failed(self, time: int, errors: str) -> bool:
-        """Whether it has failed by a time: a beat was corrupt, or, by errors any, a response told of it, or its reply came early."""
+        """Whether it has failed by a time: a beat was corrupt, or, by errors any, a response told of it."""
         is_corrupt = any(corrupt for corrupt, line in zip(self.corrupt, self.came) if line <= time)
-        is_early = any(line <= time and (self.lacks or line < self.came[-1]) for line in self.replied)
-        return is_corrupt or errors == "any" and (self.struck <= time or is_early)
+        return is_corrupt or errors == "any" and self.struck <= time
 
     def read_by(self, time: int, wrong: Iterable[int]) -> Dict[int, Value]:
         """What it was told by a time, by beats that weren't wrong."""

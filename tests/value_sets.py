@@ -2,7 +2,7 @@
 plainly and one byte at a time, of an observation in which nothing but payloads is wrong.
 
 A request is numbered as it begins, from 1, over resets too, and it has ended when so many have begun. What it gives to a byte is known once
-it is whole, of an atomic once its reply has told all that it reads; what one leaves that has failed, or was answered early, nobody knows.
+it is whole, of an atomic once its reply has told all that it reads; what one leaves that has failed nobody knows.
 A reader may be told what a writer gave, or what was there at the start, unless another writer stands between them in every order: one that
 took effect for certain and had ended before the reader began, and that began after the first had ended. Nothing is ever forgotten.
 """
@@ -56,7 +56,6 @@ class Request:
     at: Optional[int]
     beats: List[Tuple[ABeat, Set[int]]] = field(default_factory=list)  # each with its lanes that nobody knows
     failed: bool = False
-    is_early: bool = False  # its reply came before it was whole
     replied: int = 0  # beats of its reply
     ended: Optional[int] = None
     cut: bool = False  # by a reset
@@ -82,7 +81,7 @@ class Request:
     @property
     def is_sure(self) -> bool:
         """Whether it takes effect for certain."""
-        return self.is_whole and not (self.failed or self.is_early or self.cut)
+        return self.is_whole and not (self.failed or self.cut)
 
     def offered(self, address: int) -> Tuple[bool, Value]:
         """Whether the mask of its beat has a byte, and what that byte is."""
@@ -107,7 +106,7 @@ class Request:
     def looked_at_anew(self) -> None:
         """Says anew what it gives."""
         left = self.left() if self.is_whole or not self.writes else dict.fromkeys(self.span)
-        self.gives = dict.fromkeys(left) if self.failed or self.is_early else left
+        self.gives = dict.fromkeys(left) if self.failed else left
 
 
 class Telling(NamedTuple):
@@ -192,7 +191,7 @@ class ValueSets:
         request.beats.append((beat, lanes_in(words)))
         self.failed_so_far(request, beat)
         request.looked_at_anew()
-        if request.is_whole and request.is_early:
+        if request.is_whole and request.is_answered:  # its reply came early
             self.end(request)
 
     def begin(self, client: int, first: ABeat) -> Request:
@@ -224,7 +223,6 @@ class ValueSets:
         if opcode == WITH_DATA:
             self.tell(number, request, words, is_corrupt)
         request.replied += 1
-        request.is_early |= not request.is_whole
         request.looked_at_anew()
         if request.is_answered and request.is_whole:
             self.end(request)
@@ -266,7 +264,7 @@ class ValueSets:
         """Why a byte can't be compared, by what it may be of the memory's beginning, and by those that may have given what nobody knows."""
         if None in start:
             return Why.NEVER_GIVEN
-        if any(it.failed or it.is_early or it.cut for it in unknown):
+        if any(it.failed or it.cut for it in unknown):
             return Why.SPOILED
         return Why.RACED if unknown else Why.COMPARED
 
