@@ -4,3 +4,4 @@ pub mod Going
 pub mod HeldLaws
 pub mod MemoryGoes
 pub mod RangeWords
+pub mod StateSteps

@@ -10,6 +10,7 @@ ghost use Rattle.subordinate.specs.Faults.{device_fault, is_good, standing_at};
 ghost use Rattle.sparse_memory.specs.Ranges.{faults_of, is_unknown, pages_in};
 ghost use Rattle.value_tables.specs.Tables.{list_at, lost_since, settled_at};
 ghost use Rattle.value_memory.specs.InsideValues.{BeginsBeside, BeginsElsewhere, BeginsThere, HasBegun, IsOfOne, KeepsRest, begun_table, finds_place, held_changed, is_full_list, is_given, is_given_up, settled_in, with_table};
+ghost use Rattle.value_memory.specs.States.{after_each, at_each_word, begun_place, begun_word, changed, contents_of, cut_off, ended, failed, given, is_crowded_until, is_crowded_word, made_sure, new_contents, settled_as, swept, tidied, tidied_beside, with_oldest, with_place, with_request, with_room};
 ghost use Rattle.value_memory.specs.ValueMemory.{AllGo, IsByteRange, KeepsCounts, KeepsPages, begins, begins_reading, byte_in, gives_at, held_by, held_in, is_crowded_since, lane_held, pages_of, rooms_in, shares_word, to_all, to_words, word_count};
 
 use crate::ByteRange;
@@ -76,6 +77,7 @@ impl ValueMemory {
         ensures pages { IfOk result (λ memory. pages_of memory ≡ faults_of ranges.now bad_words.now) }
         ensures rooms { IfOk result (λ memory. (page : ℕ) → rooms_in memory page ≡ false) }
         ensures counts { IfOk result (λ memory. (memory.begun ≡ 0) × (memory.oldest ≡ 0) × (memory.crowds ≡ 0)) }
+        ensures state { IfOk result (λ memory. contents_of memory ≡ new_contents ranges.now bad_words.now) }
     {
         Ok(ValueMemory {
             table: ValueTable::new(alloc)?,
@@ -122,6 +124,7 @@ impl ValueMemory {
         ensures pages { pages_of self.new ≡ pages_of self.old }
         ensures rooms { OnOk result ((page : ℕ) → rooms_in self.new page ≡ (rooms_in self.old page || page == address / 4096)) }
         ensures refused { OnErr result (self.new ≡ self.old) }
+        ensures state { OnOk result (contents_of self.new ≡ with_room (address / 4096) (contents_of self.old)) }
     {
         self.settled.reserve(address)
     }
@@ -178,6 +181,7 @@ impl ValueMemory {
         requires { settled_at self.old.table word ≡ Some known }
         ensures held { (x : ℕ) → held_in self.new x ≡ held_in self.old x }
         ensures rest { KeepsRest self.old self.new }
+        ensures state { contents_of self.new ≡ settled_as word (Some known) (contents_of self.old) }
     {
         if !self.may_leave(known) {
             return;
@@ -192,6 +196,7 @@ impl ValueMemory {
     fn tidy(&mut self, word: u32)
         ensures goes { AllGo self.old.oldest false self.old self.new (to_all []) }
         ensures rest { KeepsRest self.old self.new }
+        ensures state { contents_of self.new ≡ tidied word (contents_of self.old) }
     {
         self.table.prune(word, self.oldest, self.begun);
         let Some(known) = self.table.settled(word) else {
@@ -204,6 +209,7 @@ impl ValueMemory {
     fn tidy_beside(&mut self, word: u32, place: usize)
         ensures goes { AllGo self.old.oldest false self.old self.new (to_all []) }
         ensures rest { KeepsRest self.old self.new }
+        ensures state { contents_of self.new ≡ tidied_beside word place (contents_of self.old) }
     {
         let Some(other) = self.table.beside(word, place) else {
             return;
@@ -215,6 +221,7 @@ impl ValueMemory {
     fn sweep(&mut self, word: u32)
         ensures goes { AllGo self.old.oldest false self.old self.new (to_all []) }
         ensures rest { KeepsRest self.old self.new }
+        ensures state { contents_of self.new ≡ swept word (contents_of self.old) }
     {
         for place in 0..PLACES {
             self.tidy_beside(word, place);
@@ -226,6 +233,7 @@ impl ValueMemory {
         requires { IsByteRange range }
         ensures goes { AllGo self.old.oldest false self.old self.new (to_all []) }
         ensures rest { KeepsRest self.old self.new }
+        ensures state { contents_of self.new ≡ at_each_word tidied range (contents_of self.old) }
     {
         for place in 0..word_count(range) {
             self.tidy(word_at(range, place) / 8);
@@ -238,6 +246,7 @@ impl ValueMemory {
     fn make_place(&mut self, word: u32)
         ensures goes { AllGo self.old.oldest false self.old self.new (to_all []) }
         ensures rest { KeepsRest self.old self.new }
+        ensures state { contents_of self.new ≡ with_place word (contents_of self.old) }
     {
         if self.table.has_room(word) {
             return;
@@ -250,6 +259,7 @@ impl ValueMemory {
         requires { IsByteRange range }
         ensures goes { AllGo self.old.oldest false self.old self.new (to_all []) }
         ensures rest { KeepsRest self.old self.new }
+        ensures state { contents_of self.new ≡ at_each_word with_place range (contents_of self.old) }
     {
         for place in 0..word_count(range) {
             self.make_place(word_at(range, place) / 8);
@@ -297,6 +307,8 @@ impl ValueMemory {
         ensures beside { (x : ℕ) → x / 8 ≡ address / 8 → is_given address lanes x ≡ false → BeginsBeside self.old.begun self.old self.new result x }
         ensures others { (x : ℕ) → (x / 8 ≡ address / 8 → ⊥) → BeginsElsewhere self.old.begun self.old self.new result x }
         ensures rest { KeepsRest self.old self.new }
+        ensures state { contents_of self.new ≡ begun_word address lanes (contents_of self.old) }
+        ensures crowded { result ≡ is_crowded_word address (contents_of self.old) }
     {
         let full = self.is_full(address / 8);
         if self.begin_list(address, lanes) {
@@ -314,6 +326,8 @@ impl ValueMemory {
         requires room { rooms_in self.old (range.address / 4096) ≡ true }
         ensures held { (x : ℕ) → HasBegun self.old.begun range self.old self.new result x }
         ensures rest { KeepsRest self.old self.new }
+        ensures state { contents_of self.new ≡ after_each (begun_place range) (word_count range) (contents_of self.old) }
+        ensures crowded { result ≡ is_crowded_until range (word_count range) (contents_of self.old) }
     {
         let lanes = lanes_of(range);
         let mut crowded = false;
@@ -334,6 +348,7 @@ impl ValueMemory {
         ensures begun { self.new.begun ≡ self.old.begun + 1 }
         ensures oldest { self.new.oldest ≡ self.old.oldest }
         ensures pages { KeepsPages self.old self.new }
+        ensures state { contents_of self.new ≡ with_request (Some range) (contents_of self.old) }
     {
         self.make_places(range);
         self.begun += 1;
@@ -351,6 +366,7 @@ impl ValueMemory {
         ensures begun { self.new.begun ≡ self.old.begun + 1 }
         ensures oldest { self.new.oldest ≡ self.old.oldest }
         ensures pages { KeepsPages self.old self.new }
+        ensures state { contents_of self.new ≡ with_request None (contents_of self.old) }
     {
         self.begun += 1;
         self.begun
@@ -369,6 +385,7 @@ impl ValueMemory {
         ensures begun { self.new.begun ≡ self.old.begun + 1 }
         ensures oldest { self.new.oldest ≡ self.old.oldest }
         ensures pages { KeepsPages self.old self.new }
+        ensures state { contents_of self.new ≡ with_request writes (contents_of self.old) }
     {
         match writes {
             Some(range) => self.begin_writing(range),
@@ -384,6 +401,7 @@ impl ValueMemory {
         requires { IsOfOne change }
         ensures held { (x : ℕ) → held_in self.new x ≡ held_changed change (x / 8 == word) x (held_in self.old x) }
         ensures rest { KeepsRest self.old self.new }
+        ensures state { contents_of self.new ≡ changed change word (contents_of self.old) }
     {
         self.table.change(word, change);
     }
@@ -395,6 +413,7 @@ impl ValueMemory {
         ensures goes { AllGo self.old.oldest false self.old self.new (gives_at number address lanes known) }
         ensures counts { KeepsCounts self.old self.new }
         ensures pages { KeepsPages self.old self.new }
+        ensures state { contents_of self.new ≡ given number address lanes known (contents_of self.old) }
     {
         let change = Change::Gives {
             number,
@@ -410,6 +429,7 @@ impl ValueMemory {
         requires one { IsOfOne change }
         ensures held { (x : ℕ) → held_in self.new x ≡ held_changed change (shares_word range x) x (held_in self.old x) }
         ensures rest { KeepsRest self.old self.new }
+        ensures state { contents_of self.new ≡ at_each_word (changed change) range (contents_of self.old) }
     {
         for place in 0..word_count(range) {
             self.change_at(word_at(range, place) / 8, change);
@@ -422,6 +442,7 @@ impl ValueMemory {
         ensures goes { AllGo self.old.oldest false self.old self.new (to_words range (TakesEffect number)) }
         ensures counts { KeepsCounts self.old self.new }
         ensures pages { KeepsPages self.old self.new }
+        ensures state { contents_of self.new ≡ made_sure number range (contents_of self.old) }
     {
         self.change_each(range, Change::Sure(number));
     }
@@ -432,6 +453,7 @@ impl ValueMemory {
         ensures goes { AllGo self.old.oldest false self.old self.new (to_words range (Fails number)) }
         ensures counts { KeepsCounts self.old self.new }
         ensures pages { KeepsPages self.old self.new }
+        ensures state { contents_of self.new ≡ failed number range (contents_of self.old) }
     {
         self.change_each(range, Change::Fails(number));
     }
@@ -442,6 +464,7 @@ impl ValueMemory {
         ensures goes { AllGo self.old.oldest false self.old self.new (to_words range (Ends number)) }
         ensures counts { KeepsCounts self.old self.new }
         ensures pages { KeepsPages self.old self.new }
+        ensures state { contents_of self.new ≡ ended number range (contents_of self.old) }
     {
         self.change_each(range, Change::Ends(number, self.begun));
         self.tidy_each(range);
@@ -458,6 +481,7 @@ impl ValueMemory {
         ensures oldest { self.new.oldest ≡ oldest }
         ensures crowds { self.new.crowds ≡ self.old.crowds }
         ensures pages { KeepsPages self.old self.new }
+        ensures state { contents_of self.new ≡ with_oldest oldest (contents_of self.old) }
     {
         self.oldest = oldest;
     }
@@ -469,6 +493,7 @@ impl ValueMemory {
         ensures oldest { self.new.oldest ≡ self.old.begun + 1 }
         ensures crowds { self.new.crowds ≡ self.old.crowds }
         ensures pages { KeepsPages self.old self.new }
+        ensures state { contents_of self.new ≡ cut_off (contents_of self.old) }
     {
         self.table.reset(self.begun);
         self.oldest = self.begun + 1;

@@ -5,6 +5,8 @@ use Rattle.subordinate.specs.Faults.{Faults, is_good, standing_at}
 use Rattle.value_memory.specs.ValueMemory.{ValueState, held_in, pages_of, rooms_in}
 use Rattle.value_memory.proofs.HeldLaws.{held-same}
 use Rattle.value_memory.proofs.MemoryGoes.{pages-faults, rooms-reserved, rooms-stay, sound_as, state_of}
+use Rattle.value_memory.specs.States.{contents_of, with_room}
+use Rattle.value_memory.proofs.StateSteps.{room-made}
 use Rattle.value_memory.proofs.memory.ValueMemory.make_room.Goals as goal
 use Rattle.value_memory.proofs.memory.ValueMemory.make_room.Goals.{After-reserve}
 
@@ -42,3 +44,10 @@ returns-clause-rooms c =
     let d = (goal.at.returns-clause-rooms c).After-reserve in
     let P : ValueState → Type 0 = λ s. OnOk c.reserve.result ((page : ℕ) → rooms_in (after d) page ≡ (rooms_in s page || page == c.args.address / 4096)) in
     subst P c.self.view_is (rooms-reserved c.reserve.result (before d) (after d) (c.args.address / 4096) c.reserve.ensures.room)
+
+pub returns-clause-state : goal.returns-clause-state
+returns-clause-state c =
+    let d = (goal.at.returns-clause-state c).After-reserve in
+    let P : ValueState → Type 0 = λ s. OnOk c.reserve.result (contents_of (after d) ≡ with_room (c.args.address / 4096) (contents_of s)) in
+    subst P c.self.view_is
+    (room-made c.reserve.result (before d) c.reserve.new.self (c.args.address / 4096) c.reserve.ensures.faults c.reserve.ensures.bytes c.reserve.ensures.doubts c.reserve.ensures.room)
