@@ -1,7 +1,6 @@
 -- The contents that each step of a call leaves.
-use Rattle.std.proofs.Common.{◌≡◌, ℕ, suc, ◌+◌, ◌*◌, ◌/◌, ◌==◌, Bool, true, false, ◌||◌, List, Option, Some, None, Result, Ok, Err, if◌then◌else◌, refl, sym, ◌∙◌, ap, arith}
-use Rattle.std.specs.Prelude.{OnOk}
-use Rattle.std.proofs.Math.Path.{fun_ext}
+use Rattle.std.proofs.Common.{◌≡◌, ℕ, suc, ◌+◌, ◌*◌, ◌/◌, Bool, true, false, ◌||◌, List, Option, Some, None, Result, Ok, Err, if◌then◌else◌, refl, sym, ◌∙◌, ap, arith}
+use Rattle.std.specs.Prelude.{IsOk, OnErr}
 use Rattle.byte_values.specs.Words.{WordList}
 use Rattle.byte_values.specs.declared.change.Change.{Change}
 use Rattle.byte_values.specs.declared.change.Change.TheVariants as change
@@ -13,19 +12,19 @@ use Rattle.sparse_memory.specs.SparseMemory.{SparseState, bytes_in, doubts_in, f
 use Rattle.sparse_memory.specs.declared.PageRange.{PageRange}
 use Rattle.value_tables.specs.Tables.{TableState, changed_at, empty_table, has_room as has_room_at, list_at, pruned_at, reset_at, settled_at, word_beside}
 use Rattle.value_memory.specs.InsideValues.{begun_table, finds_place, is_full_list, settled_in, with_table}
-use Rattle.value_memory.specs.States.{Contents, after_each, at_each_word, begun_over, begun_place, begun_word, changed, contents_of, counted, cut_off, ended, failed, given, held_of, held_with, is_crowded_until, is_crowded_word, left, made_sure, may_leave, new_contents, settled_as, settled_word, swept, tidied, tidied_beside, tidied_if, with_oldest, with_place, with_request, with_room}
+use Rattle.value_memory.specs.States.{Contents, after_each, at_each_word, begun_over, begun_place, begun_word, changed, contents_of, counted, cut_off, ended, failed, given, held_of, held_with, is_crowded_until, is_crowded_word, left, made_sure, may_leave, new_contents, settled_as, settled_word, swept, tidied, tidied_beside, tidied_if, with_oldest, with_place, with_request}
 use Rattle.value_memory.specs.ValueMemory.{ValueState, held_by, held_in, pages_of, rooms_in, word_count}
 use Rattle.value_memory.specs.declared.ByteRange.{ByteRange}
 use Rattle.value_memory.proofs.MemoryGoes.{state_of}
 
 -- contents of their parts
-abbrev contents : TableState → (ℕ → ℕ) → (ℕ → Bool) → (ℕ → Bool) → Faults → ℕ → ℕ → ℕ → Contents
-contents table bytes doubts rooms faults begun oldest crowds =
-    record { table = table; bytes = bytes; doubts = doubts; rooms = rooms; faults = faults; begun = begun; oldest = oldest; crowds = crowds }
+abbrev contents : TableState → (ℕ → ℕ) → (ℕ → Bool) → Faults → ℕ → ℕ → ℕ → Contents
+contents table bytes doubts faults begun oldest crowds =
+    record { table = table; bytes = bytes; doubts = doubts; faults = faults; begun = begun; oldest = oldest; crowds = crowds }
 
 -- ---- what they say
 
--- what is held of a byte, the pages, and which of them have room
+-- what is held of a byte, and the pages
 pub held-contents : (m : ValueState) (x : ℕ) → held_in m x ≡ held_of (contents_of m) x
 unfolding held_in held_of
 held-contents m x = by_list (list_at m.table (x / 8))
@@ -38,48 +37,40 @@ pub pages-contents : (m : ValueState) → pages_of m ≡ (contents_of m).faults
 unfolding pages_of
 pages-contents m = refl
 
-pub rooms-contents : (m : ValueState) (page : ℕ) → rooms_in m page ≡ (contents_of m).rooms page
-unfolding rooms_in
-rooms-contents m page = refl
-
 -- ---- another table, or other bytes
 
--- bytes of pages with room have changed
+-- bytes have changed
 pub contents-put : (m : ValueState) (table : TableState) (settled : SparseState) (bytes : ℕ → ℕ) (doubts : ℕ → Bool) → faults_in settled ≡ faults_in m.settled
-    → ((page : ℕ) → has_room settled page ≡ has_room m.settled page) → bytes_in settled ≡ bytes → doubts_in settled ≡ doubts
+    → bytes_in settled ≡ bytes → doubts_in settled ≡ doubts
     → contents_of (state_of table settled m.begun m.oldest m.crowds) ≡ record (contents_of m) { table = table; bytes = bytes; doubts = doubts }
-contents-put m table settled bytes doubts faults rooms is_bytes is_doubts =
-    ap (λ f. contents table (bytes_in settled) (doubts_in settled) (has_room settled) f m.begun m.oldest m.crowds) faults
-    ∙ ap (λ r. contents table (bytes_in settled) (doubts_in settled) r (faults_in m.settled) m.begun m.oldest m.crowds) (fun_ext (λ page. rooms page))
-    ∙ ap (λ b. contents table b (doubts_in settled) (has_room m.settled) (faults_in m.settled) m.begun m.oldest m.crowds) is_bytes
-    ∙ ap (λ d. contents table bytes d (has_room m.settled) (faults_in m.settled) m.begun m.oldest m.crowds) is_doubts
+contents-put m table settled bytes doubts faults is_bytes is_doubts =
+    ap (λ f. contents table (bytes_in settled) (doubts_in settled) f m.begun m.oldest m.crowds) faults
+    ∙ ap (λ b. contents table b (doubts_in settled) (faults_in m.settled) m.begun m.oldest m.crowds) is_bytes
+    ∙ ap (λ d. contents table bytes d (faults_in m.settled) m.begun m.oldest m.crowds) is_doubts
 
 pub contents-new : (table : TableState) (settled : SparseState) (ranges : List PageRange) (bad_words : List ℕ) → table ≡ empty_table → faults_in settled ≡ faults_of ranges bad_words
-    → ((page : ℕ) → has_room settled page ≡ false) → bytes_in settled ≡ (λ address. 0) → doubts_in settled ≡ (λ address. is_unknown ranges (address / 4096))
+    → bytes_in settled ≡ (λ address. 0) → doubts_in settled ≡ (λ address. is_unknown ranges (address / 4096))
     → contents_of (state_of table settled 0 0 0) ≡ new_contents ranges bad_words
-contents-new table settled ranges bad_words is_table faults rooms bytes doubts =
-    ap (λ t. contents t (bytes_in settled) (doubts_in settled) (has_room settled) (faults_in settled) 0 0 0) is_table
-    ∙ ap (λ f. contents empty_table (bytes_in settled) (doubts_in settled) (has_room settled) f 0 0 0) faults
-    ∙ ap (λ r. contents empty_table (bytes_in settled) (doubts_in settled) r (faults_of ranges bad_words) 0 0 0) (fun_ext (λ page. rooms page))
-    ∙ ap (λ b. contents empty_table b (doubts_in settled) (λ page. false) (faults_of ranges bad_words) 0 0 0) bytes
-    ∙ ap (λ d. contents empty_table (λ address. 0) d (λ page. false) (faults_of ranges bad_words) 0 0 0) doubts
+contents-new table settled ranges bad_words is_table faults bytes doubts =
+    ap (λ t. contents t (bytes_in settled) (doubts_in settled) (faults_in settled) 0 0 0) is_table
+    ∙ ap (λ f. contents empty_table (bytes_in settled) (doubts_in settled) f 0 0 0) faults
+    ∙ ap (λ b. contents empty_table b (doubts_in settled) (faults_of ranges bad_words) 0 0 0) bytes
+    ∙ ap (λ d. contents empty_table (λ address. 0) d (faults_of ranges bad_words) 0 0 0) doubts
 
 -- a page gets room
-room-of-ok : (m : ValueState) (settled : SparseState) (number : ℕ) → faults_in settled ≡ faults_in m.settled → bytes_in settled ≡ bytes_in m.settled → doubts_in settled ≡ doubts_in m.settled
-    → ((page : ℕ) → has_room settled page ≡ (has_room m.settled page || page == number))
-    → contents_of (state_of m.table settled m.begun m.oldest m.crowds) ≡ with_room number (contents_of m)
-unfolding with_room
-room-of-ok m settled number faults bytes doubts rooms =
-    ap (λ f. contents m.table (bytes_in settled) (doubts_in settled) (has_room settled) f m.begun m.oldest m.crowds) faults
-    ∙ ap (λ r. contents m.table (bytes_in settled) (doubts_in settled) r (faults_in m.settled) m.begun m.oldest m.crowds) (fun_ext (λ page. rooms page))
-    ∙ ap (λ b. contents m.table b (doubts_in settled) (λ page. has_room m.settled page || page == number) (faults_in m.settled) m.begun m.oldest m.crowds) bytes
-    ∙ ap (λ d. contents m.table (bytes_in m.settled) d (λ page. has_room m.settled page || page == number) (faults_in m.settled) m.begun m.oldest m.crowds) doubts
+pub room-made : (m : ValueState) (settled : SparseState) → faults_in settled ≡ faults_in m.settled → bytes_in settled ≡ bytes_in m.settled → doubts_in settled ≡ doubts_in m.settled
+    → contents_of (state_of m.table settled m.begun m.oldest m.crowds) ≡ contents_of m
+room-made m settled faults bytes doubts = contents-put m m.table settled (bytes_in m.settled) (doubts_in m.settled) faults bytes doubts
 
-pub room-made : {T E : Type 0} (r : Result T E) (m : ValueState) (settled : SparseState) (number : ℕ) → faults_in settled ≡ faults_in m.settled → bytes_in settled ≡ bytes_in m.settled
-    → doubts_in settled ≡ doubts_in m.settled → OnOk r ((page : ℕ) → has_room settled page ≡ (has_room m.settled page || page == number))
-    → OnOk r (contents_of (state_of m.table settled m.begun m.oldest m.crowds) ≡ with_room number (contents_of m))
-room-made (Ok value) m settled number faults bytes doubts rooms = room-of-ok m settled number faults bytes doubts rooms
-room-made (Err fault) m settled number faults bytes doubts rooms = tt
+-- it is refused only where the page had none
+pub room-refused : {T E : Type 0} (r : Result T E) (m : ValueState) (number : ℕ) → (has_room m.settled number ≡ true → IsOk r) → OnErr r (rooms_in m number ≡ false)
+unfolding rooms_in
+room-refused (Ok value) m number has = tt
+room-refused (Err fault) m number has = by_room (has_room m.settled number) refl
+  where
+    by_room : (b : Bool) → has_room m.settled number ≡ b → b ≡ false
+    by_room true there = let never : false ≡ true = has there in absurd (cc)
+    by_room false there = refl
 
 -- ---- one step after another
 

@@ -9,20 +9,19 @@ use Rattle.byte_values.specs.declared.known.KnownBytes.{KnownBytes}
 use Rattle.data_unit.specs.Words.{full_mask}
 use Rattle.subordinate.specs.Faults.{Faults}
 use Rattle.sparse_memory.specs.Ranges.{faults_of, is_unknown}
-use Rattle.sparse_memory.specs.SparseMemory.{bytes_in, doubts_in, faults_in, flags_in, has_room as has_page_room, put_flags, put_word, word_in}
+use Rattle.sparse_memory.specs.SparseMemory.{bytes_in, doubts_in, faults_in, flags_in, put_flags, put_word, word_in}
 use Rattle.sparse_memory.specs.declared.PageRange.{PageRange}
 use Rattle.value_tables.specs.Tables.{TableState, begun_at, changed_at, empty_table, has_room, list_at, lost_since, pruned_at, released_at, reset_at, settled_at, word_beside}
 use Rattle.value_memory.specs.InsideValues.{is_full_list}
 use Rattle.value_memory.specs.ValueMemory.{ValueState, settled_holding, word_count}
 use Rattle.value_memory.specs.declared.ByteRange.{ByteRange}
 
--- what a memory contains: the lists of words; the bytes of all others, and which of them are in doubt; which pages have room; the pages and bad words; and the
--- counts of a `ValueState`
+-- what a memory contains: the lists of words; the bytes of all others, and which of them are in doubt; the pages and bad words; and the counts of a
+-- `ValueState`. Which pages have room is no part of it, since nothing but the leave to begin at them depends on that
 pub record Contents : Type 0 where
   pub table : TableState
   pub bytes : ℕ → ℕ
   pub doubts : ℕ → Bool
-  pub rooms : ℕ → Bool
   pub faults : Faults
   pub begun : ℕ
   pub oldest : ℕ
@@ -34,7 +33,6 @@ contents_of m =
       table = m.table;
       bytes = bytes_in m.settled;
       doubts = doubts_in m.settled;
-      rooms = has_page_room m.settled;
       faults = faults_in m.settled;
       begun = m.begun;
       oldest = m.oldest;
@@ -57,16 +55,11 @@ new_contents ranges bad_words =
       table = empty_table;
       bytes = λ address. 0;
       doubts = λ address. is_unknown ranges (address / 4096);
-      rooms = λ page. false;
       faults = faults_of ranges bad_words;
       begun = 0;
       oldest = 0;
       crowds = 0;
     }
-
--- a page gets room
-unfoldable pub with_room : ℕ → Contents → Contents
-with_room page c = record c { rooms = λ number. c.rooms number || number == page }
 
 -- ---- one step after another
 

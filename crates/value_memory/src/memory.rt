@@ -10,7 +10,7 @@ ghost use Rattle.subordinate.specs.Faults.{device_fault, is_good, standing_at};
 ghost use Rattle.sparse_memory.specs.Ranges.{faults_of, is_unknown, pages_in};
 ghost use Rattle.value_tables.specs.Tables.{list_at, lost_since, settled_at};
 ghost use Rattle.value_memory.specs.InsideValues.{BeginsBeside, BeginsElsewhere, BeginsThere, HasBegun, IsOfOne, KeepsRest, begun_table, finds_place, held_changed, is_full_list, is_given, is_given_up, settled_in, with_table};
-ghost use Rattle.value_memory.specs.States.{after_each, at_each_word, begun_place, begun_word, changed, contents_of, cut_off, ended, failed, given, is_crowded_until, is_crowded_word, made_sure, new_contents, settled_as, swept, tidied, tidied_beside, with_oldest, with_place, with_request, with_room};
+ghost use Rattle.value_memory.specs.States.{after_each, at_each_word, begun_place, begun_word, changed, contents_of, cut_off, ended, failed, given, is_crowded_until, is_crowded_word, made_sure, new_contents, settled_as, swept, tidied, tidied_beside, with_oldest, with_place, with_request};
 ghost use Rattle.value_memory.specs.ValueMemory.{AllGo, IsByteRange, KeepsCounts, KeepsPages, begins, begins_reading, byte_in, gives_at, held_by, held_in, is_crowded_since, lane_held, pages_of, rooms_in, shares_word, to_all, to_words, word_count};
 
 use crate::ByteRange;
@@ -115,8 +115,8 @@ impl ValueMemory {
         self.settled.is_good(address)
     }
 
-    /// Makes room for the good page of an address, where it has none. The one error is that memory was refused; then nothing has
-    /// changed.
+    /// Makes room for the good page of an address, where it has none. The one error is that memory was refused for it; then nothing
+    /// has changed.
     pub fn make_room(&mut self, address: u32) -> Result<(), AllocError>
         requires good { is_good (standing_at (pages_of self.old) address) ≡ true }
         ensures held { (x : ℕ) → held_in self.new x ≡ held_in self.old x }
@@ -124,7 +124,8 @@ impl ValueMemory {
         ensures pages { pages_of self.new ≡ pages_of self.old }
         ensures rooms { OnOk result ((page : ℕ) → rooms_in self.new page ≡ (rooms_in self.old page || page == address / 4096)) }
         ensures refused { OnErr result (self.new ≡ self.old) }
-        ensures state { OnOk result (contents_of self.new ≡ with_room (address / 4096) (contents_of self.old)) }
+        ensures cause { OnErr result (rooms_in self.old (address / 4096) ≡ false) }
+        ensures state { contents_of self.new ≡ contents_of self.old }
     {
         self.settled.reserve(address)
     }

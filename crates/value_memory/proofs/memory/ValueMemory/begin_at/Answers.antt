@@ -99,7 +99,7 @@ returns-clause-state c =
     let d = (goal.at.returns-clause-state c).After-put_doubts in
     let doubted =
     contents-put (before d) c.self.inside.table c.put_doubts.new.self (bytes_in c.self.inside.settled) (put_flags c.args.address c.args.lanes c.args.lanes (doubts_in c.self.inside.settled)) c.put_doubts.ensures.faults
-    c.put_doubts.ensures.room c.put_doubts.ensures.bytes c.put_doubts.ensures.doubts
+    c.put_doubts.ensures.bytes c.put_doubts.ensures.doubts
     in
     begun-missed c.args.self.now c.begin_list.new.self (after d) c.args.address c.args.lanes c.begin_list.ensures.state (sym c.begin_list.ensures.place ∙ c.if-begin_list.false)
     (doubted ∙ ap (λ (s : ValueState). record (contents_of s) { doubts = put_flags c.args.address c.args.lanes c.args.lanes (doubts_in s.settled) }) c.self.view_is)

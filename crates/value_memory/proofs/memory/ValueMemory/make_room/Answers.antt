@@ -1,12 +1,12 @@
 -- A page gets room, and nothing else changes.
-use Rattle.std.proofs.Common.{◌≡◌, ℕ, ◌/◌, ◌==◌, ◌||◌, ap, inl, refl, subst, sym, ◌∙◌}
-use Rattle.std.specs.Prelude.{OnOk}
+use Rattle.std.proofs.Common.{false, ◌≡◌, ℕ, ◌/◌, ◌==◌, ◌||◌, ap, inl, refl, subst, sym, ◌∙◌}
+use Rattle.std.specs.Prelude.{OnErr, OnOk}
 use Rattle.subordinate.specs.Faults.{Faults, is_good, standing_at}
 use Rattle.value_memory.specs.ValueMemory.{ValueState, held_in, pages_of, rooms_in}
 use Rattle.value_memory.proofs.HeldLaws.{held-same}
 use Rattle.value_memory.proofs.MemoryGoes.{pages-faults, rooms-reserved, rooms-stay, sound_as, state_of}
-use Rattle.value_memory.specs.States.{contents_of, with_room}
-use Rattle.value_memory.proofs.StateSteps.{room-made}
+use Rattle.value_memory.specs.States.{contents_of}
+use Rattle.value_memory.proofs.StateSteps.{room-made, room-refused}
 use Rattle.value_memory.proofs.memory.ValueMemory.make_room.Goals as goal
 use Rattle.value_memory.proofs.memory.ValueMemory.make_room.Goals.{After-reserve}
 
@@ -48,6 +48,10 @@ returns-clause-rooms c =
 pub returns-clause-state : goal.returns-clause-state
 returns-clause-state c =
     let d = (goal.at.returns-clause-state c).After-reserve in
-    let P : ValueState → Type 0 = λ s. OnOk c.reserve.result (contents_of (after d) ≡ with_room (c.args.address / 4096) (contents_of s)) in
-    subst P c.self.view_is
-    (room-made c.reserve.result (before d) c.reserve.new.self (c.args.address / 4096) c.reserve.ensures.faults c.reserve.ensures.bytes c.reserve.ensures.doubts c.reserve.ensures.room)
+    room-made (before d) c.reserve.new.self c.reserve.ensures.faults c.reserve.ensures.bytes c.reserve.ensures.doubts ∙ ap contents_of c.self.view_is
+
+pub returns-clause-cause : goal.returns-clause-cause
+returns-clause-cause c =
+    let d = (goal.at.returns-clause-cause c).After-reserve in
+    let P : ValueState → Type 0 = λ s. OnErr c.reserve.result (rooms_in s (c.args.address / 4096) ≡ false) in
+    subst P c.self.view_is (room-refused c.reserve.result (before d) (c.args.address / 4096) c.reserve.ensures.has_room)

@@ -19,4 +19,4 @@ returns-clause-rooms c = fresh-rooms c.in_ok-new.field-0 c.in_ok-new-2.field-0 c
 
 pub returns-clause-state : goal.returns-clause-state
 returns-clause-state c =
-    contents-new c.in_ok-new.field-0 c.in_ok-new-2.field-0 c.args.ranges.now c.args.bad_words.now c.in_ok-new.ensures c.in_ok-new-2.ensures.faults c.in_ok-new-2.ensures.room c.in_ok-new-2.ensures.bytes c.in_ok-new-2.ensures.doubts
+    contents-new c.in_ok-new.field-0 c.in_ok-new-2.field-0 c.args.ranges.now c.args.bad_words.now c.in_ok-new.ensures c.in_ok-new-2.ensures.faults c.in_ok-new-2.ensures.bytes c.in_ok-new-2.ensures.doubts

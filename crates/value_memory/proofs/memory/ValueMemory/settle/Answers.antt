@@ -97,7 +97,7 @@ returns-clause-state c =
     let P : ValueState → Type 0 = λ s. contents_of (after d) ≡ settled_as c.args.word (Some c.args.known) (contents_of s) in
     subst P c.self.view_is
     (contents-put m c.release.new.self c.put_doubts.new.self (bytes_in c.put_doubts.new.self) (doubts_in c.put_doubts.new.self) (c.put_doubts.ensures.faults ∙ c.put_word.ensures.faults)
-    (λ page. c.put_doubts.ensures.room page ∙ c.put_word.ensures.room page) refl refl
+    refl refl
     ∙ ap (λ t. record (contents_of m) { table = t; bytes = bytes_in c.put_doubts.new.self; doubts = doubts_in c.put_doubts.new.self }) c.release.ensures
     ∙ ap (λ b. record (contents_of m) { table = released_at c.args.word m.table; bytes = b; doubts = doubts_in c.put_doubts.new.self }) is.bytes
     ∙ ap (λ d. record (contents_of m) { table = released_at c.args.word m.table; bytes = put_word (c.args.word * 8) c.args.known.value c.args.known.lanes (bytes_in m.settled); doubts = d }) is.doubts
