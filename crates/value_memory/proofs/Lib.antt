@@ -1,5 +1,6 @@
 pub mod Beginnings
 pub mod Counting
+pub mod FilledMemory
 pub mod Going
 pub mod HeldLaws
 pub mod MemoryGoes

@@ -1,6 +1,6 @@
 -- Which contents each call of a memory of values leads to, exactly. Each definition below is one step of a call: a word's list is tidied, those of a shelf are
 -- swept, places are made for the words of a range, a request begins at each of them, a list changes at each.
-use Rattle.std.specs.Prelude.{ℕ, zero, suc, ◌+◌, ◌-◌, ◌*◌, ◌/◌, ◌%◌, ◌==◌, Bool, true, false, not, ◌&&◌, ◌||◌, List, [], ◌∷◌, Option, Some, None, if◌then◌else◌, is_none}
+use Rattle.std.specs.Prelude.{ℕ, ◌≡◌, zero, suc, ◌+◌, ◌-◌, ◌*◌, ◌/◌, ◌%◌, ◌==◌, Bool, true, false, not, ◌&&◌, ◌||◌, List, [], ◌∷◌, Option, Some, None, if◌then◌else◌, is_none, length}
 use Rattle.byte_orders.specs.Holdings.{Holding}
 use Rattle.byte_values.specs.Words.{WordList, lane_list}
 use Rattle.byte_values.specs.declared.change.Change.{Change}
@@ -11,9 +11,11 @@ use Rattle.subordinate.specs.Faults.{Faults}
 use Rattle.sparse_memory.specs.Ranges.{faults_of, is_unknown}
 use Rattle.sparse_memory.specs.SparseMemory.{bytes_in, doubts_in, faults_in, flags_in, put_flags, put_word, word_in}
 use Rattle.sparse_memory.specs.declared.PageRange.{PageRange}
+use Rattle.serial_memory.specs.InsideSerial.{filled_until}
+use Rattle.serial_memory.specs.SerialMemory.{known_from, with_filled}
 use Rattle.value_tables.specs.Tables.{TableState, begun_at, changed_at, empty_table, has_room, list_at, lost_since, pruned_at, released_at, reset_at, settled_at, word_beside}
 use Rattle.value_memory.specs.InsideValues.{is_full_list}
-use Rattle.value_memory.specs.ValueMemory.{ValueState, settled_holding, word_count}
+use Rattle.value_memory.specs.ValueMemory.{ValueState, rooms_in, settled_holding, word_count}
 use Rattle.value_memory.specs.declared.ByteRange.{ByteRange}
 
 -- what a memory contains: the lists of words; the bytes of all others, and which of them are in doubt; the pages and bad words; and the counts of a
@@ -60,6 +62,22 @@ new_contents ranges bad_words =
       oldest = 0;
       crowds = 0;
     }
+
+-- only pages have got room
+pub record KeepsContents (old new : ValueState) : Type 0 where
+  pub contents : contents_of new ≡ contents_of old
+  pub rooms : (page : ℕ) → rooms_in old page ≡ true → rooms_in new page ≡ true
+
+-- a tester says which bytes it begins with from an address on, and they are known
+unfoldable pub filled_with : ℕ → List ℕ → Contents → Contents
+filled_with address bytes c = record c { bytes = with_filled c.bytes address bytes; doubts = known_from c.doubts address (length bytes) }
+
+-- one of them, and the first so many
+unfoldable pub with_byte : ℕ → ℕ → Contents → Contents
+with_byte address byte c = record c { bytes = λ x. if x == address then byte else c.bytes x; doubts = λ x. not (x == address) && c.doubts x }
+
+unfoldable pub filled_first : ℕ → List ℕ → ℕ → Contents → Contents
+filled_first address bytes count c = record c { bytes = filled_until c.bytes address bytes count; doubts = known_from c.doubts address count }
 
 -- ---- one step after another
 

@@ -1,5 +1,5 @@
 //! The memory: what is held of each byte, and what a call does to it.
-ghost use Rattle.std.specs.Prelude.{◌≡◌, ◌⊎◌, ◌+◌, ◌*◌, ◌/◌, ◌%◌, ◌^◌, ◌<◌, ◌≤◌, ◌==◌, ◌&&◌, ◌||◌, ℕ, Bool, false, true, not, [], ◌∷◌, None, Some, IfOk, IfSome, OnErr, OnOk, if◌then◌else◌, is_none};
+ghost use Rattle.std.specs.Prelude.{◌≡◌, ◌⊎◌, ◌+◌, ◌-◌, ◌*◌, ◌/◌, ◌%◌, ◌^◌, ◌<◌, ◌≤◌, ◌==◌, ◌&&◌, ◌||◌, ℕ, Bool, false, true, not, [], ◌∷◌, None, Some, Err, IfErr, IfOk, IfSome, OnErr, OnOk, if◌then◌else◌, is_none, length, slice_index};
 ghost use Rattle.bus_words.specs.Lanes.{has_lane, lane_byte};
 ghost use Rattle.byte_orders.specs.Exact.{AnswersAsWhole};
 ghost use Rattle.byte_orders.specs.Holdings.{beginning, is_compared, may_be_told};
@@ -8,14 +8,18 @@ ghost use Rattle.byte_orders.specs.Runs.{Ends, Fails, IsBlamedInRuns, Resets, Ta
 ghost use Rattle.byte_values.specs.Words.{lane_list};
 ghost use Rattle.subordinate.specs.Faults.{device_fault, is_good, standing_at};
 ghost use Rattle.sparse_memory.specs.Ranges.{faults_of, is_unknown, pages_in};
+ghost use Rattle.serial_memory.specs.SerialMemory.{can_fill, is_filled, is_good_byte, some_lacks_room};
+ghost use Rattle.serial_memory.specs.declared.FillFault.TheVariants.{NoMemory, Place};
 ghost use Rattle.value_tables.specs.Tables.{list_at, lost_since, settled_at};
 ghost use Rattle.value_memory.specs.InsideValues.{BeginsBeside, BeginsElsewhere, BeginsThere, HasBegun, IsOfOne, KeepsRest, begun_table, finds_place, held_changed, is_full_list, is_given, is_given_up, settled_in, with_table};
-ghost use Rattle.value_memory.specs.States.{after_each, at_each_word, begun_place, begun_word, changed, contents_of, cut_off, ended, failed, given, is_crowded_until, is_crowded_word, made_sure, new_contents, settled_as, swept, tidied, tidied_beside, with_oldest, with_place, with_request};
+ghost use Rattle.value_memory.specs.States.{KeepsContents, after_each, at_each_word, begun_place, begun_word, changed, contents_of, cut_off, ended, failed, filled_with, given, is_crowded_until, is_crowded_word, made_sure, new_contents, settled_as, swept, tidied, tidied_beside, with_byte, with_oldest, with_place, with_request};
 ghost use Rattle.value_memory.specs.ValueMemory.{AllGo, IsByteRange, KeepsCounts, KeepsPages, begins, begins_reading, byte_in, gives_at, held_by, held_in, is_crowded_since, lane_held, pages_of, rooms_in, shares_word, to_all, to_words, word_count};
 
 use crate::ByteRange;
-use crate::ranges::{lanes_of, word_at, word_count};
+use crate::ranges::{address_behind, lanes_of, word_at, word_count};
 use byte_values::{Change, KnownBytes, WordValues};
+use data_unit::{full_mask, place};
+use serial_memory::FillFault;
 use sparse_memory::{PageRange, SparseMemory};
 use std::alloc::{AllocError, Global};
 use std::marker::Model;
@@ -28,7 +32,7 @@ const PLACES: usize = 8;
 const ALL: u8 = 0xff;
 
 /// Which values each byte of a memory may have where requests race for it. A request is named by its number: how many had begun as
-/// it began, itself counted; at most 2^63 begin. No call but `new` and `make_room` takes memory.
+/// it began, itself counted; at most 2^63 begin. No call but `new`, `make_room`, `make_room_for` and `fill` takes memory.
 pub struct ValueMemory {
     table: ValueTable,
     settled: SparseMemory,
@@ -128,6 +132,113 @@ impl ValueMemory {
         ensures state { contents_of self.new ≡ contents_of self.old }
     {
         self.settled.reserve(address)
+    }
+
+    // ---- what it begins with, as a tester says it
+
+    /// Whether the byte that lies so many behind an address is of a good page.
+    fn is_good_byte(&self, address: u32, k: usize) -> bool
+        ensures { result ≡ is_good_byte (pages_of self.now) (address + k) }
+    {
+        let Ok(k) = u32::try_from(k) else {
+            return false;
+        };
+        let Some(address) = address.checked_add(k) else {
+            return false;
+        };
+        self.is_good(address)
+    }
+
+    /// Whether so many bytes from an address on are all of good pages.
+    fn can_fill(&self, address: u32, count: usize) -> bool
+        ensures { result ≡ can_fill (pages_of self.now) address count }
+    {
+        (0..count).all(|k| self.is_good_byte(address, k))
+    }
+
+    /// Makes room for the pages of so many bytes from an address on. The one error is that memory was refused for one that has none.
+    fn make_rooms(&mut self, address: u32, count: usize) -> Result<(), AllocError>
+        requires { can_fill (pages_of self.old) address count ≡ true }
+        ensures rest { KeepsContents self.old self.new }
+        ensures room { OnOk result ((k : ℕ) → k < count → rooms_in self.new ((address + k) / 4096) ≡ true) }
+        ensures cause { OnErr result (some_lacks_room (rooms_in self.old) address count ≡ true) }
+    {
+        for k in 0..count {
+            self.make_room(address_behind(address, k))?;
+        }
+        Ok(())
+    }
+
+    /// Makes room for the pages of so many bytes from an address on, so that `fill` finds it. It fails only where one of them is of no
+    /// good page, or memory was refused for the page of one, which has no room.
+    pub fn make_room_for(&mut self, address: u32, count: usize) -> Result<(), FillFault>
+        ensures rest { KeepsContents self.old self.new }
+        ensures held { (x : ℕ) → held_in self.new x ≡ held_in self.old x }
+        ensures counts { KeepsCounts self.old self.new }
+        ensures pages { pages_of self.new ≡ pages_of self.old }
+        ensures room { OnOk result ((k : ℕ) → k < count → rooms_in self.new ((address + k) / 4096) ≡ true) }
+        ensures place { can_fill (pages_of self.old) address count ≡ false → result ≡ Err Place }
+        ensures no_fault { OnOk result (can_fill (pages_of self.old) address count ≡ true) }
+        ensures err { IfErr result (λ fault. ((can_fill (pages_of self.old) address count ≡ false) × (fault ≡ Place))
+            ⊎ ((can_fill (pages_of self.old) address count ≡ true) × (fault ≡ NoMemory))) }
+        ensures cause { IfErr result (λ fault. fault ≡ NoMemory → some_lacks_room (rooms_in self.old) address count ≡ true) }
+    {
+        if !self.can_fill(address, count) {
+            return Err(FillFault::Place);
+        }
+        if self.make_rooms(address, count).is_err() {
+            return Err(FillFault::NoMemory);
+        }
+        Ok(())
+    }
+
+    /// Puts a byte, which is known from now on. Its page has room.
+    fn put_byte(&mut self, address: u32, byte: u8)
+        requires room { rooms_in self.old (address / 4096) ≡ true }
+        ensures state { contents_of self.new ≡ with_byte address byte (contents_of self.old) }
+        ensures rest { KeepsRest self.old self.new }
+    {
+        let strobes = full_mask(address, 0);
+        let word = place(u64::from(byte), address, 0);
+        self.settled.put_word(address, word, strobes);
+        self.settled.put_doubts(address, 0, strobes);
+    }
+
+    /// Puts bytes from an address on, which are known from now on. Their pages have room.
+    fn put_each(&mut self, address: u32, bytes: &[u8])
+        requires good { can_fill (pages_of self.old) address (length bytes.now) ≡ true }
+        requires room { (k : ℕ) → k < length bytes.now → rooms_in self.old ((address + k) / 4096) ≡ true }
+        ensures state { contents_of self.new ≡ filled_with address bytes.now (contents_of self.old) }
+        ensures rest { KeepsRest self.old self.new }
+    {
+        for k in 0..bytes.len() {
+            self.put_byte(address_behind(address, k), bytes[k]);
+        }
+    }
+
+    /// The bytes from an address on become these, and are known, as a tester says what the memory begins with, before any request has
+    /// begun. It fails only where one of them is of no good page, or memory was refused for the page of one, which has no room; then no
+    /// byte has changed.
+    pub fn fill(&mut self, address: u32, bytes: &[u8]) -> Result<(), FillFault>
+        requires none { self.old.begun ≡ 0 }
+        ensures state { OnOk result (contents_of self.new ≡ filled_with address bytes.now (contents_of self.old)) }
+        ensures held { OnOk result ((x : ℕ) → held_in self.new x
+            ≡ (if is_filled address (length bytes.now) x then beginning (Some (slice_index bytes.now (x - address))) ∷ [] else held_in self.old x)) }
+        ensures refused { OnErr result (contents_of self.new ≡ contents_of self.old) }
+        ensures kept { OnErr result ((x : ℕ) → held_in self.new x ≡ held_in self.old x) }
+        ensures counts { KeepsCounts self.old self.new }
+        ensures pages { pages_of self.new ≡ pages_of self.old }
+        ensures rooms { (page : ℕ) → rooms_in self.old page ≡ true → rooms_in self.new page ≡ true }
+        ensures place { can_fill (pages_of self.old) address (length bytes.now) ≡ false → result ≡ Err Place }
+        ensures no_fault { OnOk result (can_fill (pages_of self.old) address (length bytes.now) ≡ true) }
+        ensures err { IfErr result (λ fault. ((can_fill (pages_of self.old) address (length bytes.now) ≡ false) × (fault ≡ Place))
+            ⊎ ((can_fill (pages_of self.old) address (length bytes.now) ≡ true) × (fault ≡ NoMemory))) }
+        ensures cause { IfErr result (λ fault. fault ≡ NoMemory → some_lacks_room (rooms_in self.old) address (length bytes.now) ≡ true) }
+    {
+        let _ = &self.begun;
+        self.make_room_for(address, bytes.len())?;
+        self.put_each(address, bytes);
+        Ok(())
     }
 
     // ---- what is known of a word that has no list
@@ -286,7 +397,8 @@ impl ValueMemory {
 
     /// The last request may give some lanes of the word that an address is in: its list has that, if there is a place for one.
     fn begin_list(&mut self, address: u32, lanes: u8) -> bool
-        requires { rooms_in self.old (address / 4096) ≡ true }
+        requires some { 0 < self.old.begun }
+        requires room { rooms_in self.old (address / 4096) ≡ true }
         ensures state { self.new ≡ with_table self.old (begun_table self.old (address / 8) lanes (settled_in self.old address)) }
         ensures place { result ≡ finds_place self.old (address / 8) }
     {

@@ -1,5 +1,5 @@
 //! The words of a range of bytes.
-ghost use Rattle.std.specs.Prelude.{◌≡◌, ◌+◌, ◌*◌, ◌/◌, ◌%◌, ◌<◌, ℕ};
+ghost use Rattle.std.specs.Prelude.{◌≡◌, ◌+◌, ◌*◌, ◌/◌, ◌%◌, ◌^◌, ◌<◌, ℕ};
 ghost use Rattle.bus_words.specs.Lanes.{has_lane};
 ghost use Rattle.data_unit.specs.Words.{full_mask};
 ghost use Rattle.value_memory.specs.ValueMemory.{IsByteRange, is_in, word_count};
@@ -26,6 +26,15 @@ pub(crate) fn word_at(range: ByteRange, place: u32) -> u32
     ensures page { result / 4096 ≡ range.address / 4096 }
 {
     range.address + place * 8
+}
+
+/// The address so many bytes behind another.
+#[inline]
+pub(crate) fn address_behind(address: u32, k: usize) -> u32
+    requires { address + k < 2 ^ 32 }
+    ensures { result ≡ address + k }
+{
+    address + k as u32
 }
 
 /// The lanes that the range has of each of these words, bit i for byte i.

@@ -1,5 +1,5 @@
 -- The word has a list that has the request, or its bytes are in doubt.
-use Rattle.std.proofs.Common.{◌≡◌, ◌/◌, true, ap, inl, refl, subst, sym, ◌∙◌}
+use Rattle.std.proofs.Common.{arith, ◌≡◌, ◌/◌, true, ap, inl, refl, subst, sym, ◌∙◌}
 use Rattle.sparse_memory.specs.SparseMemory.{bytes_in, doubts_in, put_flags}
 use Rattle.value_memory.specs.InsideValues.{KeepsRest, begun_table, settled_in, with_table}
 use Rattle.value_memory.specs.ValueMemory.{ValueState, rooms_in}
@@ -67,7 +67,7 @@ put_doubts-requires c =
 pub invariant_of-self : goal.invariant_of-self
 invariant_of-self c =
     let d = (goal.at.invariant_of-self c).After-put_doubts in
-    sound_as (before d) (after d) c.self.invariant c.self.invariant.few c.self.invariant.within c.self.invariant.lost c.self.invariant.crowds (λ page there. (kept d).pages.rooms page ∙ there)
+    sound_as (before d) (after d) c.self.invariant c.self.invariant.few c.self.invariant.within c.self.invariant.lost c.self.invariant.crowds (omega arith) (λ page there. (kept d).pages.rooms page ∙ there)
     (λ word there. inl there)
 
 pub returns-clause-given : goal.returns-clause-given

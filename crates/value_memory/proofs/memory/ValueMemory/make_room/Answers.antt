@@ -1,5 +1,5 @@
 -- A page gets room, and nothing else changes.
-use Rattle.std.proofs.Common.{false, ◌≡◌, ℕ, ◌/◌, ◌==◌, ◌||◌, ap, inl, refl, subst, sym, ◌∙◌}
+use Rattle.std.proofs.Common.{arith, false, ◌≡◌, ℕ, ◌/◌, ◌==◌, ◌||◌, ap, inl, refl, subst, sym, ◌∙◌}
 use Rattle.std.specs.Prelude.{OnErr, OnOk}
 use Rattle.subordinate.specs.Faults.{Faults, is_good, standing_at}
 use Rattle.value_memory.specs.ValueMemory.{ValueState, held_in, pages_of, rooms_in}
@@ -24,7 +24,7 @@ reserve-requires c =
 pub invariant_of-self : goal.invariant_of-self
 invariant_of-self c =
     let d = (goal.at.invariant_of-self c).After-reserve in
-    sound_as (before d) (after d) c.self.invariant c.self.invariant.few c.self.invariant.within c.self.invariant.lost c.self.invariant.crowds
+    sound_as (before d) (after d) c.self.invariant c.self.invariant.few c.self.invariant.within c.self.invariant.lost c.self.invariant.crowds (omega arith)
     (rooms-stay c.reserve.result (before d) (after d) (c.args.address / 4096) c.reserve.ensures.room c.reserve.ensures.refused) (λ word there. inl there)
 
 pub returns-clause-held : goal.returns-clause-held

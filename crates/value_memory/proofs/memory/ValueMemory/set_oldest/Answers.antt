@@ -12,7 +12,7 @@ invariant_of-self c =
     let new : ValueState = record m { oldest = c.args.oldest } in
     let same = ap (λ (s : ValueState). s.begun) c.self.view_is in
     let within : c.args.oldest ≤ c.self.inside.begun + 1 = omega (arith, c.requires.within, same) in
-    sound_as m new c.self.invariant c.self.invariant.few within c.self.invariant.lost c.self.invariant.crowds (λ page there. (pages-same m new refl).rooms page ∙ there) (λ word there. inl there)
+    sound_as m new c.self.invariant c.self.invariant.few within c.self.invariant.lost c.self.invariant.crowds (omega arith) (λ page there. (pages-same m new refl).rooms page ∙ there) (λ word there. inl there)
 
 pub returns-clause-goes : goal.returns-clause-goes
 returns-clause-goes c =
