@@ -1,5 +1,5 @@
 //! What one byte may be told while writers race for it, and once they have ended.
-ghost use Rattle.std.specs.Prelude.{◌≡◌, ℕ};
+ghost use Rattle.std.specs.Prelude.{◌≡◌};
 ghost use Rattle.value_memory.specs.ValueMemory.{IsByteRange};
 
 use crate::{ByteRange, ValueMemory};
