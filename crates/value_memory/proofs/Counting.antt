@@ -27,14 +27,14 @@ sound-counted m new is few sound =
     let lost = sound.lost in
     let crowds = sound.crowds in
     subst P (sym is)
-    (sound_as m (record m { begun = m.begun + 1 }) sound (omega (arith, few)) (omega (arith, within)) (omega (arith, lost)) (omega (arith, crowds))
+    (sound_as m (record m { begun = m.begun + 1 }) sound (omega (arith, few)) (omega (arith, within)) (omega (arith, lost)) (omega (arith, crowds)) (omega arith)
     (λ page there. (pages-same m (record m { begun = m.begun + 1 }) refl).rooms page ∙ there) (λ word there. inl there))
 
 pub sound-crowded : (m new : ValueState) (crowds : ℕ) → new ≡ record m { crowds = crowds } → crowds ≤ m.begun → IsSoundMemory m → IsSoundMemory new
 sound-crowded m new crowds is within sound =
     let P : ValueState → Type 0 = λ s. IsSoundMemory s in
     subst P (sym is)
-    (sound_as m (record m { crowds = crowds }) sound sound.few sound.within sound.lost within
+    (sound_as m (record m { crowds = crowds }) sound sound.few sound.within sound.lost within (omega arith)
     (λ page there. (pages-same m (record m { crowds = crowds }) refl).rooms page ∙ there) (λ word there. inl there))
 
 -- a request begins that gives nothing

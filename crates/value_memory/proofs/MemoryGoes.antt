@@ -462,9 +462,9 @@ room-of m page is = is
 
 -- another state is sound where it has no list but of words that had one, or lie well
 pub sound_as : (old new : ValueState) → IsSoundMemory old → new.begun ≤ 2 ^ 63 → new.oldest ≤ new.begun + 1 → new.table.lost ≤ new.begun → new.crowds ≤ new.begun
-    → ((page : ℕ) → rooms_in old page ≡ true → rooms_in new page ≡ true)
+    → old.begun ≤ new.begun → ((page : ℕ) → rooms_in old page ≡ true → rooms_in new page ≡ true)
     → ((word : ℕ) → is_some (list_at new.table word) ≡ true → (is_some (list_at old.table word) ≡ true) ⊎ IsPlaced new word) → IsSoundMemory new
-sound_as old new sound few within lost crowds rooms lists =
+sound_as old new sound few within lost crowds grows rooms lists =
     record {
       few = few;
       within = within;
@@ -474,7 +474,7 @@ sound_as old new sound few within lost crowds rooms lists =
     }
   where
     placed : (word : ℕ) → (is_some (list_at old.table word) ≡ true) ⊎ IsPlaced new word → IsPlaced new word
-    placed word (inl was) = let at = sound.placed word was in record { below = at.below; room = rooms (word / 512) at.room }
+    placed word (inl was) = let at = sound.placed word was in record { below = at.below; some = omega (arith, at.some, grows); room = rooms (word / 512) at.room }
     placed word (inr at) = at
 
 is_some-map : (change : WordList → WordList) (o : Option WordList) → is_some (option_map change o) ≡ is_some o
@@ -497,7 +497,7 @@ pub sound-changed : (m new : ValueState) (change : WordList → WordList) (word 
 sound-changed m new change word is sound =
     let P : ValueState → Type 0 = λ s. IsSoundMemory s in
     subst P (sym is)
-    (sound_as m (with_table m (list_changed change word m.table)) sound sound.few sound.within sound.lost sound.crowds
+    (sound_as m (with_table m (list_changed change word m.table)) sound sound.few sound.within sound.lost sound.crowds (omega arith)
     (λ page there. (pages-same m (with_table m (list_changed change word m.table)) refl).rooms page ∙ there)
     (λ other there. inl (sym (some-changed change word other m) ∙ there)))
 
@@ -505,7 +505,7 @@ pub sound-reset : (m new : ValueState) → new ≡ record m { table = reset_at m
 sound-reset m new is sound =
     let P : ValueState → Type 0 = λ s. IsSoundMemory s in
     subst P (sym is)
-    (sound_as m (record m { table = reset_at m.begun m.table; oldest = m.begun + 1 }) sound sound.few (omega arith) sound.lost sound.crowds
+    (sound_as m (record m { table = reset_at m.begun m.table; oldest = m.begun + 1 }) sound sound.few (omega arith) sound.lost sound.crowds (omega arith)
     (λ page there. (pages-same m (record m { table = reset_at m.begun m.table; oldest = m.begun + 1 }) refl).rooms page ∙ there)
     (λ other there. inl (sym (is_some-map (changed_word (change.Resets m.begun)) (list_at m.table other)) ∙ sym (ap (λ (o : Option WordList). is_some o) (reset_each m.begun other m.table)) ∙ there)))
 
@@ -513,7 +513,7 @@ sound-reset m new is sound =
 pub sound-released : (m new : ValueState) (word : ℕ) (known : KnownBytes) → IsReleased m new word known → KeepsRest m new → IsSoundMemory m → IsSoundMemory new
 sound-released m new word known is rest sound =
     sound_as m new sound (omega (arith, rest.counts.begun, sound.few)) (omega (arith, rest.counts.begun, rest.counts.oldest, sound.within)) (omega (arith, rest.counts.begun, is.lost, sound.lost))
-    (omega (arith, rest.counts.begun, rest.counts.crowds, sound.crowds)) (λ page there. rest.pages.rooms page ∙ there) (λ other there. by_word other there (eqb_tells other word))
+    (omega (arith, rest.counts.begun, rest.counts.crowds, sound.crowds)) (omega (arith, rest.counts.begun)) (λ page there. rest.pages.rooms page ∙ there) (λ other there. by_word other there (eqb_tells other word))
   where
     by_word : (other : ℕ) → is_some (list_at new.table other) ≡ true → ((eqb other word ≡ true) × (other ≡ word)) ⊎ ((eqb other word ≡ false) × (other ≢ word))
         → (is_some (list_at m.table other) ≡ true) ⊎ IsPlaced new other
@@ -522,12 +522,12 @@ sound-released m new word known is rest sound =
     by_word other there (inr (test, differs)) = inl (ap (λ (o : Option WordList). is_some o) (sym (is.others other differs)) ∙ there)
 
 -- a list begins at a word of a page with room
-pub sound-begun : (m new : ValueState) (address lanes : ℕ) → new ≡ with_table m (begun_table m (address / 8) lanes (settled_in m address)) → address < 2 ^ 32
+pub sound-begun : (m new : ValueState) (address lanes : ℕ) → new ≡ with_table m (begun_table m (address / 8) lanes (settled_in m address)) → address < 2 ^ 32 → 0 < m.begun
     → rooms_in m (address / 4096) ≡ true → IsSoundMemory m → IsSoundMemory new
-sound-begun m new address lanes is below room sound =
+sound-begun m new address lanes is below some room sound =
     let P : ValueState → Type 0 = λ s. IsSoundMemory s in
     subst P (sym is)
-    (sound_as m (with_table m (begun_table m (address / 8) lanes (settled_in m address))) sound sound.few sound.within lost sound.crowds
+    (sound_as m (with_table m (begun_table m (address / 8) lanes (settled_in m address))) sound sound.few sound.within lost sound.crowds (omega arith)
     (λ page there. same page ∙ there) (λ other there. by_word other there (eqb_tells other (address / 8))))
   where
     same : (page : ℕ) → rooms_in (with_table m (begun_table m (address / 8) lanes (settled_in m address))) page ≡ rooms_in m page
@@ -550,7 +550,7 @@ sound-begun m new address lanes is below room sound =
         → (is_some (list_at m.table other) ≡ true) ⊎ IsPlaced (with_table m (begun_table m (address / 8) lanes (settled_in m address))) other
     by_word other there (inl (test, equal)) =
         let page : other / 512 ≡ address / 4096 = omega (arith, equal) in
-        inr (record { below = omega (arith, equal, below); room = ap (rooms_in (with_table m (begun_table m (address / 8) lanes (settled_in m address)))) page ∙ same (address / 4096) ∙ room })
+        inr (record { below = omega (arith, equal, below); some = some; room = ap (rooms_in (with_table m (begun_table m (address / 8) lanes (settled_in m address)))) page ∙ same (address / 4096) ∙ room })
     by_word other there (inr (test, differs)) = inl (ap (λ (o : Option WordList). is_some o) (sym (others other differs (is_given_up m (address / 8)))) ∙ there)
 
 -- ---- what is answered of a lane

@@ -11,9 +11,10 @@ use Rattle.value_tables.specs.Tables.{TableState, begun_at, has_room, list_at}
 use Rattle.value_memory.specs.ValueMemory.{KeepsCounts, KeepsPages, ValueState, held_in, is_in, rooms_in}
 use Rattle.value_memory.specs.declared.ByteRange.{ByteRange}
 
--- the word of a list is one of 32-bit addresses, on a page with room
+-- the word of a list is one of 32-bit addresses, on a page with room, and some request has begun
 pub record IsPlaced (m : ValueState) (word : ℕ) : Type 0 where
   pub below : word < 2 ^ 29
+  pub some : 0 < m.begun
   pub room : rooms_in m (word / 512) ≡ true
 
 -- what is true of every memory of values

@@ -1,3 +1,4 @@
 pub mod ByteEvents
 pub mod InsideValues
+pub mod States
 pub mod ValueMemory

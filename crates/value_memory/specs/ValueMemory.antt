@@ -1,5 +1,5 @@
 -- A memory of values: what is held of each of its bytes, and which events each call is to which bytes. Where a byte's word has a list in the table, that list
--- says it; else the byte has settled. Nothing but the readings below is said of a state by the calls.
+-- says it; else the byte has settled. The calls speak of a state by the readings below alone, and by its contents (`States`).
 use Rattle.std.specs.Prelude.{ℕ, ◌≡◌, ◌+◌, ◌*◌, ◌/◌, ◌%◌, ◌^◌, ◌≤◌, ◌==◌, Bool, true, false, not, ◌&&◌, List, [], ◌∷◌, max, Option, Some, None, if◌then◌else◌, nat_le, nat_lt}
 use Rattle.bus_words.specs.Lanes.{has_lane}
 use Rattle.byte_orders.specs.Holdings.{Holding, beginning, crowd}

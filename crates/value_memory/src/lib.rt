@@ -4,6 +4,8 @@
 
 mod memory;
 mod ranges;
+#[cfg(test)]
+mod tests;
 
 pub use memory::ValueMemory;
 

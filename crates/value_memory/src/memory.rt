@@ -1,5 +1,5 @@
 //! The memory: what is held of each byte, and what a call does to it.
-ghost use Rattle.std.specs.Prelude.{◌≡◌, ◌⊎◌, ◌+◌, ◌*◌, ◌/◌, ◌%◌, ◌^◌, ◌<◌, ◌≤◌, ◌==◌, ◌&&◌, ◌||◌, ℕ, Bool, false, true, not, [], ◌∷◌, None, Some, IfOk, IfSome, OnErr, OnOk, if◌then◌else◌, is_none};
+ghost use Rattle.std.specs.Prelude.{◌≡◌, ◌⊎◌, ◌+◌, ◌-◌, ◌*◌, ◌/◌, ◌%◌, ◌^◌, ◌<◌, ◌≤◌, ◌==◌, ◌&&◌, ◌||◌, ℕ, Bool, false, true, not, [], ◌∷◌, None, Some, Err, IfErr, IfOk, IfSome, OnErr, OnOk, if◌then◌else◌, is_none, length, slice_index};
 ghost use Rattle.bus_words.specs.Lanes.{has_lane, lane_byte};
 ghost use Rattle.byte_orders.specs.Exact.{AnswersAsWhole};
 ghost use Rattle.byte_orders.specs.Holdings.{beginning, is_compared, may_be_told};
@@ -8,13 +8,18 @@ ghost use Rattle.byte_orders.specs.Runs.{Ends, Fails, IsBlamedInRuns, Resets, Ta
 ghost use Rattle.byte_values.specs.Words.{lane_list};
 ghost use Rattle.subordinate.specs.Faults.{device_fault, is_good, standing_at};
 ghost use Rattle.sparse_memory.specs.Ranges.{faults_of, is_unknown, pages_in};
+ghost use Rattle.serial_memory.specs.SerialMemory.{can_fill, is_filled, is_good_byte, some_lacks_room};
+ghost use Rattle.serial_memory.specs.declared.FillFault.TheVariants.{NoMemory, Place};
 ghost use Rattle.value_tables.specs.Tables.{list_at, lost_since, settled_at};
 ghost use Rattle.value_memory.specs.InsideValues.{BeginsBeside, BeginsElsewhere, BeginsThere, HasBegun, IsOfOne, KeepsRest, begun_table, finds_place, held_changed, is_full_list, is_given, is_given_up, settled_in, with_table};
+ghost use Rattle.value_memory.specs.States.{KeepsContents, after_each, at_each_word, begun_place, begun_word, changed, contents_of, cut_off, ended, failed, filled_with, given, is_crowded_until, is_crowded_word, made_sure, new_contents, settled_as, swept, tidied, tidied_beside, with_byte, with_oldest, with_place, with_request};
 ghost use Rattle.value_memory.specs.ValueMemory.{AllGo, IsByteRange, KeepsCounts, KeepsPages, begins, begins_reading, byte_in, gives_at, held_by, held_in, is_crowded_since, lane_held, pages_of, rooms_in, shares_word, to_all, to_words, word_count};
 
 use crate::ByteRange;
-use crate::ranges::{lanes_of, word_at, word_count};
+use crate::ranges::{address_behind, lanes_of, word_at, word_count};
 use byte_values::{Change, KnownBytes, WordValues};
+use data_unit::{full_mask, place};
+use serial_memory::FillFault;
 use sparse_memory::{PageRange, SparseMemory};
 use std::alloc::{AllocError, Global};
 use std::marker::Model;
@@ -27,7 +32,7 @@ const PLACES: usize = 8;
 const ALL: u8 = 0xff;
 
 /// Which values each byte of a memory may have where requests race for it. A request is named by its number: how many had begun as
-/// it began, itself counted; at most 2^63 begin. No call but `new` and `make_room` takes memory.
+/// it began, itself counted; at most 2^63 begin. No call but `new`, `make_room`, `make_room_for` and `fill` takes memory.
 pub struct ValueMemory {
     table: ValueTable,
     settled: SparseMemory,
@@ -76,6 +81,7 @@ impl ValueMemory {
         ensures pages { IfOk result (λ memory. pages_of memory ≡ faults_of ranges.now bad_words.now) }
         ensures rooms { IfOk result (λ memory. (page : ℕ) → rooms_in memory page ≡ false) }
         ensures counts { IfOk result (λ memory. (memory.begun ≡ 0) × (memory.oldest ≡ 0) × (memory.crowds ≡ 0)) }
+        ensures state { IfOk result (λ memory. contents_of memory ≡ new_contents ranges.now bad_words.now) }
     {
         Ok(ValueMemory {
             table: ValueTable::new(alloc)?,
@@ -113,8 +119,8 @@ impl ValueMemory {
         self.settled.is_good(address)
     }
 
-    /// Makes room for the good page of an address, where it has none. The one error is that memory was refused; then nothing has
-    /// changed.
+    /// Makes room for the good page of an address, where it has none. The one error is that memory was refused for it; then nothing
+    /// has changed.
     pub fn make_room(&mut self, address: u32) -> Result<(), AllocError>
         requires good { is_good (standing_at (pages_of self.old) address) ≡ true }
         ensures held { (x : ℕ) → held_in self.new x ≡ held_in self.old x }
@@ -122,8 +128,117 @@ impl ValueMemory {
         ensures pages { pages_of self.new ≡ pages_of self.old }
         ensures rooms { OnOk result ((page : ℕ) → rooms_in self.new page ≡ (rooms_in self.old page || page == address / 4096)) }
         ensures refused { OnErr result (self.new ≡ self.old) }
+        ensures cause { OnErr result (rooms_in self.old (address / 4096) ≡ false) }
+        ensures state { contents_of self.new ≡ contents_of self.old }
     {
         self.settled.reserve(address)
+    }
+
+    // ---- what it begins with, as a tester says it
+
+    /// Whether the byte that lies so many behind an address is of a good page.
+    fn is_good_byte(&self, address: u32, k: usize) -> bool
+        ensures { result ≡ is_good_byte (pages_of self.now) (address + k) }
+    {
+        let Ok(k) = u32::try_from(k) else {
+            return false;
+        };
+        let Some(address) = address.checked_add(k) else {
+            return false;
+        };
+        self.is_good(address)
+    }
+
+    /// Whether so many bytes from an address on are all of good pages.
+    fn can_fill(&self, address: u32, count: usize) -> bool
+        ensures { result ≡ can_fill (pages_of self.now) address count }
+    {
+        (0..count).all(|k| self.is_good_byte(address, k))
+    }
+
+    /// Makes room for the pages of so many bytes from an address on. The one error is that memory was refused for one that has none.
+    fn make_rooms(&mut self, address: u32, count: usize) -> Result<(), AllocError>
+        requires { can_fill (pages_of self.old) address count ≡ true }
+        ensures rest { KeepsContents self.old self.new }
+        ensures room { OnOk result ((k : ℕ) → k < count → rooms_in self.new ((address + k) / 4096) ≡ true) }
+        ensures cause { OnErr result (some_lacks_room (rooms_in self.old) address count ≡ true) }
+    {
+        for k in 0..count {
+            self.make_room(address_behind(address, k))?;
+        }
+        Ok(())
+    }
+
+    /// Makes room for the pages of so many bytes from an address on, so that `fill` finds it. It fails only where one of them is of no
+    /// good page, or memory was refused for the page of one, which has no room.
+    pub fn make_room_for(&mut self, address: u32, count: usize) -> Result<(), FillFault>
+        ensures rest { KeepsContents self.old self.new }
+        ensures held { (x : ℕ) → held_in self.new x ≡ held_in self.old x }
+        ensures counts { KeepsCounts self.old self.new }
+        ensures pages { pages_of self.new ≡ pages_of self.old }
+        ensures room { OnOk result ((k : ℕ) → k < count → rooms_in self.new ((address + k) / 4096) ≡ true) }
+        ensures place { can_fill (pages_of self.old) address count ≡ false → result ≡ Err Place }
+        ensures no_fault { OnOk result (can_fill (pages_of self.old) address count ≡ true) }
+        ensures err { IfErr result (λ fault. ((can_fill (pages_of self.old) address count ≡ false) × (fault ≡ Place))
+            ⊎ ((can_fill (pages_of self.old) address count ≡ true) × (fault ≡ NoMemory))) }
+        ensures cause { IfErr result (λ fault. fault ≡ NoMemory → some_lacks_room (rooms_in self.old) address count ≡ true) }
+    {
+        if !self.can_fill(address, count) {
+            return Err(FillFault::Place);
+        }
+        if self.make_rooms(address, count).is_err() {
+            return Err(FillFault::NoMemory);
+        }
+        Ok(())
+    }
+
+    /// Puts a byte, which is known from now on. Its page has room.
+    fn put_byte(&mut self, address: u32, byte: u8)
+        requires room { rooms_in self.old (address / 4096) ≡ true }
+        ensures state { contents_of self.new ≡ with_byte address byte (contents_of self.old) }
+        ensures rest { KeepsRest self.old self.new }
+    {
+        let strobes = full_mask(address, 0);
+        let word = place(u64::from(byte), address, 0);
+        self.settled.put_word(address, word, strobes);
+        self.settled.put_doubts(address, 0, strobes);
+    }
+
+    /// Puts bytes from an address on, which are known from now on. Their pages have room.
+    fn put_each(&mut self, address: u32, bytes: &[u8])
+        requires good { can_fill (pages_of self.old) address (length bytes.now) ≡ true }
+        requires room { (k : ℕ) → k < length bytes.now → rooms_in self.old ((address + k) / 4096) ≡ true }
+        ensures state { contents_of self.new ≡ filled_with address bytes.now (contents_of self.old) }
+        ensures rest { KeepsRest self.old self.new }
+    {
+        for k in 0..bytes.len() {
+            self.put_byte(address_behind(address, k), bytes[k]);
+        }
+    }
+
+    /// The bytes from an address on become these, and are known, as a tester says what the memory begins with, before any request has
+    /// begun. It fails only where one of them is of no good page, or memory was refused for the page of one, which has no room; then no
+    /// byte has changed.
+    pub fn fill(&mut self, address: u32, bytes: &[u8]) -> Result<(), FillFault>
+        requires none { self.old.begun ≡ 0 }
+        ensures state { OnOk result (contents_of self.new ≡ filled_with address bytes.now (contents_of self.old)) }
+        ensures held { OnOk result ((x : ℕ) → held_in self.new x
+            ≡ (if is_filled address (length bytes.now) x then beginning (Some (slice_index bytes.now (x - address))) ∷ [] else held_in self.old x)) }
+        ensures refused { OnErr result (contents_of self.new ≡ contents_of self.old) }
+        ensures kept { OnErr result ((x : ℕ) → held_in self.new x ≡ held_in self.old x) }
+        ensures counts { KeepsCounts self.old self.new }
+        ensures pages { pages_of self.new ≡ pages_of self.old }
+        ensures rooms { (page : ℕ) → rooms_in self.old page ≡ true → rooms_in self.new page ≡ true }
+        ensures place { can_fill (pages_of self.old) address (length bytes.now) ≡ false → result ≡ Err Place }
+        ensures no_fault { OnOk result (can_fill (pages_of self.old) address (length bytes.now) ≡ true) }
+        ensures err { IfErr result (λ fault. ((can_fill (pages_of self.old) address (length bytes.now) ≡ false) × (fault ≡ Place))
+            ⊎ ((can_fill (pages_of self.old) address (length bytes.now) ≡ true) × (fault ≡ NoMemory))) }
+        ensures cause { IfErr result (λ fault. fault ≡ NoMemory → some_lacks_room (rooms_in self.old) address (length bytes.now) ≡ true) }
+    {
+        let _ = &self.begun;
+        self.make_room_for(address, bytes.len())?;
+        self.put_each(address, bytes);
+        Ok(())
     }
 
     // ---- what is known of a word that has no list
@@ -178,6 +293,7 @@ impl ValueMemory {
         requires { settled_at self.old.table word ≡ Some known }
         ensures held { (x : ℕ) → held_in self.new x ≡ held_in self.old x }
         ensures rest { KeepsRest self.old self.new }
+        ensures state { contents_of self.new ≡ settled_as word (Some known) (contents_of self.old) }
     {
         if !self.may_leave(known) {
             return;
@@ -192,6 +308,7 @@ impl ValueMemory {
     fn tidy(&mut self, word: u32)
         ensures goes { AllGo self.old.oldest false self.old self.new (to_all []) }
         ensures rest { KeepsRest self.old self.new }
+        ensures state { contents_of self.new ≡ tidied word (contents_of self.old) }
     {
         self.table.prune(word, self.oldest, self.begun);
         let Some(known) = self.table.settled(word) else {
@@ -204,6 +321,7 @@ impl ValueMemory {
     fn tidy_beside(&mut self, word: u32, place: usize)
         ensures goes { AllGo self.old.oldest false self.old self.new (to_all []) }
         ensures rest { KeepsRest self.old self.new }
+        ensures state { contents_of self.new ≡ tidied_beside word place (contents_of self.old) }
     {
         let Some(other) = self.table.beside(word, place) else {
             return;
@@ -215,6 +333,7 @@ impl ValueMemory {
     fn sweep(&mut self, word: u32)
         ensures goes { AllGo self.old.oldest false self.old self.new (to_all []) }
         ensures rest { KeepsRest self.old self.new }
+        ensures state { contents_of self.new ≡ swept word (contents_of self.old) }
     {
         for place in 0..PLACES {
             self.tidy_beside(word, place);
@@ -226,6 +345,7 @@ impl ValueMemory {
         requires { IsByteRange range }
         ensures goes { AllGo self.old.oldest false self.old self.new (to_all []) }
         ensures rest { KeepsRest self.old self.new }
+        ensures state { contents_of self.new ≡ at_each_word tidied range (contents_of self.old) }
     {
         for place in 0..word_count(range) {
             self.tidy(word_at(range, place) / 8);
@@ -238,6 +358,7 @@ impl ValueMemory {
     fn make_place(&mut self, word: u32)
         ensures goes { AllGo self.old.oldest false self.old self.new (to_all []) }
         ensures rest { KeepsRest self.old self.new }
+        ensures state { contents_of self.new ≡ with_place word (contents_of self.old) }
     {
         if self.table.has_room(word) {
             return;
@@ -250,6 +371,7 @@ impl ValueMemory {
         requires { IsByteRange range }
         ensures goes { AllGo self.old.oldest false self.old self.new (to_all []) }
         ensures rest { KeepsRest self.old self.new }
+        ensures state { contents_of self.new ≡ at_each_word with_place range (contents_of self.old) }
     {
         for place in 0..word_count(range) {
             self.make_place(word_at(range, place) / 8);
@@ -275,7 +397,8 @@ impl ValueMemory {
 
     /// The last request may give some lanes of the word that an address is in: its list has that, if there is a place for one.
     fn begin_list(&mut self, address: u32, lanes: u8) -> bool
-        requires { rooms_in self.old (address / 4096) ≡ true }
+        requires some { 0 < self.old.begun }
+        requires room { rooms_in self.old (address / 4096) ≡ true }
         ensures state { self.new ≡ with_table self.old (begun_table self.old (address / 8) lanes (settled_in self.old address)) }
         ensures place { result ≡ finds_place self.old (address / 8) }
     {
@@ -297,6 +420,8 @@ impl ValueMemory {
         ensures beside { (x : ℕ) → x / 8 ≡ address / 8 → is_given address lanes x ≡ false → BeginsBeside self.old.begun self.old self.new result x }
         ensures others { (x : ℕ) → (x / 8 ≡ address / 8 → ⊥) → BeginsElsewhere self.old.begun self.old self.new result x }
         ensures rest { KeepsRest self.old self.new }
+        ensures state { contents_of self.new ≡ begun_word address lanes (contents_of self.old) }
+        ensures crowded { result ≡ is_crowded_word address (contents_of self.old) }
     {
         let full = self.is_full(address / 8);
         if self.begin_list(address, lanes) {
@@ -314,6 +439,8 @@ impl ValueMemory {
         requires room { rooms_in self.old (range.address / 4096) ≡ true }
         ensures held { (x : ℕ) → HasBegun self.old.begun range self.old self.new result x }
         ensures rest { KeepsRest self.old self.new }
+        ensures state { contents_of self.new ≡ after_each (begun_place range) (word_count range) (contents_of self.old) }
+        ensures crowded { result ≡ is_crowded_until range (word_count range) (contents_of self.old) }
     {
         let lanes = lanes_of(range);
         let mut crowded = false;
@@ -334,6 +461,7 @@ impl ValueMemory {
         ensures begun { self.new.begun ≡ self.old.begun + 1 }
         ensures oldest { self.new.oldest ≡ self.old.oldest }
         ensures pages { KeepsPages self.old self.new }
+        ensures state { contents_of self.new ≡ with_request (Some range) (contents_of self.old) }
     {
         self.make_places(range);
         self.begun += 1;
@@ -351,6 +479,7 @@ impl ValueMemory {
         ensures begun { self.new.begun ≡ self.old.begun + 1 }
         ensures oldest { self.new.oldest ≡ self.old.oldest }
         ensures pages { KeepsPages self.old self.new }
+        ensures state { contents_of self.new ≡ with_request None (contents_of self.old) }
     {
         self.begun += 1;
         self.begun
@@ -369,6 +498,7 @@ impl ValueMemory {
         ensures begun { self.new.begun ≡ self.old.begun + 1 }
         ensures oldest { self.new.oldest ≡ self.old.oldest }
         ensures pages { KeepsPages self.old self.new }
+        ensures state { contents_of self.new ≡ with_request writes (contents_of self.old) }
     {
         match writes {
             Some(range) => self.begin_writing(range),
@@ -384,6 +514,7 @@ impl ValueMemory {
         requires { IsOfOne change }
         ensures held { (x : ℕ) → held_in self.new x ≡ held_changed change (x / 8 == word) x (held_in self.old x) }
         ensures rest { KeepsRest self.old self.new }
+        ensures state { contents_of self.new ≡ changed change word (contents_of self.old) }
     {
         self.table.change(word, change);
     }
@@ -395,6 +526,7 @@ impl ValueMemory {
         ensures goes { AllGo self.old.oldest false self.old self.new (gives_at number address lanes known) }
         ensures counts { KeepsCounts self.old self.new }
         ensures pages { KeepsPages self.old self.new }
+        ensures state { contents_of self.new ≡ given number address lanes known (contents_of self.old) }
     {
         let change = Change::Gives {
             number,
@@ -410,6 +542,7 @@ impl ValueMemory {
         requires one { IsOfOne change }
         ensures held { (x : ℕ) → held_in self.new x ≡ held_changed change (shares_word range x) x (held_in self.old x) }
         ensures rest { KeepsRest self.old self.new }
+        ensures state { contents_of self.new ≡ at_each_word (changed change) range (contents_of self.old) }
     {
         for place in 0..word_count(range) {
             self.change_at(word_at(range, place) / 8, change);
@@ -422,6 +555,7 @@ impl ValueMemory {
         ensures goes { AllGo self.old.oldest false self.old self.new (to_words range (TakesEffect number)) }
         ensures counts { KeepsCounts self.old self.new }
         ensures pages { KeepsPages self.old self.new }
+        ensures state { contents_of self.new ≡ made_sure number range (contents_of self.old) }
     {
         self.change_each(range, Change::Sure(number));
     }
@@ -432,6 +566,7 @@ impl ValueMemory {
         ensures goes { AllGo self.old.oldest false self.old self.new (to_words range (Fails number)) }
         ensures counts { KeepsCounts self.old self.new }
         ensures pages { KeepsPages self.old self.new }
+        ensures state { contents_of self.new ≡ failed number range (contents_of self.old) }
     {
         self.change_each(range, Change::Fails(number));
     }
@@ -442,6 +577,7 @@ impl ValueMemory {
         ensures goes { AllGo self.old.oldest false self.old self.new (to_words range (Ends number)) }
         ensures counts { KeepsCounts self.old self.new }
         ensures pages { KeepsPages self.old self.new }
+        ensures state { contents_of self.new ≡ ended number range (contents_of self.old) }
     {
         self.change_each(range, Change::Ends(number, self.begun));
         self.tidy_each(range);
@@ -458,6 +594,7 @@ impl ValueMemory {
         ensures oldest { self.new.oldest ≡ oldest }
         ensures crowds { self.new.crowds ≡ self.old.crowds }
         ensures pages { KeepsPages self.old self.new }
+        ensures state { contents_of self.new ≡ with_oldest oldest (contents_of self.old) }
     {
         self.oldest = oldest;
     }
@@ -469,6 +606,7 @@ impl ValueMemory {
         ensures oldest { self.new.oldest ≡ self.old.begun + 1 }
         ensures crowds { self.new.crowds ≡ self.old.crowds }
         ensures pages { KeepsPages self.old self.new }
+        ensures state { contents_of self.new ≡ cut_off (contents_of self.old) }
     {
         self.table.reset(self.begun);
         self.oldest = self.begun + 1;

@@ -1,10 +1,12 @@
 -- The word has a list that has the request, or its bytes are in doubt.
-use Rattle.std.proofs.Common.{◌≡◌, ◌/◌, true, ap, inl, refl, subst, sym, ◌∙◌}
+use Rattle.std.proofs.Common.{arith, ◌≡◌, ◌/◌, true, ap, inl, refl, subst, sym, ◌∙◌}
 use Rattle.sparse_memory.specs.SparseMemory.{bytes_in, doubts_in, put_flags}
 use Rattle.value_memory.specs.InsideValues.{KeepsRest, begun_table, settled_in, with_table}
 use Rattle.value_memory.specs.ValueMemory.{ValueState, rooms_in}
 use Rattle.value_memory.proofs.Beginnings.{BeginsAll, begins_found, begins_missed}
 use Rattle.value_memory.proofs.MemoryGoes.{keeps_then, pages-put, pages-same, room-of, sound_as, state_of}
+use Rattle.value_memory.specs.States.{contents_of}
+use Rattle.value_memory.proofs.StateSteps.{begun-found, begun-missed, contents-put, crowded-found, crowded-missed}
 use Rattle.value_memory.proofs.memory.ValueMemory.begin_at.Goals as goal
 use Rattle.value_memory.proofs.memory.ValueMemory.begin_at.Goals.{After-begin_list, After-put_doubts}
 
@@ -65,7 +67,7 @@ put_doubts-requires c =
 pub invariant_of-self : goal.invariant_of-self
 invariant_of-self c =
     let d = (goal.at.invariant_of-self c).After-put_doubts in
-    sound_as (before d) (after d) c.self.invariant c.self.invariant.few c.self.invariant.within c.self.invariant.lost c.self.invariant.crowds (λ page there. (kept d).pages.rooms page ∙ there)
+    sound_as (before d) (after d) c.self.invariant c.self.invariant.few c.self.invariant.within c.self.invariant.lost c.self.invariant.crowds (omega arith) (λ page there. (kept d).pages.rooms page ∙ there)
     (λ word there. inl there)
 
 pub returns-clause-given : goal.returns-clause-given
@@ -83,3 +85,24 @@ returns-clause-rest c =
     let first = listed (goal.at.returns-clause-rest c).After-begin_list in
     let P : ValueState → Type 0 = λ s. KeepsRest s (after d) in
     keeps_then first (subst P c.self.view_is (kept d))
+
+pub returns-then-begin_list-clause-state : goal.returns-then-begin_list-clause-state
+returns-then-begin_list-clause-state c =
+    begun-found c.args.self.now c.begin_list.new.self c.args.address c.args.lanes c.begin_list.ensures.state (sym c.begin_list.ensures.place ∙ c.if-begin_list.true)
+
+pub returns-then-begin_list-clause-crowded : goal.returns-then-begin_list-clause-crowded
+returns-then-begin_list-clause-crowded c =
+    crowded-found c.args.self.now c.args.address c.is_full-full.result (sym c.begin_list.ensures.place ∙ c.if-begin_list.true) c.is_full-full.ensures
+
+pub returns-clause-state : goal.returns-clause-state
+returns-clause-state c =
+    let d = (goal.at.returns-clause-state c).After-put_doubts in
+    let doubted =
+    contents-put (before d) c.self.inside.table c.put_doubts.new.self (bytes_in c.self.inside.settled) (put_flags c.args.address c.args.lanes c.args.lanes (doubts_in c.self.inside.settled)) c.put_doubts.ensures.faults
+    c.put_doubts.ensures.bytes c.put_doubts.ensures.doubts
+    in
+    begun-missed c.args.self.now c.begin_list.new.self (after d) c.args.address c.args.lanes c.begin_list.ensures.state (sym c.begin_list.ensures.place ∙ c.if-begin_list.false)
+    (doubted ∙ ap (λ (s : ValueState). record (contents_of s) { doubts = put_flags c.args.address c.args.lanes c.args.lanes (doubts_in s.settled) }) c.self.view_is)
+
+pub returns-clause-crowded : goal.returns-clause-crowded
+returns-clause-crowded c = crowded-missed c.args.self.now c.args.address (sym c.begin_list.ensures.place ∙ c.if-begin_list.false)

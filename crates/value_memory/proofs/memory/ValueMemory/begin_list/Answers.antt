@@ -1,5 +1,5 @@
 -- A list begins, or one that stands goes on.
-use Rattle.std.proofs.Common.{◌≡◌, ◌/◌, ◌&&◌, false, true, not, if◌then◌else◌, ap, subst, sym, ◌∙◌}
+use Rattle.std.proofs.Common.{◌<◌, arith, ◌≡◌, ◌/◌, ◌&&◌, false, true, not, if◌then◌else◌, ap, subst, sym, ◌∙◌}
 use Rattle.byte_values.specs.declared.known.KnownBytes.{KnownBytes}
 use Rattle.value_tables.specs.Tables.{begun_at, has_room}
 use Rattle.value_memory.specs.InsideValues.{begun_table, is_given_up, settled_in, with_table}
@@ -34,8 +34,10 @@ becomes c =
 pub invariant_of-self : goal.invariant_of-self
 invariant_of-self c =
     let d = (goal.at.invariant_of-self c).After-begin in
-    let room : rooms_in (before d) (c.args.address / 4096) ≡ true = ap (λ (s : ValueState). rooms_in s (c.args.address / 4096)) c.self.view_is ∙ c.requires in
-    sound-begun (before d) (with_table (before d) c.begin.new.self) c.args.address c.args.lanes (ap (with_table (before d)) (becomes d)) c.ranges.address.fits room c.self.invariant
+    let room : rooms_in (before d) (c.args.address / 4096) ≡ true = ap (λ (s : ValueState). rooms_in s (c.args.address / 4096)) c.self.view_is ∙ c.requires.room in
+    let begun = ap (λ (s : ValueState). s.begun) c.self.view_is in
+    let some : 0 < c.self.inside.begun = omega (arith, c.requires.some, begun) in
+    sound-begun (before d) (with_table (before d) c.begin.new.self) c.args.address c.args.lanes (ap (with_table (before d)) (becomes d)) c.ranges.address.fits some room c.self.invariant
 
 pub returns-clause-state : goal.returns-clause-state
 returns-clause-state c =

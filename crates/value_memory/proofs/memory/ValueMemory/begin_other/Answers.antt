@@ -1,10 +1,11 @@
 -- Only how many have begun has changed.
-use Rattle.std.proofs.Common.{◌+◌, ◌<◌, ◌^◌, None, ap, arith, refl, subst}
+use Rattle.std.proofs.Common.{◌≡◌, ◌+◌, ◌<◌, ◌^◌, None, ap, arith, refl, subst}
 use Rattle.byte_orders.specs.Runs.{Others, Reads}
 use Rattle.value_memory.specs.ValueMemory.{AllGo, ValueState, begins, begins_reading, is_crowded_since}
 use Rattle.value_memory.proofs.Counting.{other_go, sound-counted}
 use Rattle.value_memory.proofs.Going.{quiet_others, quiet_reads}
 use Rattle.value_memory.proofs.MemoryGoes.{pages-same, state_of}
+use Rattle.value_memory.specs.States.{contents_of, with_request}
 use Rattle.value_memory.proofs.memory.ValueMemory.begin_other.Goals as goal
 
 pub invariant_of-self : goal.invariant_of-self
@@ -32,3 +33,9 @@ pub returns-clause-pages : goal.returns-clause-pages
 returns-clause-pages c =
     let m : ValueState = state_of c.self.inside.table c.self.inside.settled c.self.inside.begun c.self.inside.oldest c.self.inside.crowds in
     pages-same c.args.self.now (record m { begun = m.begun + 1 }) (ap (λ (s : ValueState). s.settled) c.self.view_is)
+
+pub returns-clause-state : goal.returns-clause-state
+returns-clause-state c =
+    let m : ValueState = state_of c.self.inside.table c.self.inside.settled c.self.inside.begun c.self.inside.oldest c.self.inside.crowds in
+    let P : ValueState → Type 0 = λ s. contents_of (record m { begun = m.begun + 1 }) ≡ with_request None (contents_of s) in
+    subst P c.self.view_is refl

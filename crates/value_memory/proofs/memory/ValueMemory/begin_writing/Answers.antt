@@ -5,6 +5,7 @@ use Rattle.value_memory.specs.ValueMemory.{ValueState, rooms_in}
 use Rattle.value_memory.proofs.Counting.{sound-counted, sound-crowded, writing_here, writing_pages, writing_within}
 use Rattle.value_memory.proofs.Going.{quiet_others, quiet_reads}
 use Rattle.value_memory.proofs.MemoryGoes.{pages-same, state_of}
+use Rattle.value_memory.proofs.StateSteps.{writing-contents}
 use Rattle.value_memory.proofs.memory.ValueMemory.begin_writing.Goals as goal
 
 pub invariant_of-self : goal.invariant_of-self
@@ -58,3 +59,10 @@ returns-clause-pages c =
     let n : ValueState = state_of c.self-2.inside.table c.self-2.inside.settled c.self-2.inside.begun c.self-2.inside.oldest c.self-2.inside.crowds in
     writing_pages c.args.self.now c.make_places.new.self m c.begin_each-crowded.new.self n c.args.range c.begin_each-crowded.result c.one_if.result c.make_places.ensures.goes c.make_places.ensures.rest
     c.self.view_is c.begin_each-crowded.ensures.held c.begin_each-crowded.ensures.rest c.self-2.view_is c.one_if.ensures
+
+pub returns-clause-state : goal.returns-clause-state
+returns-clause-state c =
+    let m : ValueState = state_of c.self.inside.table c.self.inside.settled c.self.inside.begun c.self.inside.oldest c.self.inside.crowds in
+    let n : ValueState = state_of c.self-2.inside.table c.self-2.inside.settled c.self-2.inside.begun c.self-2.inside.oldest c.self-2.inside.crowds in
+    writing-contents c.args.self.now c.make_places.new.self m c.begin_each-crowded.new.self n c.args.range c.begin_each-crowded.result c.one_if.result c.make_places.ensures.state c.self.view_is
+    c.begin_each-crowded.ensures.state c.begin_each-crowded.ensures.crowded c.self-2.view_is c.one_if.ensures

@@ -4,6 +4,8 @@ use Rattle.byte_values.specs.Words.{changed_word}
 use Rattle.value_memory.specs.InsideValues.{KeepsRest, held_changed, with_table}
 use Rattle.value_memory.specs.ValueMemory.{ValueState, held_in}
 use Rattle.value_memory.proofs.MemoryGoes.{held-at_word, pages-same, sound-changed, state_of}
+use Rattle.value_memory.specs.States.{changed, contents_of}
+use Rattle.value_memory.proofs.StateSteps.{list-changed}
 use Rattle.value_memory.proofs.memory.ValueMemory.change_at.Goals as goal
 
 pub invariant_of-self : goal.invariant_of-self
@@ -22,3 +24,9 @@ returns-clause-rest c =
     let m : ValueState = state_of c.self.inside.table c.self.inside.settled c.self.inside.begun c.self.inside.oldest c.self.inside.crowds in
     let P : ValueState → Type 0 = λ s. KeepsRest s (with_table m c.change.new.self) in
     subst P c.self.view_is (record { pages = pages-same m (with_table m c.change.new.self) refl; counts = record { begun = refl; oldest = refl; crowds = refl } })
+
+pub returns-clause-state : goal.returns-clause-state
+returns-clause-state c =
+    let m : ValueState = state_of c.self.inside.table c.self.inside.settled c.self.inside.begun c.self.inside.oldest c.self.inside.crowds in
+    let P : ValueState → Type 0 = λ s. contents_of (with_table m c.change.new.self) ≡ changed c.args.change c.args.word (contents_of s) in
+    subst P c.self.view_is (list-changed m c.change.new.self c.args.change c.args.word c.change.ensures)

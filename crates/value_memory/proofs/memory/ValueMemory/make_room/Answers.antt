@@ -1,10 +1,12 @@
 -- A page gets room, and nothing else changes.
-use Rattle.std.proofs.Common.{◌≡◌, ℕ, ◌/◌, ◌==◌, ◌||◌, ap, inl, refl, subst, sym, ◌∙◌}
-use Rattle.std.specs.Prelude.{OnOk}
+use Rattle.std.proofs.Common.{arith, false, ◌≡◌, ℕ, ◌/◌, ◌==◌, ◌||◌, ap, inl, refl, subst, sym, ◌∙◌}
+use Rattle.std.specs.Prelude.{OnErr, OnOk}
 use Rattle.subordinate.specs.Faults.{Faults, is_good, standing_at}
 use Rattle.value_memory.specs.ValueMemory.{ValueState, held_in, pages_of, rooms_in}
 use Rattle.value_memory.proofs.HeldLaws.{held-same}
 use Rattle.value_memory.proofs.MemoryGoes.{pages-faults, rooms-reserved, rooms-stay, sound_as, state_of}
+use Rattle.value_memory.specs.States.{contents_of}
+use Rattle.value_memory.proofs.StateSteps.{room-made, room-refused}
 use Rattle.value_memory.proofs.memory.ValueMemory.make_room.Goals as goal
 use Rattle.value_memory.proofs.memory.ValueMemory.make_room.Goals.{After-reserve}
 
@@ -22,7 +24,7 @@ reserve-requires c =
 pub invariant_of-self : goal.invariant_of-self
 invariant_of-self c =
     let d = (goal.at.invariant_of-self c).After-reserve in
-    sound_as (before d) (after d) c.self.invariant c.self.invariant.few c.self.invariant.within c.self.invariant.lost c.self.invariant.crowds
+    sound_as (before d) (after d) c.self.invariant c.self.invariant.few c.self.invariant.within c.self.invariant.lost c.self.invariant.crowds (omega arith)
     (rooms-stay c.reserve.result (before d) (after d) (c.args.address / 4096) c.reserve.ensures.room c.reserve.ensures.refused) (λ word there. inl there)
 
 pub returns-clause-held : goal.returns-clause-held
@@ -42,3 +44,14 @@ returns-clause-rooms c =
     let d = (goal.at.returns-clause-rooms c).After-reserve in
     let P : ValueState → Type 0 = λ s. OnOk c.reserve.result ((page : ℕ) → rooms_in (after d) page ≡ (rooms_in s page || page == c.args.address / 4096)) in
     subst P c.self.view_is (rooms-reserved c.reserve.result (before d) (after d) (c.args.address / 4096) c.reserve.ensures.room)
+
+pub returns-clause-state : goal.returns-clause-state
+returns-clause-state c =
+    let d = (goal.at.returns-clause-state c).After-reserve in
+    room-made (before d) c.reserve.new.self c.reserve.ensures.faults c.reserve.ensures.bytes c.reserve.ensures.doubts ∙ ap contents_of c.self.view_is
+
+pub returns-clause-cause : goal.returns-clause-cause
+returns-clause-cause c =
+    let d = (goal.at.returns-clause-cause c).After-reserve in
+    let P : ValueState → Type 0 = λ s. OnErr c.reserve.result (rooms_in s (c.args.address / 4096) ≡ false) in
+    subst P c.self.view_is (room-refused c.reserve.result (before d) (c.args.address / 4096) c.reserve.ensures.has_room)

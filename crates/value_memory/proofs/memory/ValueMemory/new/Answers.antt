@@ -2,6 +2,7 @@
 use Rattle.std.proofs.Common.{◌∙◌}
 use Rattle.value_memory.proofs.Counting.{fresh-held, fresh-rooms, fresh-sound}
 use Rattle.value_memory.proofs.MemoryGoes.{pages-faults, state_of}
+use Rattle.value_memory.proofs.StateSteps.{contents-new}
 use Rattle.value_memory.proofs.memory.ValueMemory.new.Goals as goal
 
 pub invariant_of-result : goal.invariant_of-result
@@ -15,3 +16,7 @@ returns-clause-pages c = pages-faults (state_of c.in_ok-new.field-0 c.in_ok-new-
 
 pub returns-clause-rooms : goal.returns-clause-rooms
 returns-clause-rooms c = fresh-rooms c.in_ok-new.field-0 c.in_ok-new-2.field-0 c.in_ok-new-2.ensures.room
+
+pub returns-clause-state : goal.returns-clause-state
+returns-clause-state c =
+    contents-new c.in_ok-new.field-0 c.in_ok-new-2.field-0 c.args.ranges.now c.args.bad_words.now c.in_ok-new.ensures c.in_ok-new-2.ensures.faults c.in_ok-new-2.ensures.bytes c.in_ok-new-2.ensures.doubts

@@ -1,12 +1,14 @@
 -- What the word has settled as stands where those of all settled words do.
 use Rattle.std.proofs.Common.{◌≡◌, ℕ, ◌*◌, ◌-◌, ◌/◌, ◌==◌, Bool, false, true, ◌||◌, Option, None, Some, is_none, ◌⊎◌, inl, inr, arith, ap, refl, subst, sym, ◌∙◌}
 use Rattle.std.proofs.lemmas.Bool.{eqb-true}
-use Rattle.sparse_memory.specs.SparseMemory.{put_flags}
-use Rattle.value_tables.specs.Tables.{TableState, list_at, lost_since, settled_at}
+use Rattle.sparse_memory.specs.SparseMemory.{bytes_in, doubts_in, put_flags, put_word}
+use Rattle.value_tables.specs.Tables.{TableState, list_at, lost_since, released_at, settled_at}
 use Rattle.value_tables.proofs.TableLaws.{released_here, released_other}
 use Rattle.value_memory.specs.InsideValues.{KeepsRest}
 use Rattle.value_memory.specs.ValueMemory.{ValueState, held_in}
 use Rattle.value_memory.proofs.MemoryGoes.{IsReleased, pages-put, placed-settled, released-held, room-placed, sound-released, state_of}
+use Rattle.value_memory.specs.States.{contents_of, may_leave, settled_as}
+use Rattle.value_memory.proofs.StateSteps.{contents-put, settled-leaves, settled-waits}
 use Rattle.value_memory.proofs.memory.ValueMemory.settle.Goals as goal
 use Rattle.value_memory.proofs.memory.ValueMemory.settle.Goals.{After-release}
 
@@ -78,3 +80,25 @@ returns-clause-rest c =
     let d = (goal.at.returns-clause-rest c).After-release in
     let P : ValueState → Type 0 = λ s. KeepsRest s (after d) in
     subst P c.self.view_is (kept d)
+
+pub returns-then-not-may_leave-clause-state : goal.returns-then-not-may_leave-clause-state
+returns-then-not-may_leave-clause-state c =
+    settled-waits c.args.word c.args.known (contents_of c.args.self.now) (sym c.may_leave.ensures ∙ c.if-not-may_leave.true)
+
+pub returns-clause-state : goal.returns-clause-state
+returns-clause-state c =
+    let d = (goal.at.returns-clause-state c).After-release in
+    let is = released d in
+    let rest = kept d in
+    let m = before d in
+    let leaves : may_leave (contents_of m) c.args.known ≡ true =
+    ap (λ (s : ValueState). may_leave (contents_of s) c.args.known) c.self.view_is ∙ sym c.may_leave.ensures ∙ c.if-not-may_leave.false
+    in
+    let P : ValueState → Type 0 = λ s. contents_of (after d) ≡ settled_as c.args.word (Some c.args.known) (contents_of s) in
+    subst P c.self.view_is
+    (contents-put m c.release.new.self c.put_doubts.new.self (bytes_in c.put_doubts.new.self) (doubts_in c.put_doubts.new.self) (c.put_doubts.ensures.faults ∙ c.put_word.ensures.faults)
+    refl refl
+    ∙ ap (λ t. record (contents_of m) { table = t; bytes = bytes_in c.put_doubts.new.self; doubts = doubts_in c.put_doubts.new.self }) c.release.ensures
+    ∙ ap (λ b. record (contents_of m) { table = released_at c.args.word m.table; bytes = b; doubts = doubts_in c.put_doubts.new.self }) is.bytes
+    ∙ ap (λ d. record (contents_of m) { table = released_at c.args.word m.table; bytes = put_word (c.args.word * 8) c.args.known.value c.args.known.lanes (bytes_in m.settled); doubts = d }) is.doubts
+    ∙ settled-leaves c.args.word c.args.known (contents_of m) leaves)

@@ -1,11 +1,20 @@
 -- One list more is kept short.
-use Rattle.std.proofs.Common.{false}
+use Rattle.std.proofs.Common.{false, arith, refl}
 use Rattle.value_memory.proofs.MemoryGoes.{all_nowhere, keeps_none, tidied_more}
+use Rattle.value_memory.specs.States.{contents_of, tidied_beside}
+use Rattle.value_memory.proofs.StateSteps.{each-more, swept-all}
 use Rattle.value_memory.proofs.memory.ValueMemory.sweep.Goals as goal
 
 pub loop-place-init : goal.loop-place-init
-loop-place-init c = (all_nowhere c.args.self.now.oldest false c.args.self.now, keeps_none c.args.self.now)
+loop-place-init c = (all_nowhere c.args.self.now.oldest false c.args.self.now, keeps_none c.args.self.now, refl)
 
 pub loop-place-preserved : goal.loop-place-preserved
 loop-place-preserved c =
-    tidied_more c.args.self.now c.loop-place.self c.tidy_beside.new.self c.loop-place.invariant c.tidy_beside.ensures.goes c.tidy_beside.ensures.rest
+    let more =
+    tidied_more c.args.self.now c.loop-place.self c.tidy_beside.new.self (c.loop-place.invariant.0, c.loop-place.invariant.1) c.tidy_beside.ensures.goes c.tidy_beside.ensures.rest
+    in
+    (more.0, more.1, each-more (tidied_beside c.args.word) c.loop-place.place (contents_of c.args.self.now) (contents_of c.loop-place.self) (contents_of c.tidy_beside.new.self) c.tidy_beside.ensures.state c.loop-place.invariant.2)
+
+pub returns-clause-state : goal.returns-clause-state
+returns-clause-state c =
+    swept-all c.args.word c.loop-place.place (contents_of c.args.self.now) (contents_of c.loop-place.self) (omega (arith, c.loop-place-test.false, c.loop-place.auto.place-end)) c.loop-place.invariant.2

@@ -1,9 +1,11 @@
 -- The list is pruned, and what has settled says the same where it goes.
-use Rattle.std.proofs.Common.{[], false, ap, refl, subst}
+use Rattle.std.proofs.Common.{◌≡◌, [], false, None, Some, ap, refl, subst, ◌∙◌}
 use Rattle.byte_values.specs.Words.{pruned_word}
 use Rattle.value_memory.specs.InsideValues.{KeepsRest, with_table}
 use Rattle.value_memory.specs.ValueMemory.{AllGo, ValueState, to_all}
 use Rattle.value_memory.proofs.MemoryGoes.{all_after, all_held, keeps_then, pages-same, pruned_go, sound-changed, state_of}
+use Rattle.value_memory.specs.States.{contents_of, tidied}
+use Rattle.value_memory.proofs.StateSteps.{tidied-after}
 use Rattle.value_memory.proofs.memory.ValueMemory.tidy.Goals as goal
 
 pub invariant_of-self : goal.invariant_of-self
@@ -43,3 +45,15 @@ returns-clause-rest c =
     let P : ValueState → Type 0 = λ s. KeepsRest s c.settle.new.self in
     let pruned : KeepsRest m (with_table m c.prune.new.self) = record { pages = pages-same m (with_table m c.prune.new.self) refl; counts = record { begun = refl; oldest = refl; crowds = refl } } in
     subst P c.self.view_is (keeps_then pruned c.settle.ensures.rest)
+
+pub returns-in_default-clause-state : goal.returns-in_default-clause-state
+returns-in_default-clause-state c =
+    let m : ValueState = state_of c.self.inside.table c.self.inside.settled c.self.inside.begun c.self.inside.oldest c.self.inside.crowds in
+    let P : ValueState → Type 0 = λ s. contents_of (with_table m c.prune.new.self) ≡ tidied c.args.word (contents_of s) in
+    subst P c.self.view_is (tidied-after m c.prune.new.self c.args.word None c.prune.ensures c.in_default.ensures)
+
+pub returns-clause-state : goal.returns-clause-state
+returns-clause-state c =
+    let m : ValueState = state_of c.self.inside.table c.self.inside.settled c.self.inside.begun c.self.inside.oldest c.self.inside.crowds in
+    let P : ValueState → Type 0 = λ s. contents_of c.settle.new.self ≡ tidied c.args.word (contents_of s) in
+    subst P c.self.view_is (c.settle.ensures.state ∙ tidied-after m c.prune.new.self c.args.word (Some c.in-Some.known) c.prune.ensures c.in-Some.ensures)
