@@ -20,3 +20,7 @@ pub mod RunsTell
 pub mod Timed
 pub mod WellHistories
 pub mod WholeEffects
+pub mod RunsBlameLive
+pub mod RunsBlameOrders
+pub mod RunsBlameShown
+pub mod RunsBlameUntold
