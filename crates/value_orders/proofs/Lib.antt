@@ -24,3 +24,4 @@ pub mod RunsBlameLive
 pub mod RunsBlameOrders
 pub mod RunsBlameShown
 pub mod RunsBlameUntold
+pub mod RunsBlame
