@@ -25,3 +25,4 @@ pub mod RunsBlameOrders
 pub mod RunsBlameShown
 pub mod RunsBlameUntold
 pub mod RunsBlame
+pub mod RunsBlameRule
