@@ -26,3 +26,4 @@ pub mod RunsBlameShown
 pub mod RunsBlameUntold
 pub mod RunsBlame
 pub mod RunsBlameRule
+pub mod RunsBlameSilent

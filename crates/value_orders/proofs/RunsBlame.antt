@@ -30,7 +30,7 @@ use Rattle.scoreboard.specs.declared.Wrong.{Wrong}
 use Rattle.scoreboard.proofs.acceptance_order.Owed.{right_next}
 use Rattle.scoreboard.proofs.real_time.RequestActs.{AreBytes}
 use Rattle.scoreboard.proofs.real_time.Verdicts.{sure_shown}
-use Rattle.value_orders.specs.Blames.{BlamesRightly, IsAsKnown, IsBlamedByte, IsDueTo, MayHaveBeen, TellsBlamed, standing, standing_in}
+use Rattle.value_orders.specs.Blames.{IsAsKnown, IsBlamedByte, IsDueTo, MayHaveBeen, TellsBlamed, standing, standing_in}
 use Rattle.value_orders.specs.Bytes.{NoneTells, access_of, accesses_in, byte_at_start, untold}
 use Rattle.value_orders.specs.Histories.{Happening, History, Past, begun_by, board_in, history_in, tells}
 use Rattle.value_orders.specs.Places.{acts_at, acts_on, covers_from, is_in_word}
@@ -250,9 +250,11 @@ module _ (errors : Errors) (beginning : Beginning) (happenings : List Happening)
       (blames_untold blames.held number byte blames.blamed (byte_at_start beginning x) blames.events blames.may_come blames.is_held
       (subst (λ accesses. IsInFlight number accesses) (sym blames.accesses) (flies client beat number x is)))
 
-  pub blames_rightly : (client : ℕ) (beat : DBeat) (lanes : ℕ) → TellsBlamed errors beginning happenings client beat lanes
-      → BlamesRightly errors beginning happenings client beat lanes
-  blames_rightly client beat lanes blamed requests numbers start seen been as_known none =
+  wrong_in : (client : ℕ) (beat : DBeat) (lanes : ℕ) → TellsBlamed errors beginning happenings client beat lanes
+      → (requests : ℕ → WholeRequest) (numbers : List ℕ) (start : Bytes) (seen : DBeat)
+      → MayHaveBeen errors beginning happenings requests numbers start → IsAsKnown lanes beat seen
+      → IsWrongIn beginning.lists start (standing_in history requests numbers) (asked_on (board_in errors beginning happenings).board client seen)
+  wrong_in client beat lanes blamed requests numbers start seen been as_known none =
       runs_tell errors beginning happenings requests numbers start blamed.x number (lane_byte beat.payload (blamed.x % 8))
       been.order (in_order beginning.lists errors history requests well been.requests_may live numbers been.order number is_due.since is_due.begun)
       been.requests_may been.begins been.find (none_tells client beat blamed.x number (lane_byte beat.payload (blamed.x % 8)) is_due blamed.blames_it)

@@ -1,17 +1,22 @@
 -- What is promised of a byte that a beat tells and that is blamed: the beat is wrong in every order of the requests of the whole run, over resets, that keeps
 -- real time and in which each atomic finds what it was told. And of beats that are right in order of acceptance none is blamed so.
-use Rattle.std.specs.Prelude.{ℕ, ◌≡◌, ◌<◌, ◌≤◌, true, false, List, [], ◌∷◌, ◌++◌, map, length, None, Some, Option, if◌then◌else◌, nat_le, ◌%◌, ⊤}
+use Rattle.std.specs.Prelude.{ℕ, ◌≡◌, ◌<◌, ◌≤◌, ◌%◌, Bool, true, false, List, map, length, Option, Some, None, if◌then◌else◌, nat_le}
 use Rattle.bus_words.specs.Lanes.{has_lane, lane_byte}
 use Rattle.byte_orders.specs.Holdings.{Holding}
 use Rattle.byte_orders.specs.Runs.{AllMayCome, Event, IsBlamedInRuns, first_run, run_after}
 use Rattle.meaning.specs.Meaning.{Bytes}
-use Rattle.setups.specs.Setups.{SetupLists}
 use Rattle.tl_messages.specs.Requests.{WholeRequest}
 use Rattle.tl_messages.specs.declared.DBeat.{DBeat}
 use Rattle.scoreboard.specs.Boards.{Beginning, MayBegin}
-use Rattle.scoreboard.specs.Orders.{Entry, IsWrongIn, Order, is_due_in, reply_beats}
+use Rattle.scoreboard.specs.Orders.{Entry, IsWrongAs, IsWrongIn, Order, is_due_in, reply_beats}
 use Rattle.scoreboard.specs.RealTime.{asked_on}
+use Rattle.scoreboard.specs.Unknown.{unknown_wrong}
 use Rattle.scoreboard.specs.declared.Errors.{Errors}
+use Rattle.scoreboard.specs.declared.ObservedBeat.TheVariants.{D}
+use Rattle.scoreboard.specs.declared.Policy.TheVariants.{RealTime}
+use Rattle.scoreboard.specs.declared.ReplyRule.TheVariants.{Payload, Unknown}
+use Rattle.scoreboard.specs.declared.Wrong.{Wrong}
+use Rattle.scoreboard.specs.declared.Wrong.TheVariants.{Reply}
 use Rattle.value_orders.specs.Bytes.{accesses_in, byte_at_start}
 use Rattle.value_orders.specs.Histories.{Happening, History, begun_by, board_in, entries_of, history_in, tells}
 use Rattle.value_orders.specs.RunOrders.{AtomicsFind, IsRunOrder, MayBeAll, past_of}
@@ -76,10 +81,22 @@ pub record MayHaveBeen (errors : Errors) (beginning : Beginning) (happenings : L
   pub begins : MayBegin beginning start
   pub find : AtomicsFind beginning.lists (history_in errors beginning happenings) requests start numbers
 
--- a beat that tells a byte that is blamed is wrong, whatever may have been, and whatever the lanes of it are that nobody knows
+-- whether a verdict of a board leaves open what the payload tells: nothing is wrong with a beat, or its payload alone, or nobody knows a lane of this that is
+-- looked at
+abbrev pub leaves_payload : Option Wrong → Bool
+leaves_payload None = true
+leaves_payload (Some (Reply Payload due)) = true
+leaves_payload (Some (Reply Unknown due)) = true
+leaves_payload verdict = false
+
+-- a beat that tells a byte that is blamed is wrong, whatever may have been, and whatever the lanes of it are that nobody knows; and where the board of requests
+-- leaves that open, by the rule on payloads
 abbrev pub BlamesRightly : Errors → Beginning → List Happening → ℕ → DBeat → ℕ → Type 0
 BlamesRightly errors beginning happenings client beat lanes =
-    (requests : ℕ → WholeRequest) (numbers : List ℕ) (start : Bytes) (shown : DBeat)
+    (requests : ℕ → WholeRequest) (numbers : List ℕ) (start : Bytes) (shown : DBeat) (due : Option DBeat)
     → MayHaveBeen errors beginning happenings requests numbers start → IsAsKnown lanes beat shown
     → IsWrongIn beginning.lists start (standing_in (history_in errors beginning happenings) requests numbers)
     (asked_on (board_in errors beginning happenings).board client shown)
+    × (leaves_payload (unknown_wrong RealTime (board_in errors beginning happenings).board (D client beat) lanes) ≡ true
+    → IsWrongAs beginning.lists start (standing_in (history_in errors beginning happenings) requests numbers)
+    (asked_on (board_in errors beginning happenings).board client shown) (Reply Payload due))
