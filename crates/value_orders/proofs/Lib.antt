@@ -27,3 +27,4 @@ pub mod RunsBlameUntold
 pub mod RunsBlame
 pub mod RunsBlameRule
 pub mod RunsBlameSilent
+pub mod RunsBlamePayload

@@ -64,7 +64,7 @@ reply_same faults q bytes m a (Atomic op) IsSlaveError bad = refl
 reply_same faults q bytes m a (Atomic op) IsGood true = refl
 reply_same faults q bytes m a (Atomic op) IsGood false = refl
 
-means_same : (faults : Faults) (regions : List Region) (q : WholeRequest) (bytes : List (Option ℕ)) (m : Bytes)
+pub means_same : (faults : Faults) (regions : List Region) (q : WholeRequest) (bytes : List (Option ℕ)) (m : Bytes)
     → (meaning faults regions (record q { bytes = bytes }) m).reply ≡ (meaning faults regions q m).reply
 means_same faults regions q bytes m = by_corrupt q.corrupt
   where
@@ -93,15 +93,15 @@ failed_same setup Any entry bytes corrupt = ap (λ (b : Bool). entry.spoiled || 
 
 -- ---- what is told
 
-record IsTelling (setup : SetupLists) (errors : Errors) (entry : Entry) (beat : DBeat) (lanes x : ℕ) : Type 0 where
-  opcode : beat.opcode ≡ 1
-  sound : beat.corrupt ≡ false
-  unfailed : has_failed errors setup entry ≡ false
-  on : acts_on setup errors entry.request x ≡ true
-  in_word : is_in_word (acts_at setup errors entry.request) entry.came x ≡ true
-  known : has_lane lanes (x % 8) ≡ false
+pub record IsTelling (setup : SetupLists) (errors : Errors) (entry : Entry) (beat : DBeat) (lanes x : ℕ) : Type 0 where
+  pub opcode : beat.opcode ≡ 1
+  pub sound : beat.corrupt ≡ false
+  pub unfailed : has_failed errors setup entry ≡ false
+  pub on : acts_on setup errors entry.request x ≡ true
+  pub in_word : is_in_word (acts_at setup errors entry.request) entry.came x ≡ true
+  pub known : has_lane lanes (x % 8) ≡ false
 
-is_telling : (setup : SetupLists) (errors : Errors) (entry : Entry) (beat : DBeat) (lanes x : ℕ) → tells setup errors entry beat lanes x ≡ true
+pub is_telling : (setup : SetupLists) (errors : Errors) (entry : Entry) (beat : DBeat) (lanes x : ℕ) → tells setup errors entry beat lanes x ≡ true
     → IsTelling setup errors entry beat lanes x
 is_telling setup errors entry beat lanes x is =
     by_all (beat.opcode == 1) beat.corrupt (has_failed errors setup entry) (acts_on setup errors entry.request x)
@@ -124,12 +124,12 @@ is_telling setup errors entry beat lanes x is =
 
 module _ (setup : SetupLists) (errors : Errors) (past : Past) (q : WholeRequest) (well : IsWellPast errors past) (may : MayBe past q)
     (unfailed : has_failed errors setup past.entry ≡ false) where
-  same_failed : has_failed errors setup (record past.entry { request = q }) ≡ false
+  pub same_failed : has_failed errors setup (record past.entry { request = q }) ≡ false
   same_failed =
       ap (λ (r : WholeRequest). has_failed errors setup (record past.entry { request = r })) (q_fields setup errors past q well may)
       ∙ failed_same setup errors past.entry q.bytes q.corrupt ∙ unfailed
 
-  not_spoiled : past.entry.spoiled ≡ false
+  pub not_spoiled : past.entry.spoiled ≡ false
   not_spoiled = by_errors errors refl
     where
       by_errors : (e : Errors) → errors ≡ e → past.entry.spoiled ≡ false
@@ -215,13 +215,13 @@ module _ (setup : SetupLists) (errors : Errors) (past : Past) (q : WholeRequest)
 -- ---- the law
 
 module _ (errors : Errors) (beginning : Beginning) (happenings : List Happening) where
-  abbrev history : History
+  abbrev pub history : History
   history = history_in errors beginning happenings
 
-  kept : IsKept errors (board_in errors beginning happenings).board history
+  pub kept : IsKept errors (board_in errors beginning happenings).board history
   kept = kept_in errors beginning happenings
 
-  well : (number : ℕ) → 0 < number → number ≤ begun_by history → IsWellPast errors (past_of history number)
+  pub well : (number : ℕ) → 0 < number → number ≤ begun_by history → IsWellPast errors (past_of history number)
   well = all_well errors (board_in errors beginning happenings).board history kept
 
   -- one to which a beat is due is in flight
@@ -250,7 +250,7 @@ module _ (errors : Errors) (beginning : Beginning) (happenings : List Happening)
       (blames_untold blames.held number byte blames.blamed (byte_at_start beginning x) blames.events blames.may_come blames.is_held
       (subst (λ accesses. IsInFlight number accesses) (sym blames.accesses) (flies client beat number x is)))
 
-  wrong_in : (client : ℕ) (beat : DBeat) (lanes : ℕ) → TellsBlamed errors beginning happenings client beat lanes
+  pub wrong_in : (client : ℕ) (beat : DBeat) (lanes : ℕ) → TellsBlamed errors beginning happenings client beat lanes
       → (requests : ℕ → WholeRequest) (numbers : List ℕ) (start : Bytes) (seen : DBeat)
       → MayHaveBeen errors beginning happenings requests numbers start → IsAsKnown lanes beat seen
       → IsWrongIn beginning.lists start (standing_in history requests numbers) (asked_on (board_in errors beginning happenings).board client seen)
