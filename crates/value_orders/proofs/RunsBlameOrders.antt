@@ -1,7 +1,7 @@
 -- The request that a beat is due to, in an order of the requests of a whole run: it is the same one as among those since the last reset, and what is left of
 -- its reply was made of the bytes that it finds in that order.
 use Rattle.std.proofs.Common.{◌≡◌, ℕ, zero, suc, ◌<◌, ◌≤◌, ◌+◌, ◌-◌, ◌==◌, ◌&&◌, Bool, true, false, List, [], ◌∷◌, ◌++◌, map, length, Option, Some, None, if◌then◌else◌, inl, inr, ⊎_elim, refl, sym, ◌∙◌, ap, subst, arith}
-use Rattle.std.specs.Prelude.{nat_le, slice_index_or}
+use Rattle.std.specs.Prelude.{nat_le, slice_get, slice_index_or}
 use Rattle.std.specs.List.{AllByRecursion, list_any}
 use Rattle.std.proofs.lemmas.Bool.{both_ways, cases_lt, false_from_ne_true, le-leb}
 use Rattle.std.proofs.lemmas.Bool.Decides.{nat_tests}
@@ -12,10 +12,12 @@ use Rattle.meaning.specs.Meaning.{Bytes}
 use Rattle.setups.specs.Setups.{SetupLists, faults_of}
 use Rattle.tl_messages.specs.Requests.{WholeRequest}
 use Rattle.tl_messages.specs.declared.DBeat.{DBeat}
-use Rattle.scoreboard.specs.Boards.{ClientBoard}
+use Rattle.scoreboard.specs.Boards.{ClientBoard, next_to}
+use Rattle.scoreboard.specs.Flights.{InFlight}
 use Rattle.scoreboard.specs.Orders.{Asked, Entry, Order, begun_to, due_beats, is_due, is_due_in, left_of, meaning_on, shown_to}
 use Rattle.scoreboard.specs.RealTime.{numbered}
 use Rattle.scoreboard.specs.declared.Errors.{Errors}
+use Rattle.scoreboard.specs.declared.Policy.TheVariants.{RealTime}
 use Rattle.scoreboard.proofs.real_time.Lengths.{some_beats}
 use Rattle.scoreboard.proofs.real_time.RequestActs.{AreBytes, acts}
 use Rattle.value_orders.specs.Blames.{IsDueTo, over_if, over_now, standing, standing_in}
@@ -23,7 +25,7 @@ use Rattle.value_orders.specs.Histories.{History, Past, all_past, begun_by, entr
 use Rattle.value_orders.specs.RunOrders.{no_past, IsRunOrder, MayBe, MayBeAll, bytes_before, past_of}
 use Rattle.value_orders.proofs.Effects.{IsWellPast, q_fields, q_well}
 use Rattle.value_orders.proofs.Matches.{Fits}
-use Rattle.value_orders.proofs.MatchesDue.{one_due}
+use Rattle.value_orders.proofs.MatchesDue.{IsOnlyDue, due_one, one_due}
 use Rattle.value_orders.proofs.RunsBlameLive.{AreLive, IsLive, length_entries}
 use Rattle.value_orders.proofs.RunsFind.{left_found}
 
@@ -256,3 +258,36 @@ module _ (setup : SetupLists) (errors : Errors) (history : History) (requests : 
           → AreBytes (if b then m else bytes_before setup requests (meaning_on setup (requests first) m).after numbers number)
       by_test true later = bytes
       by_test false later = later
+
+-- ---- the number of the request to which the next beat of a source is due
+
+-- what the board expects next is due to one request, which has a number
+pub record HasNumber (history : History) (client : ℕ) (beat : DBeat) : Type 0 where
+  pub number : ℕ
+  pub is : IsDueTo history client beat number
+  pub only : (other : ℕ) → IsDueTo history client beat other → other ≡ number
+
+pub next_number : (setup : SetupLists) (errors : Errors) (history : History) (clients : List ClientBoard) → Fits setup errors clients (entries_of history.since)
+    → (client : ℕ) (beat : DBeat) (found : ClientBoard) (flight : InFlight) → slice_get clients client ≡ Some found → next_to RealTime found beat.source ≡ Some flight
+    → HasNumber history client beat
+next_number setup errors history clients fits client beat found flight there next =
+    record {
+      number = length history.over + 1 + one.number;
+      is = record {
+        since = omega (arith);
+        begun = omega (arith, one.small, length-append history.over history.since, length_entries history.since);
+        due = ap (λ (entry : Entry). is_due_in (now history) client beat.source entry)
+            (sym (entry_at history (length history.over + 1 + one.number) (omega (arith))) ∙ ap (numbered (now history)) place)
+            ∙ one.due;
+      };
+      only = λ other is.
+          let same = one.only (place_of_number history other) (small_at history other is.since is.begun)
+          (ap (λ (entry : Entry). is_due_in (now history) client beat.source entry) (entry_at history other is.since) ∙ is.due) in
+          omega (arith, same, is.since);
+    }
+  where
+    one : IsOnlyDue setup errors clients (now history) client beat.source flight
+    one = due_one setup errors clients (now history) fits client beat.source found there flight next
+
+    place : length history.over + 1 + one.number - (length history.over + 1) ≡ one.number
+    place = omega (arith)

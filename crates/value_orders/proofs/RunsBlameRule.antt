@@ -103,8 +103,8 @@ still_payload mine [] beat payload due rest alike is at_most not_right = absurd 
 still_payload mine (other ∷ others) beat payload due rest alike is at_most not_right = (
   Some other,
   ⊎_elim (λ none. absurd (not_right (ap (wrong_by other) none))) (λ some. ap (wrong_by other) some)
-  (subst (λ (o : DBeat). AtMostPayload (first_broken (reply_rules o (record beat { payload = payload })))) (sym other_is)
-  (other_payloads due beat other.payload payload at_most)),
+      (subst (λ (o : DBeat). AtMostPayload (first_broken (reply_rules o (record beat { payload = payload })))) (sym other_is)
+      (other_payloads due beat other.payload payload at_most)),
 )
   where
     heads : without_payload due ≡ without_payload other
