@@ -28,3 +28,4 @@ pub mod RunsBlame
 pub mod RunsBlameRule
 pub mod RunsBlameSilent
 pub mod RunsBlamePayload
+pub mod RunsRightOrder

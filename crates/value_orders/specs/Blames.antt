@@ -1,24 +1,27 @@
 -- What is promised of a byte that a beat tells and that is blamed: the beat is wrong in every order of the requests of the whole run, over resets, that keeps
 -- real time and in which each atomic finds what it was told. And of beats that are right in order of acceptance none is blamed so.
-use Rattle.std.specs.Prelude.{ℕ, ◌≡◌, ◌<◌, ◌≤◌, ◌%◌, Bool, true, false, List, map, length, Option, Some, None, if◌then◌else◌, nat_le}
+use Rattle.std.specs.Prelude.{ℕ, ◌≡◌, ◌<◌, ◌≤◌, ◌%◌, Bool, true, false, List, [], ◌∷◌, ◌++◌, map, length, Option, Some, None, if◌then◌else◌, nat_le}
 use Rattle.bus_words.specs.Lanes.{has_lane, lane_byte}
 use Rattle.byte_orders.specs.Holdings.{Holding}
 use Rattle.byte_orders.specs.Runs.{AllMayCome, Event, IsBlamedInRuns, first_run, run_after}
 use Rattle.meaning.specs.Meaning.{Bytes}
 use Rattle.tl_messages.specs.Requests.{WholeRequest}
 use Rattle.tl_messages.specs.declared.DBeat.{DBeat}
-use Rattle.scoreboard.specs.Boards.{Beginning, MayBegin}
+use Rattle.setups.specs.Setups.{SetupLists}
+use Rattle.scoreboard.specs.Boards.{Beginning, MayBegin, from_zeros}
 use Rattle.scoreboard.specs.Orders.{Entry, IsWrongAs, IsWrongIn, Order, is_due_in, reply_beats}
 use Rattle.scoreboard.specs.RealTime.{asked_on}
+use Rattle.scoreboard.specs.Right.{IsRight}
 use Rattle.scoreboard.specs.Unknown.{unknown_wrong}
 use Rattle.scoreboard.specs.declared.Errors.{Errors}
+use Rattle.scoreboard.specs.declared.ObservedBeat.{ObservedBeat}
 use Rattle.scoreboard.specs.declared.ObservedBeat.TheVariants.{D}
 use Rattle.scoreboard.specs.declared.Policy.TheVariants.{RealTime}
 use Rattle.scoreboard.specs.declared.ReplyRule.TheVariants.{Payload, Unknown}
 use Rattle.scoreboard.specs.declared.Wrong.{Wrong}
 use Rattle.scoreboard.specs.declared.Wrong.TheVariants.{Reply}
-use Rattle.value_orders.specs.Bytes.{accesses_in, byte_at_start}
-use Rattle.value_orders.specs.Histories.{Happening, History, begun_by, board_in, entries_of, history_in, tells}
+use Rattle.value_orders.specs.Bytes.{NoneTells, accesses_in, byte_at_start}
+use Rattle.value_orders.specs.Histories.{Happening, Seen, History, begun_by, board_in, entries_of, history_in, tells}
 use Rattle.value_orders.specs.RunOrders.{AtomicsFind, IsRunOrder, MayBeAll, past_of}
 
 -- ---- the requests of a run as an order has them
@@ -100,3 +103,18 @@ BlamesRightly errors beginning happenings client beat lanes =
     × (leaves_payload (unknown_wrong RealTime (board_in errors beginning happenings).board (D client beat) lanes) ≡ true
     → IsWrongAs beginning.lists start (standing_in (history_in errors beginning happenings) requests numbers)
     (asked_on (board_in errors beginning happenings).board client shown) (Reply Payload due))
+
+-- ---- what is right in order of acceptance
+
+-- beats of which all is known, and of which none was found wrong
+abbrev pub all_seen : List ObservedBeat → List Happening
+all_seen beats = map (λ seen. Seen seen 0 None) beats
+
+-- of beats that are right in order of acceptance, however errors may be told, no byte that the next right beat on a client's channel D tells is one that no order
+-- of the accesses of this byte tells the request that it is due to
+abbrev pub LetsTell : Errors → SetupLists → List ObservedBeat → ℕ → DBeat → Type 0
+LetsTell errors setup before client beat =
+    (number x : ℕ) → IsRight (from_zeros setup) (before ++ D client beat ∷ [])
+    → IsDueTo (history_in errors (from_zeros setup) (all_seen before)) client beat number
+    → tells setup errors (past_of (history_in errors (from_zeros setup) (all_seen before)) number).entry beat 0 x ≡ true
+    → NoneTells (from_zeros setup) errors (history_in errors (from_zeros setup) (all_seen before)) x number (lane_byte beat.payload (x % 8)) → ⊥
