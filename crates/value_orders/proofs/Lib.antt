@@ -29,3 +29,4 @@ pub mod RunsBlameRule
 pub mod RunsBlameSilent
 pub mod RunsBlamePayload
 pub mod RunsRightOrder
+pub mod RunsRightReplies
