@@ -30,3 +30,4 @@ pub mod RunsBlameSilent
 pub mod RunsBlamePayload
 pub mod RunsRightOrder
 pub mod RunsRightReplies
+pub mod RunsRightSteps
