@@ -31,3 +31,4 @@ pub mod RunsBlamePayload
 pub mod RunsRightOrder
 pub mod RunsRightReplies
 pub mod RunsRightSteps
+pub mod RunsRightSeen
