@@ -32,3 +32,5 @@ pub mod RunsRightOrder
 pub mod RunsRightReplies
 pub mod RunsRightSteps
 pub mod RunsRightSeen
+pub mod RunsRightBoards
+pub mod RunsRightTold

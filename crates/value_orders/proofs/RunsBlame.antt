@@ -178,7 +178,7 @@ module _ (setup : SetupLists) (errors : Errors) (past : Past) (q : WholeRequest)
           place_strict = rw (strict, not_corrupt a at) refl
 
   -- where nothing is wrong with a beat, as the next of its reply, it tells the byte that the request found
-  finds_told : (asked : Asked) (m : Bytes) (lanes x : ℕ) → asked.errors ≡ errors → IsTelling setup errors past.entry asked.beat lanes x → AreBytes m
+  pub finds_told : (asked : Asked) (m : Bytes) (lanes x : ℕ) → asked.errors ≡ errors → IsTelling setup errors past.entry asked.beat lanes x → AreBytes m
       → wrong_beat (shown_to setup asked (record past.entry { request = q }) m) asked.beat ≡ None
       → m x ≡ lane_byte asked.beat.payload (x % 8)
   finds_told asked m lanes x own telling bytes none = by_place (acts_at setup errors past.entry.request) refl

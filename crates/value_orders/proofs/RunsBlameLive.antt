@@ -87,7 +87,7 @@ same_entries test change same (past ∷ pasts) =
     by_test true = same past
     by_test false = refl
 
-looked_entries : (setup : SetupLists) (board : Board) (seen : ObservedBeat) (lanes : ℕ) (said : Option Wrong) (pasts : List Past)
+pub looked_entries : (setup : SetupLists) (board : Board) (seen : ObservedBeat) (lanes : ℕ) (said : Option Wrong) (pasts : List Past)
     → entries_of (with_looked setup board seen lanes said pasts) ≡ entries_of pasts
 looked_entries setup board (A client beat) lanes said pasts = by_client (slice_get board.clients client)
   where
@@ -113,7 +113,7 @@ length_entries (past ∷ pasts) = ap suc (length_entries pasts)
 -- ---- along a run
 
 module _ (setup : SetupLists) (errors : Errors) where
-  live_next : (old : UnknownBoard) (history : History) (happening : Happening) → IsKept errors old.board history → AreLive history.since
+  pub live_next : (old : UnknownBoard) (history : History) (happening : Happening) → IsKept errors old.board history → AreLive history.since
       → AreLive (history_next setup old.board happening history).since
   live_next old history (Seen seen lanes said) kept live =
       live_with (length history.over + length now) (hidden_in seen lanes) now looked (omega (arith, grows.longer, same_length))

@@ -78,7 +78,7 @@ open_due due beat otherwise is = by_found (first_broken (reply_rules due beat)) 
 -- ---- the request to which it is due
 
 -- a beat without data has another opcode
-no_data : (op : Operation) → reply_has_data op ≡ false → reply_opcode op ≡ 1 → ⊥
+pub no_data : (op : Operation) → reply_has_data op ≡ false → reply_opcode op ≡ 1 → ⊥
 no_data PutFull is one = absurd (omega (arith, one))
 no_data PutPartial is one = absurd (omega (arith, one))
 no_data (Atomic op) is one = absurd (cc (is))
@@ -86,7 +86,7 @@ no_data Get is one = absurd (cc (is))
 no_data (Intent write) is one = absurd (omega (arith, one))
 
 -- where nothing is broken but the rule on payloads the opcode is right
-same_opcode : (due beat : DBeat) → AtMostPayload (first_broken (reply_rules due beat)) → due.opcode ≡ beat.opcode
+pub same_opcode : (due beat : DBeat) → AtMostPayload (first_broken (reply_rules due beat)) → due.opcode ≡ beat.opcode
 same_opcode due beat at_most = ⊎_elim (λ none. grind (arith, nat_tests, none)) (λ some. grind (arith, nat_tests, some)) at_most
 
 module _ (errors : Errors) (beginning : Beginning) (happenings : List Happening) (client : ℕ) (beat : DBeat) (lanes : ℕ)

@@ -41,7 +41,7 @@ same_byte true (Some None) small = refl
 same_byte true None small = refl
 same_byte false given small = refl
 
-may_be : (past : Past) → IsWell past.entry.request → MayBe past past.entry.request
+pub may_be : (past : Past) → IsWell past.entry.request → MayBe past past.entry.request
 may_be past well =
     record {
       known = past.entry.request;
