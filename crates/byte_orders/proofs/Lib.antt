@@ -9,3 +9,4 @@ pub mod RunsRightly
 pub mod ShorterLists
 pub mod ShortLists
 pub mod ToldRightly
+pub mod QuietEvents
