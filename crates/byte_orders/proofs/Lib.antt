@@ -10,3 +10,4 @@ pub mod ShorterLists
 pub mod ShortLists
 pub mod ToldRightly
 pub mod QuietEvents
+pub mod Leading

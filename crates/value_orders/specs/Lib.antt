@@ -2,3 +2,4 @@ pub mod Bytes
 pub mod Histories
 pub mod Places
 pub mod RunOrders
+pub mod Events
