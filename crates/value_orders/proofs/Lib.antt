@@ -20,3 +20,4 @@ pub mod RunsTell
 pub mod Timed
 pub mod WellHistories
 pub mod WholeEffects
+pub mod EventSteps
