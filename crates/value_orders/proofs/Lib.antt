@@ -21,3 +21,4 @@ pub mod Timed
 pub mod WellHistories
 pub mod WholeEffects
 pub mod EventSteps
+pub mod EventLists
