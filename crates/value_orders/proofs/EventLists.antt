@@ -2,7 +2,7 @@
 use Rattle.std.proofs.Common.{◌≡◌, ℕ, ◌+◌, ◌<◌, ◌==◌, Bool, true, false, ◌&&◌, List, [], ◌∷◌, ◌++◌, map, length, Option, Some, None, if◌then◌else◌, append_assoc, refl, sym, ◌∙◌, ap, subst, arith}
 use Rattle.std.specs.Prelude.{is_some}
 use Rattle.std.specs.List.{AllByRecursion}
-use Rattle.std.proofs.lemmas.Bool.{and_right, ne_eqb}
+use Rattle.std.proofs.lemmas.Bool.{and_right, both_ways, ne_eqb}
 use Rattle.byte_orders.specs.Accesses.{Access}
 use Rattle.byte_orders.specs.Runs.{Event, Run, reading, run_after, run_next, writing}
 use Rattle.byte_orders.proofs.Leading.{AllOf, LeadsTo, NoneAt, leads_as, leads_then, one_after, one_changes}
@@ -114,3 +114,72 @@ module _ (setup : SetupLists) (errors : Errors) (x : ℕ) where
   pub begins_leads : (number : ℕ) (may : Bool) (run : Run) → run.now < number → LeadsTo run (begins_as number may) number (run.accesses ++ started number may ∷ [])
   begins_leads number true run later = record { may_come = (later, tt); now = refl; accesses = refl }
   begins_leads number false run later = record { may_come = (later, tt); now = refl; accesses = refl }
+
+  -- one that may write nothing there gives nothing
+  writes_given : (past : Past) → is_some (gives_at setup errors past x) ≡ true → may_write_at setup errors past x ≡ true
+  writes_given past some = by_test (may_write_at setup errors past x) refl
+    where
+      by_test : (b : Bool) → may_write_at setup errors past x ≡ b → b ≡ true
+      by_test true is = refl
+      by_test false is =
+          let none : gives_at setup errors past x ≡ None = rw is refl in
+          absurd (both_ways (is_some (gives_at setup errors past x)) (ap is_some none) some)
+
+  module _ (number : ℕ) (past : Past) (live : past.ended ≡ None) (untold : past.told x ≡ None) where
+    open_start : (may : Bool) → IsOpenAt number (started number may)
+    open_start true = record { begun = refl; live = refl }
+    open_start false = record { begun = refl; live = refl }
+
+    unsure_start : (may : Bool) → (started number may).sure ≡ false
+    unsure_start true = refl
+    unsure_start false = refl
+
+    given_start : (may : Bool) → may_write_at setup errors past x ≡ may → is_some (gives_at setup errors past x) ≡ true → is_some (started number may).gives ≡ true
+    given_start true is some = refl
+    given_start false is some = absurd (both_ways (may_write_at setup errors past x) is (writes_given past some))
+
+    -- its access, by what it gives then
+    start_given : (may : Bool) (gives : Option (Option ℕ)) (sure : Bool) → gives_at setup errors past x ≡ gives → is_sure setup errors past x ≡ sure
+        → record (started number may) { gives = gives; sure = sure } ≡ access_of setup errors x number past
+    start_given true gives sure given certain = cc (live, untold, given, certain)
+    start_given false gives sure given certain = cc (live, untold, given, certain)
+
+    start_unwhole : (may : Bool) → may_write_at setup errors past x ≡ may → past.entry.whole ≡ false → started number may ≡ access_of setup errors x number past
+    start_unwhole true is unwhole =
+        start_given true (Some None) false (unwhole_gives past unwhole ∙ ap (λ (b : Bool). if b then Some None else None) is) (unwhole_unsure past unwhole)
+    start_unwhole false is unwhole =
+        start_given false None false (unwhole_gives past unwhole ∙ ap (λ (b : Bool). if b then Some None else None) is) (unwhole_unsure past unwhole)
+
+    -- a request has begun with a beat
+    pub first_leads : (whole : Bool) (run : Run) → run.now < number → AllBelow number run.accesses → past.entry.whole ≡ whole
+        → LeadsTo run (begun_as setup errors x number past whole) number (run.accesses ++ access_of setup errors x number past ∷ [])
+    first_leads false run later below unwhole =
+        leads_as run (begins_as number may) number (run.accesses ++ started number may ∷ []) (run.accesses ++ access_of setup errors x number past ∷ [])
+        (ap (λ (a : Access). run.accesses ++ a ∷ []) (start_unwhole may refl unwhole)) (begins_leads number may run later)
+      where
+        may : Bool
+        may = may_write_at setup errors past x
+    first_leads true run later below is_whole =
+        leads_then run (begins_as number may) (whole_as setup errors x number past) number number (run.accesses ++ started number may ∷ [])
+        (run.accesses ++ access_of setup errors x number past ∷ []) begins
+        (record { may_come = made.may_come; now = made.now ∙ begins.now; accesses = made.accesses ∙ ap (λ (a : Access). run.accesses ++ a ∷ []) own })
+      where
+        may : Bool
+        may = may_write_at setup errors past x
+
+        begins : LeadsTo run (begins_as number may) number (run.accesses ++ started number may ∷ [])
+        begins = begins_leads number may run later
+
+        next : Run
+        next = run_after run (begins_as number may)
+
+        made : LeadsTo next (whole_as setup errors x number past) next.now
+            (run.accesses ++ (one_after number next.now (whole_as setup errors x number past) (started number may) ∷ []))
+        made =
+            one_changes number next (whole_as setup errors x number past) run.accesses [] (started number may) (of_whole setup errors x number past) begins.accesses
+            (none_below number run.accesses below) tt
+
+        own : one_after number next.now (whole_as setup errors x number past) (started number may) ≡ access_of setup errors x number past
+        own =
+            whole_live number next.now setup errors x past (started number may) (open_start may) (unsure_start may) (given_start may refl)
+            ∙ start_given may (gives_at setup errors past x) (is_sure setup errors past x) refl refl
