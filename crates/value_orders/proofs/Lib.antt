@@ -22,3 +22,5 @@ pub mod WellHistories
 pub mod WholeEffects
 pub mod EventSteps
 pub mod EventLists
+pub mod EventEnds
+pub mod EventParts
