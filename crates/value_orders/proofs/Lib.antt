@@ -24,3 +24,4 @@ pub mod EventSteps
 pub mod EventLists
 pub mod EventEnds
 pub mod EventParts
+pub mod EventReplies
