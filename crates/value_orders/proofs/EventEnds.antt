@@ -46,7 +46,7 @@ knows_with count entry past ended knows stays = by_both ended refl (has_ended en
     by_both false was false is = let live : is_none past.ended ≡ true = knows ∙ ap not was in rw (live, is) live
 
 -- its end, where it hadn't ended, or had
-end_with : (count : ℕ) (entry : Entry) (past : Past) → past.ended ≡ None → (with_entry count entry past).ended ≡ (if has_ended entry then Some count else None)
+pub end_with : (count : ℕ) (entry : Entry) (past : Past) → past.ended ≡ None → (with_entry count entry past).ended ≡ (if has_ended entry then Some count else None)
 end_with count entry past live = let first : is_none past.ended ≡ true = ap is_none live in rw first (ap (λ (o : Option ℕ). if has_ended entry then Some count else o) live)
 
 end_kept : (count : ℕ) (entry : Entry) (past : Past) → is_none past.ended ≡ false → (with_entry count entry past).ended ≡ past.ended
@@ -62,10 +62,10 @@ end_still count entry past knows = by_ended (has_ended entry) refl
 
 -- ---- an access by its parts
 
-abbrev by_parts : ℕ → Option ℕ → Option ℕ → Option (Option ℕ) → Bool → Access
+abbrev pub by_parts : ℕ → Option ℕ → Option ℕ → Option (Option ℕ) → Bool → Access
 by_parts number ended told gives sure = record { begun = number; ended = ended; told = told; gives = gives; sure = sure }
 
-parts_same : (number : ℕ) {e f t u : Option ℕ} {g h : Option (Option ℕ)} {s r : Bool} → e ≡ f → t ≡ u → g ≡ h → s ≡ r
+pub parts_same : (number : ℕ) {e f t u : Option ℕ} {g h : Option (Option ℕ)} {s r : Bool} → e ≡ f → t ≡ u → g ≡ h → s ≡ r
     → by_parts number e t g s ≡ by_parts number f u h r
 parts_same number ended told gives sure = cc (ended, told, gives, sure)
 

@@ -116,7 +116,7 @@ module _ (setup : SetupLists) (errors : Errors) (x : ℕ) where
   begins_leads number false run later = record { may_come = (later, tt); now = refl; accesses = refl }
 
   -- one that may write nothing there gives nothing
-  writes_given : (past : Past) → is_some (gives_at setup errors past x) ≡ true → may_write_at setup errors past x ≡ true
+  pub writes_given : (past : Past) → is_some (gives_at setup errors past x) ≡ true → may_write_at setup errors past x ≡ true
   writes_given past some = by_test (may_write_at setup errors past x) refl
     where
       by_test : (b : Bool) → may_write_at setup errors past x ≡ b → b ≡ true

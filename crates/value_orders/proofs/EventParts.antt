@@ -51,7 +51,7 @@ module _ (setup : SetupLists) (errors : Errors) (x : ℕ) where
   left_bare past address Get = refl
   left_bare past address (Intent write) = refl
 
-  gives_bare : (past : Past) → gives_at setup errors past x ≡ gives_at setup errors (bare past) x
+  pub gives_bare : (past : Past) → gives_at setup errors past x ≡ gives_at setup errors (bare past) x
   gives_bare past = ap (λ (o : Option (Option ℕ)). if may_write_at setup errors past x then o else None) (by_place (acts_at setup errors past.entry.request))
     where
       by_both : (address : ℕ) (whole failed : Bool) → gives_as setup whole failed past address x ≡ gives_as setup whole failed (bare past) address x
@@ -66,7 +66,7 @@ module _ (setup : SetupLists) (errors : Errors) (x : ℕ) where
           ∙ ap (λ (b : Bool). gives_as setup past.entry.whole b (bare past) address x) (failed_bare past)
 
   -- whether it takes effect, but for a reset
-  sure_bare : (past : Past) → is_sure setup errors past x ≡ (is_sure setup errors (bare past) x && not past.cut)
+  pub sure_bare : (past : Past) → is_sure setup errors past x ≡ (is_sure setup errors (bare past) x && not past.cut)
   sure_bare past =
       ap (λ (b : Bool). may_write_at setup errors past x && past.entry.whole && not b && not past.cut) (failed_bare past)
       ∙ by_all (may_write_at setup errors past x) past.entry.whole (not (is_failed setup errors (bare past))) (not past.cut)

@@ -25,3 +25,5 @@ pub mod EventLists
 pub mod EventEnds
 pub mod EventParts
 pub mod EventReplies
+pub mod EventFailures
+pub mod EventRequests
