@@ -27,3 +27,4 @@ pub mod EventParts
 pub mod EventReplies
 pub mod EventFailures
 pub mod EventRequests
+pub mod EventShapes
