@@ -28,3 +28,4 @@ pub mod EventReplies
 pub mod EventFailures
 pub mod EventRequests
 pub mod EventShapes
+pub mod EventMoves
