@@ -32,7 +32,7 @@ use Rattle.value_orders.proofs.EventRequests.{IsGrown, StartsNone, completed_sta
 use Rattle.value_orders.proofs.EventShapes.{IsRunOf, Moves, all_last, all_mapped, each_mapped, each_none, length_mapped, map_as, map_id, map_two, moves_as, moves_each, with_last, with_mapped, with_same, with_twice}
 
 -- what goes on with the same entry, or one that has ended just where it had, still knows its end
-still_knows : (count : ℕ) (entry : Entry) (old past : Past) → past.ended ≡ old.ended → KnowsEnd old → (has_ended old.entry ≡ true → has_ended entry ≡ true)
+pub still_knows : (count : ℕ) (entry : Entry) (old past : Past) → past.ended ≡ old.ended → KnowsEnd old → (has_ended old.entry ≡ true → has_ended entry ≡ true)
     → KnowsEnd (with_entry count entry past)
 still_knows count entry old past same knows goes = knows_with count entry past (has_ended old.entry) (ap is_none same ∙ knows) goes
 

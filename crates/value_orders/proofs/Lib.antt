@@ -29,3 +29,4 @@ pub mod EventFailures
 pub mod EventRequests
 pub mod EventShapes
 pub mod EventMoves
+pub mod EventReplyMoves
