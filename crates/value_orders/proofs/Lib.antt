@@ -30,3 +30,4 @@ pub mod EventRequests
 pub mod EventShapes
 pub mod EventMoves
 pub mod EventReplyMoves
+pub mod EventRuns
