@@ -31,3 +31,4 @@ pub mod EventShapes
 pub mod EventMoves
 pub mod EventReplyMoves
 pub mod EventRuns
+pub mod EventHistories

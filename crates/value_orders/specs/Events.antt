@@ -1,9 +1,9 @@
 -- Which events of a byte's run one happening is: what becomes of each request, as far as that byte is concerned. A request that gives the byte nothing reads it,
 -- or just as well doesn't.
-use Rattle.std.specs.Prelude.{ℕ, ◌+◌, ◌%◌, ◌==◌, Bool, true, false, ◌&&◌, not, List, [], ◌∷◌, ◌++◌, length, Option, Some, None, Result, Ok, Err, if◌then◌else◌, slice_get}
+use Rattle.std.specs.Prelude.{ℕ, ◌≡◌, ◌+◌, ◌%◌, ◌==◌, Bool, true, false, ◌&&◌, not, List, [], ◌∷◌, ◌++◌, length, Option, Some, None, Result, Ok, Err, if◌then◌else◌, slice_get}
 use Rattle.std.specs.List.{list_any}
 use Rattle.bus_words.specs.Lanes.{lane_byte}
-use Rattle.byte_orders.specs.Runs.{Event, Reads, Writes, Tells, Gives, LeavesOut, TakesEffect, Fails, Ends, Resets}
+use Rattle.byte_orders.specs.Runs.{Event, Run, Reads, Writes, Tells, Gives, LeavesOut, TakesEffect, Fails, Ends, Resets}
 use Rattle.serial_memory.specs.SerialMemory.{Memory}
 use Rattle.setups.specs.Setups.{SetupLists}
 use Rattle.tl_checker.specs.Ports.{joined}
@@ -15,18 +15,18 @@ use Rattle.tl_messages.specs.declared.ABeat.{ABeat}
 use Rattle.tl_messages.specs.declared.DBeat.{DBeat}
 use Rattle.tl_messages.specs.declared.Operation.{Operation}
 use Rattle.tl_messages.specs.declared.Operation.TheVariants.{Atomic}
-use Rattle.scoreboard.specs.Boards.{Board, ClientBoard, answer_to}
+use Rattle.scoreboard.specs.Boards.{Beginning, Board, ClientBoard, answer_to}
 use Rattle.scoreboard.specs.FailedBursts.{Span, failed_span, shares}
 use Rattle.scoreboard.specs.Orders.{Entry, begun_to, cut_short, ended_early, has_ended, has_failed, is_due_in, is_over, with_beat}
 use Rattle.scoreboard.specs.RealTime.{acting_footprint, completed, entry_of, is_open}
-use Rattle.scoreboard.specs.Unknown.{unknown_given}
+use Rattle.scoreboard.specs.Unknown.{UnknownBoard, unknown_given}
 use Rattle.scoreboard.specs.declared.Errors.{Errors}
 use Rattle.scoreboard.specs.declared.ObservedBeat.{ObservedBeat}
 use Rattle.scoreboard.specs.declared.ObservedBeat.TheVariants.{A, D, Axi as OnAxi, Drained}
 use Rattle.scoreboard.specs.declared.Policy.TheVariants as policy
 use Rattle.scoreboard.specs.declared.Wrong.{Wrong}
-use Rattle.value_orders.specs.Bytes.{gives_at, is_sure, may_write_at}
-use Rattle.value_orders.specs.Histories.{Happening, History, Past, Reset, Seen, begun_by, entries_of, first_seen, hear, tells, with_told}
+use Rattle.value_orders.specs.Bytes.{accesses_in, gives_at, is_sure, may_write_at}
+use Rattle.value_orders.specs.Histories.{Happening, History, Past, Reset, Seen, begun_by, board_next, entries_of, first_seen, hear, history_next, no_history, opening, tells, with_told}
 
 -- ---- what becomes of one request, by its number
 
@@ -177,3 +177,19 @@ abbrev pub events_of : SetupLists → Board → Happening → History → ℕ �
 events_of setup board (Seen seen lanes said) history x =
     seen_events setup board seen lanes said (begun_by history + 1) (length history.over + 1) history.since x
 events_of setup board Reset history x = Resets ∷ []
+
+-- to that byte, with all that happens, one after another
+abbrev pub events_from : SetupLists → UnknownBoard → History → List Happening → ℕ → List Event
+events_from setup board history [] x = []
+events_from setup board history (happening ∷ rest) x =
+    events_of setup board.board happening history x
+    ++ events_from setup (board_next board happening) (history_next setup board.board happening history) rest x
+
+-- since the start
+abbrev pub events_in : Errors → Beginning → List Happening → ℕ → List Event
+events_in errors beginning happenings x = events_from beginning.lists (opening errors beginning) no_history happenings x
+
+-- a run of a byte goes along with what happened: as many have begun, and its accesses are what each did to that byte
+pub record IsRunAt (setup : SetupLists) (errors : Errors) (history : History) (x : ℕ) (run : Run) : Type 0 where
+  pub now : run.now ≡ begun_by history
+  pub accesses : run.accesses ≡ accesses_in setup errors history x
