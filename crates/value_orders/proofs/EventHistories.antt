@@ -136,3 +136,104 @@ module _ (setup : SetupLists) (errors : Errors) (board : Board) (history : Histo
         accesses = ap (λ n. map (cut_short n) run.accesses) is.now ∙ ap (map (cut_short (begun_by history))) is.accesses
             ∙ cut_accesses setup errors x (begun_by history) 1 (all_past history) ∙ ap (accesses_from setup errors x 1) reset_past;
       }
+
+-- ---- one happening
+
+module _ (setup : SetupLists) (errors : Errors) where
+  -- where errors are told as its board says
+  one_leads : (old : UnknownBoard) (history : History) (happening : Happening) (x : ℕ) (run : Run) → IsKept old.board.errors old.board history → EndsAreKnown history
+      → IsRunAt setup old.board.errors history x run
+      → LeadsTo run (events_of setup old.board happening history x) (begun_by (history_next setup old.board happening history))
+      (accesses_in setup old.board.errors (history_next setup old.board happening history) x)
+  one_leads old history (Seen seen lanes said) x run kept ends is =
+      seen_leads setup old.board history seen lanes said ends kept.followed kept.counted x run is
+  one_leads old history Reset x run kept ends is = reset_leads setup old.board.errors old.board history ends x run is
+
+  own_known : (old : UnknownBoard) (history : History) (happening : Happening) → IsKept old.board.errors old.board history → EndsAreKnown history
+      → EndsAreKnown (history_next setup old.board happening history)
+  own_known old history (Seen seen lanes said) kept ends = seen_known setup old.board history seen lanes said ends kept.followed kept.counted 0
+  own_known old history Reset kept ends = reset_known setup old.board.errors old.board history ends
+
+  pub known_next : (old : UnknownBoard) (history : History) (happening : Happening) → IsKept errors old.board history → EndsAreKnown history
+      → EndsAreKnown (history_next setup old.board happening history)
+  known_next old history happening kept ends =
+      own_known old history happening (subst (λ (e : Errors). IsKept e old.board history) (sym kept.errors_are) kept) ends
+
+  pub leads_next : (old : UnknownBoard) (history : History) (happening : Happening) (x : ℕ) (run : Run) → IsKept errors old.board history → EndsAreKnown history
+      → IsRunAt setup errors history x run
+      → LeadsTo run (events_of setup old.board happening history x) (begun_by (history_next setup old.board happening history))
+      (accesses_in setup errors (history_next setup old.board happening history) x)
+  leads_next old history happening x run kept ends is =
+      subst (λ (e : Errors). LeadsTo run (events_of setup old.board happening history x) (begun_by (history_next setup old.board happening history))
+      (accesses_in setup e (history_next setup old.board happening history) x)) kept.errors_are
+      (one_leads old history happening x run (subst (λ (e : Errors). IsKept e old.board history) (sym kept.errors_are) kept) ends
+      (subst (λ (e : Errors). IsRunAt setup e history x run) (sym kept.errors_are) is))
+
+  -- ---- many
+
+  known_from : (happenings : List Happening) (board : UnknownBoard) (history : History) → IsKept errors board.board history → EndsAreKnown history
+      → EndsAreKnown (history_from setup board history happenings)
+  known_from [] board history kept ends = ends
+  known_from (happening ∷ rest) board history kept ends =
+      known_from rest (board_next board happening) (history_next setup board.board happening history) (kept_next setup errors board history happening kept)
+      (known_next board history happening kept ends)
+
+  leads_from : (happenings : List Happening) (board : UnknownBoard) (history : History) (x : ℕ) (run : Run) → IsKept errors board.board history → EndsAreKnown history
+      → IsRunAt setup errors history x run
+      → LeadsTo run (events_from setup board history happenings x) (begun_by (history_from setup board history happenings))
+      (accesses_in setup errors (history_from setup board history happenings) x)
+  leads_from [] board history x run kept ends is = record { may_come = tt; now = is.now; accesses = is.accesses }
+  leads_from (happening ∷ rest) board history x run kept ends is =
+      let next = history_next setup board.board happening history in
+      let after = board_next board happening in
+      let events = events_of setup board.board happening history x in
+      let one = leads_next board history happening x run kept ends is in
+      leads_then run events (events_from setup after next rest x) (begun_by next) (begun_by (history_from setup after next rest)) (accesses_in setup errors next x)
+      (accesses_in setup errors (history_from setup after next rest) x) one
+      (leads_from rest after next x (run_after run events) (kept_next setup errors board history happening kept) (known_next board history happening kept ends)
+      (record { now = one.now; accesses = one.accesses }))
+
+-- ---- since the start
+
+none_known : EndsAreKnown no_history
+none_known = record { over = tt; since = tt }
+
+pub known_in : (errors : Errors) (beginning : Beginning) (happenings : List Happening) → EndsAreKnown (history_in errors beginning happenings)
+known_in errors beginning happenings =
+    known_from beginning.lists errors happenings (opening errors beginning) no_history (kept_in errors beginning []) none_known
+
+-- a run that goes along with all that happened goes on by the events of one happening more
+pub leads_in : (errors : Errors) (beginning : Beginning) (happenings : List Happening) (happening : Happening) (x : ℕ) (run : Run)
+    → IsRunAt beginning.lists errors (history_in errors beginning happenings) x run
+    → LeadsTo run (events_of beginning.lists (board_in errors beginning happenings).board happening (history_in errors beginning happenings) x)
+    (begun_by (history_next beginning.lists (board_in errors beginning happenings).board happening (history_in errors beginning happenings)))
+    (accesses_in beginning.lists errors (history_next beginning.lists (board_in errors beginning happenings).board happening (history_in errors beginning happenings)) x)
+leads_in errors beginning happenings happening x run is =
+    leads_next beginning.lists errors (board_in errors beginning happenings) (history_in errors beginning happenings) happening x run
+    (kept_in errors beginning happenings) (known_in errors beginning happenings) is
+
+-- the first run goes along with nothing
+pub first_at : (errors : Errors) (beginning : Beginning) (x : ℕ) → IsRunAt beginning.lists errors no_history x (first_run (byte_at_start beginning x))
+first_at errors beginning x = record { now = refl; accesses = refl }
+
+-- and by the events of all that happened it leads to what each request did
+pub all_leads : (errors : Errors) (beginning : Beginning) (happenings : List Happening) (x : ℕ)
+    → LeadsTo (first_run (byte_at_start beginning x)) (events_in errors beginning happenings x) (begun_by (history_in errors beginning happenings))
+    (accesses_in beginning.lists errors (history_in errors beginning happenings) x)
+all_leads errors beginning happenings x =
+    leads_from beginning.lists errors happenings (opening errors beginning) no_history x (first_run (byte_at_start beginning x)) (kept_in errors beginning []) none_known
+    (first_at errors beginning x)
+
+-- ---- one happening more
+
+pub board_last : (board : UnknownBoard) (happenings : List Happening) (happening : Happening)
+    → board_from board (happenings ++ happening ∷ []) ≡ board_next (board_from board happenings) happening
+board_last board [] happening = refl
+board_last board (first ∷ happenings) happening = board_last (board_next board first) happenings happening
+
+pub history_last : (setup : SetupLists) (board : UnknownBoard) (history : History) (happenings : List Happening) (happening : Happening)
+    → history_from setup board history (happenings ++ happening ∷ [])
+    ≡ history_next setup (board_from board happenings).board happening (history_from setup board history happenings)
+history_last setup board history [] happening = refl
+history_last setup board history (first ∷ happenings) happening =
+    history_last setup (board_next board first) (history_next setup board.board first history) happenings happening
