@@ -1,9 +1,8 @@
 -- Whether a request has ended is known of it, since the last reset: its end is told as its entry has ended. So it ends once, and its access with it.
-use Rattle.std.proofs.Common.{◌≡◌, ℕ, ◌==◌, Bool, true, false, ◌&&◌, not, List, [], ◌∷◌, ◌++◌, map, Option, Some, None, if◌then◌else◌, refl, sym, ◌∙◌, ap}
+use Rattle.std.proofs.Common.{◌≡◌, ℕ, Bool, true, false, ◌&&◌, not, [], Option, Some, None, if◌then◌else◌, refl, sym, ◌∙◌, ap}
 use Rattle.std.specs.Prelude.{is_none}
 use Rattle.std.proofs.lemmas.Bool.{both_ways}
 use Rattle.byte_orders.specs.Accesses.{Access}
-use Rattle.byte_orders.specs.Runs.{Event}
 use Rattle.byte_orders.proofs.Leading.{one_after}
 use Rattle.byte_orders.proofs.QuietEvents.{IsOpenAt}
 use Rattle.setups.specs.Setups.{SetupLists}

@@ -1,17 +1,15 @@
 -- The events of requests with an error response: those that it strikes have failed. And a reset cuts off all that haven't ended.
-use Rattle.std.proofs.Common.{◌≡◌, ℕ, ◌+◌, Bool, true, false, ◌&&◌, ◌||◌, not, List, [], ◌∷◌, ◌++◌, map, Option, Some, None, if◌then◌else◌, refl, sym, ◌∙◌, ap}
+use Rattle.std.proofs.Common.{◌≡◌, ℕ, ◌+◌, Bool, true, false, ◌&&◌, not, List, [], ◌∷◌, map, Option, Some, None, if◌then◌else◌, refl, sym, ◌∙◌, ap}
 use Rattle.std.specs.Prelude.{is_none, option_map}
 use Rattle.std.specs.List.{AllByRecursion}
 use Rattle.std.proofs.lemmas.Bool.{and_parts, and_right, not-true}
-use Rattle.byte_orders.specs.Accesses.{Access}
-use Rattle.byte_orders.specs.Runs.{cut_short, failing}
-use Rattle.byte_orders.proofs.Leading.{one_after}
+use Rattle.byte_orders.specs.Runs.{cut_short}
 use Rattle.serial_memory.specs.SerialMemory.{Memory}
 use Rattle.setups.specs.Setups.{SetupLists}
 use Rattle.tl_messages.specs.declared.Operation.{Operation}
 use Rattle.tl_messages.specs.declared.Operation.TheVariants.{Atomic, Get, Intent, PutFull, PutPartial}
 use Rattle.scoreboard.specs.FailedBursts.{Span, shares}
-use Rattle.scoreboard.specs.Orders.{Entry, access_fails, has_ended}
+use Rattle.scoreboard.specs.Orders.{Entry, has_ended}
 use Rattle.scoreboard.specs.RealTime.{acting_footprint, struck}
 use Rattle.scoreboard.specs.declared.Errors.{Errors}
 use Rattle.scoreboard.specs.declared.Errors.TheVariants.{Any}

@@ -1,11 +1,11 @@
 -- Along all that happens: a run of a byte that goes along with a history goes on by the events of one happening more to one that goes along with the next.
-use Rattle.std.proofs.Common.{length-append, ◌≡◌, ℕ, ◌+◌, ◌<◌, ◌≤◌, Bool, true, false, List, [], ◌∷◌, ◌++◌, map, length, Option, Some, None, append-nil, if◌then◌else◌, refl, sym, ◌∙◌, ap, subst, arith}
+use Rattle.std.proofs.Common.{length-append, ◌≡◌, ℕ, ◌+◌, Bool, true, false, List, [], ◌∷◌, ◌++◌, map, length, Option, Some, append-nil, if◌then◌else◌, refl, sym, ◌∙◌, ap, subst, arith}
 use Rattle.std.specs.Prelude.{is_none}
 use Rattle.std.specs.List.{AllByRecursion}
 use Rattle.std.proofs.lemmas.List.{length-map}
 use Rattle.byte_orders.specs.Accesses.{Access}
-use Rattle.byte_orders.specs.Runs.{AllMayCome, Event, Resets, Run, cut_short, first_run, run_after}
-use Rattle.byte_orders.proofs.Leading.{LeadsTo, leads_as, leads_nowhere, leads_then}
+use Rattle.byte_orders.specs.Runs.{Event, Resets, Run, cut_short, first_run, run_after}
+use Rattle.byte_orders.proofs.Leading.{LeadsTo, leads_then}
 use Rattle.setups.specs.Setups.{SetupLists}
 use Rattle.scoreboard.specs.Boards.{Beginning, Board}
 use Rattle.scoreboard.specs.Orders.{Order}
@@ -17,14 +17,14 @@ use Rattle.scoreboard.specs.declared.Wrong.{Wrong}
 use Rattle.scoreboard.proofs.real_time.Becoming.{IsFollowed}
 use Rattle.scoreboard.proofs.real_time.Fates.{IsCounted, goes_next}
 use Rattle.value_orders.specs.Bytes.{accesses_from, accesses_in, byte_at_start}
-use Rattle.value_orders.specs.Events.{IsRunAt, events_from, events_in, events_of, seen_events}
-use Rattle.value_orders.specs.Histories.{Happening, History, Past, Reset, Seen, all_past, begun_by, board_from, board_in, board_next, cut_off, entries_of, history_from, history_in, history_next, no_history, opening, since_next}
+use Rattle.value_orders.specs.Events.{IsRunAt, events_from, events_in, events_of}
+use Rattle.value_orders.specs.Histories.{Happening, History, Past, Reset, Seen, all_past, begun_by, board_from, board_in, board_next, cut_off, entries_of, history_from, history_in, history_next, no_history, opening}
 use Rattle.value_orders.proofs.Entries.{entries_next}
 use Rattle.value_orders.proofs.EventEnds.{KnowsEnd}
 use Rattle.value_orders.proofs.EventFailures.{cut_accesses, cut_over}
 use Rattle.value_orders.proofs.EventLists.{AllBelow, accesses_append, all_below}
 use Rattle.value_orders.proofs.EventRuns.{seen_goes}
-use Rattle.value_orders.proofs.EventShapes.{IsRunOf, Moves}
+use Rattle.value_orders.proofs.EventShapes.{Moves}
 use Rattle.value_orders.proofs.WellHistories.{IsKept, kept_in, kept_next}
 
 -- of each request it is known whether it has ended: all have that began before the last reset

@@ -1,10 +1,10 @@
 -- Where the events of many requests lead, one request after another; and those of one that begins.
-use Rattle.std.proofs.Common.{◌≡◌, ℕ, ◌+◌, ◌<◌, ◌==◌, Bool, true, false, ◌&&◌, List, [], ◌∷◌, ◌++◌, map, length, Option, Some, None, if◌then◌else◌, append_assoc, refl, sym, ◌∙◌, ap, subst, arith}
+use Rattle.std.proofs.Common.{◌≡◌, ℕ, ◌+◌, ◌<◌, Bool, true, false, List, [], ◌∷◌, ◌++◌, map, length, Option, Some, None, if◌then◌else◌, append_assoc, refl, sym, ◌∙◌, ap, arith}
 use Rattle.std.specs.Prelude.{is_some}
 use Rattle.std.specs.List.{AllByRecursion}
 use Rattle.std.proofs.lemmas.Bool.{and_right, both_ways, ne_eqb}
 use Rattle.byte_orders.specs.Accesses.{Access}
-use Rattle.byte_orders.specs.Runs.{Event, Run, reading, run_after, run_next, writing}
+use Rattle.byte_orders.specs.Runs.{Event, Run, reading, run_after, writing}
 use Rattle.byte_orders.proofs.Leading.{AllOf, LeadsTo, NoneAt, leads_as, leads_then, one_after, one_changes}
 use Rattle.byte_orders.proofs.QuietEvents.{IsOpenAt}
 use Rattle.tl_messages.specs.Operations.{has_data}

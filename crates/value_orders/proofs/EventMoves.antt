@@ -1,35 +1,26 @@
 -- What was seen since the last reset goes on by the events of each beat, as the history does.
-use Rattle.std.proofs.Common.{◌≡◌, ℕ, ◌+◌, ◌<◌, ◌≤◌, Bool, true, false, ◌&&◌, ◌||◌, not, List, [], ◌∷◌, ◌++◌, map, length, Option, Some, None, if◌then◌else◌, append_assoc, refl, sym, ◌∙◌, ap, subst, arith}
+use Rattle.std.proofs.Common.{◌≡◌, ℕ, ◌+◌, ◌≤◌, Bool, true, false, not, List, [], ◌∷◌, ◌++◌, map, length, if◌then◌else◌, append_assoc, refl, sym, ◌∙◌, ap, subst, arith}
 use Rattle.std.specs.Prelude.{is_none}
-use Rattle.std.specs.List.{AllByRecursion, list_any}
+use Rattle.std.specs.List.{AllByRecursion}
 use Rattle.std.proofs.lemmas.Bool.{lt-leb}
-use Rattle.std.proofs.lemmas.Simd.{map-map}
 use Rattle.byte_orders.specs.Accesses.{Access}
-use Rattle.byte_orders.specs.Runs.{Event, Run, run_after}
-use Rattle.byte_orders.proofs.Leading.{LeadsTo, leads_as, leads_then}
-use Rattle.serial_memory.specs.SerialMemory.{Memory}
+use Rattle.byte_orders.specs.Runs.{Event, Run}
+use Rattle.byte_orders.proofs.Leading.{leads_as}
 use Rattle.setups.specs.Setups.{SetupLists}
 use Rattle.tl_messages.specs.Requests.{WholeRequest}
-use Rattle.tl_messages.specs.declared.DBeat.{DBeat}
-use Rattle.scoreboard.specs.FailedBursts.{Span}
-use Rattle.scoreboard.specs.Orders.{Entry, Order, after_beat, begun_to, cut_short, ended_early, has_ended, is_due, is_due_in, is_over, reply_beats, with_beat}
-use Rattle.scoreboard.specs.RealTime.{completed, entry_of, heard, is_open, struck}
+use Rattle.scoreboard.specs.Orders.{Entry, has_ended, reply_beats}
+use Rattle.scoreboard.specs.RealTime.{completed, entry_of, heard, is_open}
 use Rattle.scoreboard.specs.Unknown.{with_lanes}
 use Rattle.scoreboard.specs.declared.Errors.{Errors}
-use Rattle.scoreboard.specs.declared.Errors.TheVariants.{Any}
-use Rattle.scoreboard.specs.declared.Wrong.{Wrong}
 use Rattle.scoreboard.proofs.real_time.Lengths.{some_beats}
-use Rattle.scoreboard.proofs.real_time.ReplySteps.{due_place}
 use Rattle.value_orders.specs.Bytes.{access_of, accesses_from}
-use Rattle.value_orders.specs.Events.{begun_as, completed_as, counted_as, cut_as, each_from, ends_as, ends_with, fails_as, is_struck, reply_events, shown_as, shown_events}
-use Rattle.value_orders.specs.Histories.{Past, entries_of, first_seen, heard_of, with_entries, with_entry, with_shown, with_told}
-use Rattle.value_orders.proofs.EventEnds.{KnowsEnd, access_parts, knows_with, live_of, same_entry}
-use Rattle.value_orders.proofs.EventFailures.{struck_stays, struck_steps}
-use Rattle.value_orders.proofs.EventLists.{AllBelow, StepsTo, accesses_append, all_below, first_leads}
+use Rattle.value_orders.specs.Events.{begun_as, completed_as, each_from}
+use Rattle.value_orders.specs.Histories.{Past, entries_of, first_seen, heard_of, with_entries, with_entry}
+use Rattle.value_orders.proofs.EventEnds.{KnowsEnd, access_parts, knows_with, same_entry}
+use Rattle.value_orders.proofs.EventLists.{AllBelow, accesses_append, all_below, first_leads}
 use Rattle.value_orders.proofs.EventParts.{IsAlike, alike_gives, alike_sure}
-use Rattle.value_orders.proofs.EventReplies.{IsDueLive, beat_steps, counted_stays, cut_stays, cut_steps, shown_past, shown_steps}
 use Rattle.value_orders.proofs.EventRequests.{IsGrown, StartsNone, completed_stays, completed_steps, heard_stays, heard_steps}
-use Rattle.value_orders.proofs.EventShapes.{IsRunOf, Moves, all_last, all_mapped, each_mapped, each_none, length_mapped, map_as, map_id, map_two, moves_as, moves_each, with_last, with_mapped, with_same, with_twice}
+use Rattle.value_orders.proofs.EventShapes.{IsRunOf, Moves, all_last, all_mapped, each_none, length_mapped, moves_as, moves_each, with_last, with_mapped, with_same}
 
 -- what goes on with the same entry, or one that has ended just where it had, still knows its end
 pub still_knows : (count : ℕ) (entry : Entry) (old past : Past) → past.ended ≡ old.ended → KnowsEnd old → (has_ended old.entry ≡ true → has_ended entry ≡ true)

@@ -1,6 +1,6 @@
 -- What a request gives to a byte, and whether it takes effect, depends on no more than what it is, whether it is whole and spoiled, whether its reply came early,
 -- and what was seen of its bytes.
-use Rattle.std.proofs.Common.{◌≡◌, ℕ, Bool, true, false, ◌&&◌, ◌||◌, not, List, Option, Some, None, if◌then◌else◌, refl, sym, ◌∙◌, ap}
+use Rattle.std.proofs.Common.{◌≡◌, ℕ, Bool, true, false, ◌&&◌, not, List, Option, Some, None, if◌then◌else◌, refl, sym, ◌∙◌, ap}
 use Rattle.std.specs.Prelude.{option_map}
 use Rattle.setups.specs.Setups.{SetupLists}
 use Rattle.tl_messages.specs.Requests.{WholeRequest}

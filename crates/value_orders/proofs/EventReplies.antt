@@ -1,6 +1,6 @@
 -- The events of requests with a beat on channel D: what it tells, and which replies end with it.
-use Rattle.std.proofs.Common.{◌≡◌, ℕ, ◌+◌, ◌%◌, ◌==◌, Bool, true, false, ◌&&◌, ◌||◌, not, List, [], ◌∷◌, ◌++◌, Option, Some, None, if◌then◌else◌, refl, sym, ◌∙◌, ap, subst, arith}
-use Rattle.std.specs.Prelude.{is_none, is_some, option_map, slice_get}
+use Rattle.std.proofs.Common.{◌≡◌, ℕ, ◌+◌, ◌%◌, ◌==◌, Bool, true, false, ◌&&◌, not, List, [], ◌++◌, Option, Some, None, if◌then◌else◌, refl, sym, ◌∙◌, ap, arith}
+use Rattle.std.specs.Prelude.{is_some, option_map}
 use Rattle.std.proofs.Math.Path.{fun_ext}
 use Rattle.std.proofs.lemmas.Bool.{le-leb, leb-true}
 use Rattle.bus_words.specs.Lanes.{has_lane, lane_byte}
@@ -19,7 +19,7 @@ use Rattle.value_orders.specs.Bytes.{access_of, gives_as, gives_at, gives_from, 
 use Rattle.value_orders.specs.Events.{cut_as, ends_as, ends_with, is_atomic, known_as, made_as, shown_as, shows, told_as}
 use Rattle.value_orders.specs.Histories.{Past, tells, with_entry, with_told}
 use Rattle.value_orders.specs.Places.{acts_at, acts_on, is_in_word}
-use Rattle.value_orders.proofs.EventEnds.{KnowsEnd, ends_steps, live_of, open_of}
+use Rattle.value_orders.proofs.EventEnds.{KnowsEnd, ends_steps, open_of}
 use Rattle.value_orders.proofs.EventLists.{StepsTo, unwhole_gives, unwhole_unsure}
 use Rattle.value_orders.proofs.EventParts.{IsAlike, alike_gives, alike_sure}
 use Rattle.value_orders.proofs.EventSteps.{known_live, of_known, of_told, told_live}

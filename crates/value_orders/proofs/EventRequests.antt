@@ -1,10 +1,9 @@
 -- The events of requests with a beat on channel A that goes on with a message, or makes it whole.
-use Rattle.std.proofs.Common.{◌≡◌, ℕ, ◌<◌, ◌==◌, Bool, true, false, ◌&&◌, ◌||◌, not, List, [], ◌∷◌, ◌++◌, Option, Some, None, if◌then◌else◌, refl, sym, ◌∙◌, ap, subst, arith}
-use Rattle.std.specs.Prelude.{is_none, is_some}
+use Rattle.std.proofs.Common.{◌≡◌, ℕ, ◌==◌, Bool, true, false, ◌&&◌, ◌||◌, not, [], ◌++◌, Some, None, if◌then◌else◌, refl, sym, ◌∙◌, ap}
+use Rattle.std.specs.Prelude.{is_some}
 use Rattle.std.proofs.lemmas.Bool.{and_parts, and_right, both_ways, lt-leb, not-true}
 use Rattle.byte_orders.specs.Accesses.{Access}
-use Rattle.byte_orders.proofs.Leading.{AllOf, of_both, one_after, one_then}
-use Rattle.byte_orders.proofs.QuietEvents.{IsOpenAt}
+use Rattle.byte_orders.proofs.Leading.{of_both, one_after, one_then}
 use Rattle.setups.specs.Setups.{SetupLists}
 use Rattle.tl_messages.specs.Operations.{has_data}
 use Rattle.tl_messages.specs.Requests.{WholeRequest}
@@ -14,7 +13,7 @@ use Rattle.scoreboard.specs.RealTime.{completed, heard, is_open}
 use Rattle.scoreboard.specs.declared.Errors.{Errors}
 use Rattle.scoreboard.specs.declared.Errors.TheVariants.{Any, Strict}
 use Rattle.scoreboard.proofs.real_time.Lengths.{some_beats}
-use Rattle.value_orders.specs.Bytes.{access_of, gives_at, is_sure, may_write_at}
+use Rattle.value_orders.specs.Bytes.{access_of, gives_at, is_sure}
 use Rattle.value_orders.specs.Events.{completed_as, ends_as, ends_with, whole_as}
 use Rattle.value_orders.specs.Histories.{Past, hear, heard_of, with_entry}
 use Rattle.value_orders.specs.Places.{acts_on}

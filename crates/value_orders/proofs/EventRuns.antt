@@ -1,12 +1,11 @@
 -- A run of a byte that goes along by the events of all that happens has as accesses what the history says each request did to that byte.
-use Rattle.std.proofs.Common.{length-append, ◌≡◌, ℕ, ◌+◌, ◌<◌, ◌==◌, Bool, true, false, ◌&&◌, not, List, [], ◌∷◌, ◌++◌, map, length, Option, Some, None, Result, Ok, Err, if◌then◌else◌, suc, refl, sym, ◌∙◌, ap, subst, arith}
-use Rattle.std.specs.Prelude.{is_none, slice_get}
+use Rattle.std.proofs.Common.{length-append, ◌≡◌, ℕ, ◌+◌, ◌==◌, Bool, true, false, not, List, [], ◌∷◌, ◌++◌, map, length, Option, Some, None, Result, Ok, Err, suc, refl, sym, ◌∙◌, ap, subst, arith}
+use Rattle.std.specs.Prelude.{slice_get}
 use Rattle.std.specs.List.{AllByRecursion, list_any}
 use Rattle.std.proofs.lemmas.List.{length-map}
 use Rattle.std.proofs.lemmas.Bool.{and_parts, eqb-true, not-true, or_left}
 use Rattle.byte_orders.specs.Accesses.{Access}
 use Rattle.byte_orders.specs.Runs.{Event, Run}
-use Rattle.byte_orders.proofs.Leading.{LeadsTo}
 use Rattle.setups.specs.Setups.{SetupLists}
 use Rattle.tl_checker.specs.Ports.{joined}
 use Rattle.tl_checker.specs.declared.Progress.{Progress}
@@ -25,15 +24,15 @@ use Rattle.scoreboard.specs.declared.ObservedBeat.{ObservedBeat}
 use Rattle.scoreboard.specs.declared.ObservedBeat.TheVariants.{A, D, Axi as OnAxi, Drained}
 use Rattle.scoreboard.specs.declared.Policy.TheVariants.{RealTime}
 use Rattle.scoreboard.specs.declared.Wrong.{Wrong}
-use Rattle.scoreboard.proofs.real_time.Becoming.{EachIn, IsFollowed, IsHeld, IsHeldBy}
+use Rattle.scoreboard.proofs.real_time.Becoming.{EachIn, IsFollowed, IsHeldBy}
 use Rattle.scoreboard.proofs.real_time.Fates.{IsCounted, IsRecorded, told_any}
 use Rattle.scoreboard.proofs.real_time.Fronts.{front_at, front_of}
 use Rattle.value_orders.specs.Events.{begun_as, completed_as, each_from, fails_as, is_struck, reply_events, answer_events, failed_events, progress_events, request_events, seen_events}
-use Rattle.value_orders.specs.Histories.{first_seen, heard_of, with_shown, Past, entries_of, hidden_in, since_next, with_answer, with_entries, with_heard, with_looked}
+use Rattle.value_orders.specs.Histories.{first_seen, heard_of, with_shown, Past, entries_of, hidden_in, with_answer, with_entries, with_heard, with_looked}
 use Rattle.value_orders.proofs.EventEnds.{KnowsEnd}
 use Rattle.value_orders.proofs.EventMoves.{IsReady, completed_moves, first_moves, heard_moves, same_moves}
 use Rattle.value_orders.proofs.EventReplyMoves.{reply_moves, struck_moves}
-use Rattle.value_orders.proofs.EventRequests.{IsGrown, StartsNone}
+use Rattle.value_orders.proofs.EventRequests.{IsGrown}
 use Rattle.value_orders.proofs.EventShapes.{IsRunOf, Moves}
 
 -- ---- what is known of each request
@@ -65,7 +64,7 @@ all_ready errors clients number client held beat (past ∷ pasts) there front ar
     grown = grown_of errors clients number client held beat past.entry there front (are 0 (omega arith));
   },
   all_ready errors clients number client held beat pasts there front (λ k small. are (suc k) (omega (arith, small)))
-  (λ k small. recorded (suc k) (omega (arith, small))) knows.1,
+      (λ k small. recorded (suc k) (omega (arith, small))) knows.1,
 )
 
 -- ---- a beat

@@ -1,5 +1,5 @@
 -- How the requests since the last reset go on with a beat: each changes alone, and one more may have begun.
-use Rattle.std.proofs.Common.{◌≡◌, ℕ, ◌+◌, ◌<◌, Bool, true, false, ◌&&◌, not, List, [], ◌∷◌, ◌++◌, map, length, Option, Some, None, if◌then◌else◌, refl, sym, ◌∙◌, ap, subst, arith}
+use Rattle.std.proofs.Common.{◌≡◌, ℕ, ◌+◌, Bool, true, false, ◌&&◌, List, [], ◌∷◌, ◌++◌, map, length, Option, Some, None, if◌then◌else◌, refl, ap, subst, arith}
 use Rattle.std.specs.Prelude.{is_none}
 use Rattle.std.specs.List.{AllByRecursion}
 use Rattle.std.proofs.lemmas.Bool.{both_ways}
@@ -7,12 +7,12 @@ use Rattle.byte_orders.specs.Accesses.{Access}
 use Rattle.byte_orders.specs.Runs.{Event, Run}
 use Rattle.byte_orders.proofs.Leading.{LeadsTo}
 use Rattle.setups.specs.Setups.{SetupLists}
-use Rattle.scoreboard.specs.Orders.{Entry, Order, has_ended}
+use Rattle.scoreboard.specs.Orders.{Entry, has_ended}
 use Rattle.scoreboard.specs.declared.Errors.{Errors}
-use Rattle.value_orders.specs.Bytes.{access_of, accesses_from}
+use Rattle.value_orders.specs.Bytes.{accesses_from}
 use Rattle.value_orders.specs.Events.{each_from}
 use Rattle.value_orders.specs.Histories.{Past, entries_of, first_seen, with_entries, with_entry}
-use Rattle.value_orders.proofs.EventEnds.{KnowsEnd, same_entry}
+use Rattle.value_orders.proofs.EventEnds.{KnowsEnd}
 use Rattle.value_orders.proofs.EventLists.{AllBelow, StepsTo, each_leads}
 
 -- ---- lists

@@ -1,14 +1,14 @@
 -- What the events of one request make of its access, where that hasn't ended.
-use Rattle.std.proofs.Common.{◌≡◌, ℕ, ◌==◌, Bool, true, false, ◌&&◌, List, [], ◌∷◌, ◌++◌, Option, Some, None, if◌then◌else◌, refl, sym, ◌∙◌, ap}
+use Rattle.std.proofs.Common.{◌≡◌, ℕ, ◌==◌, Bool, true, false, Option, Some, None, if◌then◌else◌, refl, ◌∙◌, ap}
 use Rattle.std.specs.Prelude.{is_none, is_some, option_map}
 use Rattle.std.proofs.lemmas.Bool.{both_ways, eq-eqb}
 use Rattle.byte_orders.specs.Accesses.{Access}
-use Rattle.byte_orders.specs.Runs.{Event, changed_of, ending, failing, giving, giving_nothing, taking_effect, telling}
+use Rattle.byte_orders.specs.Runs.{changed_of, ending, failing, giving, giving_nothing, taking_effect, telling}
 use Rattle.byte_orders.proofs.Leading.{AllOf, of_both, one_after, one_then}
 use Rattle.byte_orders.proofs.QuietEvents.{IsOpenAt}
 use Rattle.setups.specs.Setups.{SetupLists}
 use Rattle.scoreboard.specs.declared.Errors.{Errors}
-use Rattle.value_orders.specs.Bytes.{access_of, gives_at, is_sure}
+use Rattle.value_orders.specs.Bytes.{gives_at, is_sure}
 use Rattle.value_orders.specs.Events.{effects_as, ends_as, fails_as, known_as, told_as, whole_as}
 use Rattle.value_orders.specs.Histories.{Past}
 
