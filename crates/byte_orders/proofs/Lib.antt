@@ -11,3 +11,4 @@ pub mod ShortLists
 pub mod ToldRightly
 pub mod QuietEvents
 pub mod Leading
+pub mod QuietSwap

@@ -268,7 +268,7 @@ silent_next number other run event of silent =
 -- ---- one quiet event, and many
 
 -- the request that a quiet one is of
-quiet_of : (accesses : List Access) (event : Event) → IsQuiet accesses event → (number : ℕ) × IsOf number event
+pub quiet_of : (accesses : List Access) (event : Event) → IsQuiet accesses event → (number : ℕ) × IsOf number event
 quiet_of accesses (Tells number byte) quiet = (number, refl)
 quiet_of accesses (Gives number value) quiet = (number, refl)
 quiet_of accesses (LeavesOut number) quiet = (number, refl)
@@ -317,7 +317,7 @@ module _ (room : Type 0) (start : Option ℕ) where
   quiet_held run holds event quiet = absurd quiet
 
   -- what is quiet stays so with another event of a request
-  quiet_next : (run : Run) (other : ℕ) (first event : Event) → IsOf other first → IsQuiet run.accesses event → IsQuiet (run_next run first).accesses event
+  pub quiet_next : (run : Run) (other : ℕ) (first event : Event) → IsOf other first → IsQuiet run.accesses event → IsQuiet (run_next run first).accesses event
   quiet_next run other first (Tells number byte) of quiet = tt
   quiet_next run other first (Gives number value) of quiet = silent_next number other run first of quiet
   quiet_next run other first (LeavesOut number) of quiet = silent_next number other run first of quiet
@@ -326,7 +326,7 @@ module _ (room : Type 0) (start : Option ℕ) where
   quiet_next run other first (Ends number) of quiet = silent_next number other run first of quiet
   quiet_next run other first event of quiet = absurd quiet
 
-  all_quiet_next : (run : Run) (other : ℕ) (first : Event) (events : List Event) → IsOf other first → AllByRecursion (IsQuiet run.accesses) events
+  pub all_quiet_next : (run : Run) (other : ℕ) (first : Event) (events : List Event) → IsOf other first → AllByRecursion (IsQuiet run.accesses) events
       → AllByRecursion (IsQuiet (run_next run first).accesses) events
   all_quiet_next run other first [] of quiet = tt
   all_quiet_next run other first (event ∷ events) of quiet = (quiet_next run other first event of quiet.0, all_quiet_next run other first events of quiet.1)
