@@ -32,3 +32,4 @@ pub mod EventMoves
 pub mod EventReplyMoves
 pub mod EventRuns
 pub mod EventHistories
+pub mod EventOnes
