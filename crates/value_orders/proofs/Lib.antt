@@ -33,3 +33,4 @@ pub mod EventReplyMoves
 pub mod EventRuns
 pub mod EventHistories
 pub mod EventOnes
+pub mod EventLast
