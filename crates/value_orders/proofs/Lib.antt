@@ -34,3 +34,4 @@ pub mod EventRuns
 pub mod EventHistories
 pub mod EventOnes
 pub mod EventLast
+pub mod EventFlights
