@@ -36,7 +36,7 @@ use Rattle.scoreboard.specs.declared.Policy.{Policy}
 use Rattle.scoreboard.specs.declared.Policy.TheVariants.{AcceptanceOrder}
 use Rattle.scoreboard.specs.declared.ReplyRule.{ReplyRule}
 use Rattle.scoreboard.specs.declared.Wrong.{Wrong}
-use Rattle.scoreboard.specs.declared.Wrong.TheVariants.{NoClient, Request, Reply, Axi, Place, UnknownAxi, UnknownRequest}
+use Rattle.scoreboard.specs.declared.Wrong.TheVariants.{NoClient, UnknownAxi, UnknownRequest}
 use Rattle.scoreboard.proofs.acceptance_order.Reached.{right_exactly}
 use Rattle.scoreboard.proofs.held.AllKnown.{FitsBeat, known-after, known-wrong}
 use Rattle.score_script.specs.Observations.{CallTold, Observing, ObservationState, SetUpState, after_call, finding_code, first_code, observing_code, observing_of, next_number, stage_in, wrong_code}
@@ -53,7 +53,7 @@ use Rattle.score_setup.specs.ScoreSetups.{RangeLists, one_by_one, score_setup_fa
 use Rattle.setups.specs.declared.SetupFault.{SetupFault}
 use Rattle.script_text.specs.Stages.{GivesWorld, SettingUp as SaidSetUp, Stage as Stages, set_up_as, unless_refused, world_at}
 use Rattle.script_text.specs.declared.faults.ScriptFault.{ScriptFault}
-use Rattle.script_text.specs.declared.faults.ScriptFault.TheVariants.{Script, Setup, Read, Write, NoMemory}
+use Rattle.script_text.specs.declared.faults.ScriptFault.TheVariants.{Script}
 use Rattle.score_calls.specs.Answers.{answer_of}
 use Rattle.score_calls.specs.CallCommands.{command_by, command_in}
 use Rattle.score_calls.specs.CallWords.{call_by, call_of, kind_of, wanted_by, words_wanted}

@@ -1,5 +1,5 @@
 -- An observation that is judged call by call (this project's profile).
-use Rattle.std.specs.Prelude.{ℕ, ◌≡◌, ◌⊎◌, ◌+◌, ◌<◌, Bool, true, false, List, [], ◌++◌, min, Option, Some, None, Result, Ok, Err, IsOk, if◌then◌else◌, nat_lt}
+use Rattle.std.specs.Prelude.{ℕ, ◌≡◌, ◌⊎◌, ◌+◌, ◌<◌, Bool, true, false, List, [], min, Option, Some, None, Result, Ok, Err, IsOk, if◌then◌else◌, nat_lt}
 use Rattle.std.specs.Str.Lines.{strip_carriage_return}
 use Rattle.axi_checker.specs.Names.{rule_number}
 use Rattle.score_script.specs.Profiles.{PolicyBoard}
