@@ -10,7 +10,7 @@ use Rattle.script_text.specs.Scripts.{EndsOrStops, LineStep, Reading, line_step}
 use Rattle.script_text.specs.Steps.{Goes, TakesRest, TakesStep}
 use Rattle.script_text.specs.Stops.{EndsHolding, StopsAt, StopsWithin, after_line, held_of, state_after}
 use Rattle.script_text.specs.declared.faults.ScriptFault.{ScriptFault}
-use Rattle.script_text.specs.declared.faults.ScriptFault.TheVariants.{Script, Setup, Read, Write, NoMemory}
+use Rattle.script_text.specs.declared.faults.ScriptFault.TheVariants.{Script}
 
 -- ---- the state after lines
 
