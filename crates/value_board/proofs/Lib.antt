@@ -1,0 +1,3 @@
+pub mod GivenBytes
+pub mod MadeBytes
+pub mod NumberLists

@@ -1,0 +1,4 @@
+pub mod ClientValues
+pub mod Found
+pub mod Given
+pub mod Values
