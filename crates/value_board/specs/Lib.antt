@@ -1,3 +1,4 @@
+pub mod AllValues
 pub mod ClientValues
 pub mod Found
 pub mod Given

@@ -1,0 +1,90 @@
+-- The memory of values and the numbers of all clients' requests together: what becomes of them when a request ends, and at a reset.
+use Rattle.std.specs.Prelude.{ℕ, ◌+◌, ◌==◌, ◌&&◌, Bool, true, false, List, Option, Some, None, map, slice_index_or, slice_set}
+use Rattle.std.specs.List.{AllByRecursion}
+use Rattle.value_memory.specs.States.{Contents, contents_of, cut_off, with_oldest}
+use Rattle.value_memory.specs.ValueMemory.{ValueState}
+use Rattle.value_board.specs.ClientValues.{AreLive, ClientNumbers, no_numbers, reset_numbers, with_answer, without_number}
+use Rattle.value_board.specs.Values.{ended_if, failed_all, oldest_from}
+use Rattle.value_board.specs.declared.client_values.Asked.{Asked}
+use Rattle.value_board.specs.declared.client_values.Begun.{Begun}
+use Rattle.scoreboard.specs.FailedBursts.{Span}
+use Rattle.scoreboard.specs.declared.views.ReplyView.{ReplyView}
+
+-- what the memory contains, and each client's numbers
+pub record ValuesState : Type 0 where
+  pub memory : Contents
+  pub clients : List ClientNumbers
+
+-- the same as they are held
+pub record ValuesHeld : Type 0 where
+  pub memory : ValueState
+  pub clients : List ClientNumbers
+
+abbrev pub values_of : ValuesHeld → ValuesState
+values_of held = record { memory = contents_of held.memory; clients = held.clients }
+
+-- a client's
+abbrev pub numbers_of : List ClientNumbers → ℕ → ClientNumbers
+numbers_of clients client = slice_index_or clients client no_numbers
+
+-- those of each client rise, from one that none is below to one that none is above
+abbrev pub AreAllLive : ℕ → ℕ → List ClientNumbers → Type 0
+AreAllLive low high clients = AllByRecursion (λ numbers. AreLive low high numbers.live) clients
+
+-- a client's request is in flight no more
+abbrev pub without_request : ℕ → ℕ → List ClientNumbers → List ClientNumbers
+without_request client number clients =
+    slice_set clients client (record (numbers_of clients client) { live = without_number number (numbers_of clients client).live })
+
+-- the oldest in flight is found anew
+abbrev pub with_oldest_found : ValuesState → ValuesState
+with_oldest_found v = record v { memory = with_oldest (oldest_from (v.memory.begun + 1) v.clients) v.memory }
+
+-- a client's request ends
+abbrev pub with_ended : ℕ → Begun → ValuesState → ValuesState
+with_ended client begun v =
+    with_oldest_found (record { memory = ended_if begun v.memory; clients = without_request client begun.number v.clients })
+
+-- each request in flight has failed that shares a byte with a burst
+abbrev pub with_failed : Span → ValuesState → ValuesState
+with_failed span v = record v { memory = failed_all span v.clients v.memory }
+
+-- all are cut off
+abbrev pub with_reset : ValuesState → ValuesState
+with_reset v = record { memory = cut_off v.memory; clients = map reset_numbers v.clients }
+
+-- ---- replies
+
+-- a client's numbers change
+abbrev pub with_numbers : ℕ → ClientNumbers → ValuesState → ValuesState
+with_numbers client numbers v = record v { clients = slice_set v.clients client numbers }
+
+-- the reply that has begun to a client is over: its request ends
+abbrev pub with_answering_over : ℕ → Option Asked → ValuesState → ValuesState
+with_answering_over client None v = v
+with_answering_over client (Some asked) v =
+    with_ended client asked.begun (with_numbers client (record (numbers_of v.clients client) { answering = None }) v)
+
+abbrev pub with_answered : ℕ → ValuesState → ValuesState
+with_answered client v = with_answering_over client (numbers_of v.clients client).answering v
+
+-- the same with its last beat
+abbrev pub with_answered_if : Bool → ℕ → ValuesState → ValuesState
+with_answered_if true client v = with_answered client v
+with_answered_if false client v = v
+
+-- a beat comes of the reply to the last request of a source, if that is due: it begins
+abbrev pub with_due_begun : ℕ → ℕ → Option ReplyView → ValuesState → ValuesState
+with_due_begun client source None v = v
+with_due_begun client source (Some view) v =
+    with_answered_if (view.left == 1) client (with_numbers client (with_answer source (numbers_of v.clients client)) v)
+
+-- a beat of a source comes where no reply is over with it: of the one that has begun, if it is of that source, or else of the one that is due
+abbrev pub with_next_counted : ℕ → ℕ → Option ReplyView → Option ReplyView → ValuesState → ValuesState
+with_next_counted client source None due v = with_due_begun client source due v
+with_next_counted client source (Some view) due v = with_answered_if (view.due.source == source && view.left == 1) client v
+
+-- by whether the reply that has begun is over with it
+abbrev pub with_counted : ℕ → ℕ → Bool → Option ReplyView → Option ReplyView → ValuesState → ValuesState
+with_counted client source true begun due v = with_due_begun client source due (with_answered client v)
+with_counted client source false begun due v = with_next_counted client source begun due v
