@@ -1,10 +1,11 @@
 -- Numbers of requests in flight, which rise, and the oldest of them.
-use Rattle.std.proofs.Common.{◌≡◌, ℕ, ◌<◌, ◌≤◌, ◌==◌, Bool, true, false, List, [], ◌∷◌, arith, get_or, length, map, subst, sym}
+use Rattle.std.proofs.Common.{◌≡◌, ℕ, ◌+◌, ◌<◌, ◌≤◌, ◌==◌, ◌++◌, Bool, true, false, List, [], ◌∷◌, Option, Some, None, arith, get_or, length, map, refl, subst, sym}
 use Rattle.std.specs.Prelude.{if◌then◌else◌, slice_set}
 use Rattle.bus_words.proofs.PlaceChanges.{all-at, all-set}
+use Rattle.value_memory.specs.declared.ByteRange.{ByteRange}
 use Rattle.value_board.specs.AllValues.{AreAllLive}
 use Rattle.value_board.specs.ClientValues.{AreLive, ClientNumbers, reset_numbers, without_number}
-use Rattle.value_board.specs.Values.{lesser, oldest_from}
+use Rattle.value_board.specs.Values.{count_started, lesser, oldest_from, started}
 use Rattle.value_board.specs.declared.client_values.Begun.{Begun}
 
 -- from a lower number on they rise as well
@@ -64,3 +65,39 @@ ended_live number client low high clients found after are within is ends =
 pub reset_live : (low high : ℕ) (clients : List ClientNumbers) → AreAllLive low high (map reset_numbers clients)
 reset_live low high [] = tt
 reset_live low high (numbers ∷ rest) = (tt, reset_live low high rest)
+
+-- ---- a request begins
+
+-- one more, which is the next
+live_more : (low high : ℕ) (live : List Begun) (begun : Begun) → begun.number ≡ high + 1 → low ≤ high + 1 → AreLive low high live → AreLive low (high + 1) (live ++ begun ∷ [])
+live_more low high [] begun is least are = (omega (arith, is, least), omega (arith, is), tt)
+live_more low high (first ∷ rest) begun is least are =
+    (are.0, omega (arith, are.1), live_more first.number high rest begun is (omega (arith, are.1)) are.2)
+
+live_wider : (low high higher : ℕ) (live : List Begun) → high ≤ higher → AreLive low high live → AreLive low higher live
+live_wider low high higher [] less are = tt
+live_wider low high higher (begun ∷ rest) less are = (are.0, omega (arith, less, are.1), live_wider begun.number high higher rest less are.2)
+
+all_wider : (low high higher : ℕ) (clients : List ClientNumbers) → high ≤ higher → AreAllLive low high clients → AreAllLive low higher clients
+all_wider low high higher [] less are = tt
+all_wider low high higher (numbers ∷ rest) less are = (live_wider low high higher numbers.live less are.0, all_wider low high higher rest less are.1)
+
+count_more : (coming : Option Begun) (high : ℕ) → high ≤ count_started coming high
+count_more None high = omega arith
+count_more (Some begun) high = omega arith
+
+started_live : (low high : ℕ) (reach : Option ByteRange) (coming : Option Begun) (numbers : ClientNumbers) → low ≤ high + 1 → AreLive low high numbers.live
+    → AreLive low (count_started coming high) (started coming (record { number = high + 1; gives = reach }) numbers).live
+started_live low high reach None numbers least are = live_more low high numbers.live (record { number = high + 1; gives = reach }) refl least are
+started_live low high reach (Some begun) numbers least are = are
+
+pub all_started : (client low high : ℕ) (reach : Option ByteRange) (clients : List ClientNumbers) (found after : ClientNumbers) → AreAllLive low high clients
+    → client < length clients → found ≡ get_or clients client found → low ≤ high + 1
+    → after ≡ started found.coming (record { number = high + 1; gives = reach }) found
+    → AreAllLive low (count_started found.coming high) (slice_set clients client after)
+all_started client low high reach clients found after are within is least begins =
+    let rises : ClientNumbers → Type 0 = λ numbers. AreLive low high numbers.live in
+    let risen : ClientNumbers → Type 0 = λ numbers. AreLive low (count_started found.coming high) numbers.live in
+    let there : AreLive low high found.live = subst rises (sym is) (all-at rises clients client found are within) in
+    all-set risen clients client after (all_wider low high (count_started found.coming high) clients (count_more found.coming high) are)
+    (subst risen (sym begins) (started_live low high reach found.coming found least there))

@@ -50,6 +50,11 @@ abbrev pub started_memory : Option Begun → Option ByteRange → Contents → C
 started_memory None reach c = with_request reach c
 started_memory (Some begun) reach c = c
 
+-- how many have begun then
+abbrev pub count_started : Option Begun → ℕ → ℕ
+count_started None count = count + 1
+count_started (Some other) count = count
+
 abbrev pub started : Option Begun → Begun → ClientNumbers → ClientNumbers
 started None begun numbers = with_begun begun numbers
 started (Some other) begun numbers = numbers

@@ -1,13 +1,29 @@
 //! The memory of values and the numbers of all clients' requests together.
-ghost use Rattle.std.specs.Prelude.{◌≡◌, ◌<◌, length, map};
-ghost use Rattle.value_board.specs.AllValues.{with_answered, with_answered_if, with_counted, with_due_begun, with_ended, with_failed, with_next_counted, with_reset, values_of};
-ghost use Rattle.value_board.specs.ClientValues.{HasRange, reset_numbers};
+ghost use Rattle.std.specs.Prelude.{◌≡◌, ◌<◌, ◌/◌, ◌^◌, None, IfOk, IfSome, OnErr, OnOk, length, map, replicate, true};
+ghost use Rattle.score_setup.specs.ScoreSetups.{ranges_of};
+ghost use Rattle.scoreboard.specs.InsideBoards.{board_of};
+ghost use Rattle.sparse_memory.specs.Ranges.{pages_in};
+ghost use Rattle.subordinate.specs.Faults.{device_fault, is_good, standing_at};
+ghost use Rattle.value_board.specs.Found.{found_of};
+ghost use Rattle.value_board.specs.Values.{made_if};
+ghost use Rattle.value_memory.specs.States.{contents_of, filled_with};
+ghost use Rattle.value_memory.specs.ValueMemory.{IsByteRange, pages_of, rooms_in};
+ghost use Rattle.value_board.specs.AllValues.{asked_next, first_values, is_full, numbers_of, reach_of, with_answered, with_answered_if, with_counted, with_due_begun, with_ended, with_failed, with_next_counted, with_reset, with_started, values_of};
+ghost use Rattle.value_board.specs.ClientValues.{HasRange, IsAsked, no_numbers, reset_numbers};
 
-use crate::client_values::{Begun, ClientValues};
-use crate::values::{end_if, fail_all, oldest_from};
-use scoreboard::{ReplyView, Span};
+use crate::client_values::{Asked, Begun, ClientValues};
+use crate::found::{Found, found_of};
+use crate::unknown::unknown_given;
+use crate::values::{end_if, fail_all, is_good_at, make, oldest_from, range_given, start};
+use score_setup::ScoreSetup;
+use scoreboard::{FillFault, ReplyView, Scoreboard, Span};
+use std::alloc::{AllocError, Global};
 use std::marker::Model;
-use value_memory::ValueMemory;
+use tl_messages::{ABeat, DBeat};
+use value_memory::{ByteRange, ValueMemory};
+
+/// How many requests begin at most.
+const MOST_BEGUN: u64 = 1 << 63;
 
 /// Which values each byte of the memory may have, and the numbers of the requests in flight. Each client's numbers rise; none is below the
 /// oldest that the memory knows, or above how many have begun.
@@ -36,6 +52,17 @@ impl Drop for Values {
     }
 }
 
+/// The numbers of so many clients, of which nothing has begun. The one error is that memory was refused.
+fn opening_clients(alloc: Global, count: u8) -> Result<Vec<ClientValues>, AllocError>
+    ensures { IfOk result (λ made. made.items ≡ replicate count no_numbers) }
+{
+    let mut clients = Vec::with_capacity(alloc, usize::from(count))?;
+    for _client in 0..count {
+        clients.push(ClientValues::new(alloc)?)?;
+    }
+    Ok(clients)
+}
+
 /// Of some clients nothing is in flight any more, and nothing has begun.
 fn reset_each(clients: &mut [ClientValues])
     ensures { clients.new ≡ map reset_numbers clients.old }
@@ -57,6 +84,102 @@ impl Values {
         self.clients[client].end(begun.number);
         let oldest = oldest_from(self.memory.begun() + 1, self.clients.as_slice());
         self.memory.set_oldest(oldest);
+    }
+
+    /// No request has begun. The one error is that memory was refused.
+    pub(crate) fn new(alloc: Global, setup: &ScoreSetup) -> Result<Self, AllocError>
+        requires { device_fault (pages_in setup.now.pages.items) setup.now.bad_words.items ≡ None }
+        ensures { IfOk result (λ values. values_of values ≡ first_values (ranges_of setup.now)) }
+    {
+        let memory = ValueMemory::new(alloc, setup.pages.as_slice(), setup.bad_words.as_slice())?;
+        let clients = opening_clients(alloc, setup.config.clients)?;
+        Ok(Values { memory, clients })
+    }
+
+    /// How many clients there are.
+    pub(crate) fn clients(&self) -> usize
+        ensures { result ≡ length self.now.clients }
+    {
+        self.clients.len()
+    }
+
+    /// Whether no request of a client can be numbered any more.
+    pub(crate) fn is_full(&self, client: usize) -> bool
+        requires { client < length self.now.clients }
+        ensures { result ≡ is_full client (values_of self.now) }
+    {
+        self.clients[client].is_full() || self.memory.begun() >= MOST_BEGUN
+    }
+
+    /// The bytes that a request may give that begins with a beat of a client; none where its message had begun before.
+    pub(crate) fn reach(&self, board: &Scoreboard, client: usize, beat: &ABeat) -> Option<ByteRange>
+        requires { client < length self.now.clients }
+        ensures value { result ≡ reach_of client (board_of board.now) beat.now (values_of self.now) }
+        ensures range { IfSome result IsByteRange }
+        ensures good { IfSome result (λ range. is_good (standing_at (pages_of self.now.memory) range.address) ≡ true) }
+    {
+        if self.clients[client].coming().is_some() {
+            return None;
+        }
+        let range = range_given(board, beat)?;
+        if !is_good_at(&self.memory, range.address) {
+            return None;
+        }
+        Some(range)
+    }
+
+    /// Makes room for the page of a range. The one error is that memory was refused; then nothing has changed.
+    pub(crate) fn make_room(&mut self, reach: Option<ByteRange>) -> Result<(), AllocError>
+        requires { IfSome reach (λ range. is_good (standing_at (pages_of self.old.memory) range.address) ≡ true) }
+        ensures state { values_of self.new ≡ values_of self.old }
+        ensures room { OnOk result (IfSome reach (λ range. rooms_in self.new.memory (range.address / 4096) ≡ true)) }
+    {
+        match reach {
+            None => Ok(()),
+            Some(range) => self.memory.make_room(range.address),
+        }
+    }
+
+    /// A client's request begins that may give a range, where its message hadn't begun before.
+    fn start(&mut self, client: usize, reach: Option<ByteRange>)
+        requires client { client < length self.old.clients }
+        requires few { self.old.memory.begun < 2 ^ 63 }
+        requires room { length (numbers_of self.old.clients client).live < 258 }
+        requires range { IfSome reach IsByteRange }
+        requires page { IfSome reach (λ range. rooms_in self.old.memory (range.address / 4096) ≡ true) }
+        ensures state { values_of self.new ≡ with_started client reach (values_of self.old) }
+        ensures clients { length self.new.clients ≡ length self.old.clients }
+    {
+        let Values { memory, clients } = self;
+        start(memory, &mut clients[client], reach);
+    }
+
+    /// The request of the reply whose next beat one of a source may be: of the one that has begun, if one has, else of the one that is due.
+    pub(crate) fn asked_next(&self, client: usize, source: u8, has_begun: bool) -> Option<Asked>
+        requires { client < length self.now.clients }
+        ensures value { result ≡ asked_next client source has_begun (values_of self.now) }
+        ensures sound { IfSome result IsAsked }
+    {
+        let found = &self.clients[client];
+        if has_begun {
+            return found.answering();
+        }
+        Some(found.asked_by(source))
+    }
+
+    /// What is found of a beat, of which nobody knows some lanes, as the next of a reply to a request.
+    pub(crate) fn look(&self, view: &ReplyView, asked: Asked, beat: &DBeat, lanes: u8) -> Found
+        ensures { result ≡ found_of (contents_of self.now.memory) view.now asked.begun.number beat.now.payload lanes }
+    {
+        found_of(&self.memory, view, asked.begun.number, beat.payload, lanes)
+    }
+
+    /// What an atomic makes is known, where its reply tells all that it reads, with a right beat.
+    pub(crate) fn make(&mut self, asked: Asked, told: u8, payload: u64, lanes: u8)
+        requires { IsAsked asked }
+        ensures { values_of self.new ≡ record (values_of self.old) { memory = made_if asked told payload lanes (contents_of self.old.memory) } }
+    {
+        make(&mut self.memory, asked, told, payload, lanes);
     }
 
     /// The reply that has begun to a client is over: its request ends.
@@ -136,6 +259,15 @@ impl Values {
         ensures { values_of self.new ≡ with_failed span (values_of self.old) }
     {
         fail_all(&mut self.memory, span, self.clients.as_slice());
+    }
+
+    /// The bytes from an address on become these, before any request has begun.
+    pub(crate) fn fill(&mut self, address: u32, bytes: &[u8]) -> Result<(), FillFault>
+        requires { self.old.memory.begun ≡ 0 }
+        ensures filled { OnOk result (values_of self.new ≡ record (values_of self.old) { memory = filled_with address bytes.now (contents_of self.old.memory) }) }
+        ensures refused { OnErr result (values_of self.new ≡ values_of self.old) }
+    {
+        self.memory.fill(address, bytes)
     }
 
     /// All that are in flight are cut off.

@@ -1,11 +1,12 @@
 //! The numbers of all clients' requests beside the memory of values: what each beat does to them.
 ghost use Rattle.std.specs.Prelude.{◌≡◌, ◌<◌, ◌≤◌, ◌*◌, ◌+◌, ◌/◌, ◌^◌, ℕ, true, None, Some, IfOk, IfSome, length, nat_le, slice_get, slice_index_or};
 ghost use Rattle.std.specs.List.{AllByRecursion};
+ghost use Rattle.subordinate.specs.Faults.{is_good, standing_at};
 ghost use Rattle.value_memory.specs.States.{contents_of};
-ghost use Rattle.value_memory.specs.ValueMemory.{IsByteRange, KeepsCounts, rooms_in, word_count};
+ghost use Rattle.value_memory.specs.ValueMemory.{IsByteRange, KeepsCounts, pages_of, rooms_in, word_count};
 ghost use Rattle.scoreboard.specs.InsideBoards.{board_of};
 ghost use Rattle.value_board.specs.ClientValues.{HasRange, IsAsked, IsStep};
-ghost use Rattle.value_board.specs.Values.{ended_if, failed_all, failed_each, failed_if, finished, finished_memory, given_each, given_place, given_whole, giving_on, has_failed, lesser, made_if, oldest_from, range_at, range_given, range_of_operation, shares, started, started_memory, step_by, step_on};
+ghost use Rattle.value_board.specs.Values.{count_started, ended_if, failed_all, failed_each, failed_if, finished, finished_memory, given_each, given_place, given_whole, giving_on, has_failed, lesser, made_if, oldest_from, range_at, range_given, range_of_operation, shares, started, started_memory, step_by, step_on};
 
 use crate::client_values::{Asked, AtomicStep, Begun, ClientValues};
 use crate::given::{Giving, given_word, giving_of, is_sure};
@@ -48,6 +49,14 @@ pub(crate) fn range_given(board: &Scoreboard, beat: &ABeat) -> Option<ByteRange>
     range_of_operation(board, beat, operation)
 }
 
+/// Whether the page of an address is good.
+pub(crate) fn is_good_at(memory: &ValueMemory, address: u32) -> bool
+    ensures value { result ≡ is_good (standing_at (contents_of memory.now).faults address) }
+    ensures pages { result ≡ is_good (standing_at (pages_of memory.now) address) }
+{
+    memory.is_good(address)
+}
+
 /// A client's request begins that may give a range, where its message hadn't begun before.
 pub(crate) fn start(memory: &mut ValueMemory, found: &mut ClientValues, reach: Option<ByteRange>)
     requires few { memory.old.begun < 2 ^ 63 }
@@ -56,11 +65,15 @@ pub(crate) fn start(memory: &mut ValueMemory, found: &mut ClientValues, reach: O
     requires page { IfSome reach (λ range. rooms_in memory.old (range.address / 4096) ≡ true) }
     ensures memory { contents_of memory.new ≡ started_memory found.old.coming reach (contents_of memory.old) }
     ensures numbers { found.new ≡ started found.old.coming (record { number = memory.old.begun + 1; gives = reach }) found.old }
+    ensures begun { memory.new.begun ≡ count_started found.old.coming memory.old.begun }
+    ensures oldest { memory.new.oldest ≡ memory.old.oldest }
+    ensures low { memory.old.oldest ≤ memory.old.begun + 1 }
 {
+    let number = memory.begun() + 1;
     if found.coming().is_some() {
         return;
     }
-    let number = memory.begin(reach);
+    let _number = memory.begin(reach);
     found.begin(Begun {
         number,
         gives: reach,
