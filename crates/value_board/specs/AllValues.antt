@@ -1,15 +1,21 @@
 -- The memory of values and the numbers of all clients' requests together: what becomes of them when a request ends, and at a reset.
-use Rattle.std.specs.Prelude.{ℕ, ◌+◌, ◌^◌, ◌==◌, ◌&&◌, ◌||◌, Bool, true, false, List, Option, Some, None, if◌then◌else◌, is_some, length, map, nat_le, replicate, slice_index_or, slice_set}
+use Rattle.std.specs.Prelude.{ℕ, ◌+◌, ◌^◌, ◌==◌, ◌&&◌, ◌||◌, Bool, true, false, List, Option, Some, None, if◌then◌else◌, is_none, is_some, length, map, nat_le, replicate, slice_get, slice_index_or, slice_set}
 use Rattle.std.specs.List.{AllByRecursion}
 use Rattle.value_memory.specs.States.{Contents, contents_of, new_contents, cut_off, with_oldest}
 use Rattle.value_memory.specs.ValueMemory.{ValueState}
 use Rattle.value_board.specs.ClientValues.{AreLive, ClientNumbers, asked_by, no_numbers, reset_numbers, with_answer, without_number}
-use Rattle.value_board.specs.Values.{ended_if, failed_all, oldest_from, range_given, started, started_memory}
+use Rattle.value_board.specs.Values.{ended_if, failed_all, finished, finished_memory, oldest_from, range_given, started, started_memory}
 use Rattle.value_board.specs.declared.client_values.Asked.{Asked}
 use Rattle.value_board.specs.declared.client_values.Begun.{Begun}
 use Rattle.score_setup.specs.ScoreSetups.{RangeLists}
 use Rattle.scoreboard.specs.Boards.{Board}
 use Rattle.scoreboard.specs.FailedBursts.{Span}
+use Rattle.scoreboard.specs.InsideBoards.{BoardState, board_of}
+use Rattle.scoreboard.specs.Unanswered.{source_begun}
+use Rattle.scoreboard.specs.Unknown.{with_lanes}
+use Rattle.scoreboard.specs.Views.{due_view}
+use Rattle.scoreboard.specs.declared.Errors.{Errors}
+use Rattle.tl_messages.specs.Requests.{HeldMessage}
 use Rattle.subordinate.specs.Faults.{Faults, is_good, standing_at}
 use Rattle.tl_messages.specs.declared.ABeat.{ABeat}
 use Rattle.value_memory.specs.declared.ByteRange.{ByteRange}
@@ -102,6 +108,44 @@ with_next_counted client source (Some view) due v = with_answered_if (view.due.s
 abbrev pub with_counted : ℕ → ℕ → Bool → Option ReplyView → Option ReplyView → ValuesState → ValuesState
 with_counted client source true begun due v = with_due_begun client source due (with_answered client v)
 with_counted client source false begun due v = with_next_counted client source begun due v
+
+-- ---- messages
+
+-- a beat of the message that a client has begun came, which gives lanes that nobody knows
+abbrev pub with_heard : ℕ → ℕ → ValuesState → ValuesState
+with_heard client given v =
+    with_numbers client (record (numbers_of v.clients client) { hidden = with_lanes (numbers_of v.clients client).hidden given }) v
+
+-- it is whole: what it gives is known
+abbrev pub with_complete : ℕ → Begun → Errors → HeldMessage → Option ReplyView → ValuesState → ValuesState
+with_complete client begun errors message due v =
+    record {
+      memory = finished_memory errors begun message due (numbers_of v.clients client).hidden v.memory;
+      clients = slice_set v.clients client (finished errors begun message due v.memory (numbers_of v.clients client));
+    }
+
+-- and it has ended, if its reply came before
+abbrev pub with_ended_if : Bool → ℕ → Begun → ValuesState → ValuesState
+with_ended_if true client begun v = with_ended client begun v
+with_ended_if false client begun v = v
+
+abbrev pub with_whole_of : ℕ → Option Begun → Errors → HeldMessage → Option ReplyView → ValuesState → ValuesState
+with_whole_of client None errors message due v = v
+with_whole_of client (Some begun) errors message due v = with_ended_if (is_none due) client begun (with_complete client begun errors message due v)
+
+abbrev pub with_finished : ℕ → Errors → HeldMessage → Option ReplyView → ValuesState → ValuesState
+with_finished client errors message due v = with_whole_of client (numbers_of v.clients client).coming errors message due v
+
+-- by whether the board has one that isn't whole, and what it shows of the one that is
+abbrev pub with_message : Option ℕ → ℕ → BoardState → ValuesState → ValuesState
+with_message (Some source) client board v = v
+with_message None client board v =
+    with_finished client board.errors board.request (due_view (slice_get (board_of board).clients client) board.request.source) v
+
+-- a beat of a client was taken that gives lanes which nobody knows, and that leaves a board: with the first of a message a request begins that may give a range
+abbrev pub with_taken : ℕ → Option ByteRange → ℕ → BoardState → ValuesState → ValuesState
+with_taken client reach given board v =
+    with_message (source_begun (slice_get (board_of board).clients client)) client board (with_heard client given (with_started client reach v))
 
 -- ---- what is asked of them
 

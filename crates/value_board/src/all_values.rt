@@ -4,22 +4,23 @@ ghost use Rattle.score_setup.specs.ScoreSetups.{ranges_of};
 ghost use Rattle.scoreboard.specs.InsideBoards.{board_of};
 ghost use Rattle.sparse_memory.specs.Ranges.{pages_in};
 ghost use Rattle.subordinate.specs.Faults.{device_fault, is_good, standing_at};
+ghost use Rattle.scoreboard.specs.Unknown.{unknown_given};
 ghost use Rattle.value_board.specs.Found.{found_of};
 ghost use Rattle.value_board.specs.Values.{made_if};
 ghost use Rattle.value_memory.specs.States.{contents_of, filled_with};
 ghost use Rattle.value_memory.specs.ValueMemory.{IsByteRange, pages_of, rooms_in};
-ghost use Rattle.value_board.specs.AllValues.{asked_next, first_values, is_full, numbers_of, reach_of, with_answered, with_answered_if, with_counted, with_due_begun, with_ended, with_failed, with_next_counted, with_reset, with_started, values_of};
+ghost use Rattle.value_board.specs.AllValues.{asked_next, first_values, is_full, numbers_of, reach_of, with_answered, with_answered_if, with_complete, with_counted, with_due_begun, with_ended, with_ended_if, with_failed, with_finished, with_heard, with_next_counted, with_reset, with_started, with_taken, values_of};
 ghost use Rattle.value_board.specs.ClientValues.{HasRange, IsAsked, no_numbers, reset_numbers};
 
 use crate::client_values::{Asked, Begun, ClientValues};
 use crate::found::{Found, found_of};
 use crate::unknown::unknown_given;
-use crate::values::{end_if, fail_all, is_good_at, make, oldest_from, range_given, start};
+use crate::values::{end_if, fail_all, finish, is_good_at, make, oldest_from, range_given, start};
 use score_setup::ScoreSetup;
-use scoreboard::{FillFault, ReplyView, Scoreboard, Span};
+use scoreboard::{Errors, FillFault, ReplyView, Scoreboard, Span};
 use std::alloc::{AllocError, Global};
 use std::marker::Model;
-use tl_messages::{ABeat, DBeat};
+use tl_messages::{ABeat, DBeat, Request};
 use value_memory::{ByteRange, ValueMemory};
 
 /// How many requests begin at most.
@@ -152,6 +153,84 @@ impl Values {
     {
         let Values { memory, clients } = self;
         start(memory, &mut clients[client], reach);
+    }
+
+    /// A beat of the message that a client has begun came, which gives these lanes that nobody knows.
+    fn hear(&mut self, client: usize, given: u8)
+        requires { client < length self.old.clients }
+        ensures state { values_of self.new ≡ with_heard client given (values_of self.old) }
+        ensures clients { length self.new.clients ≡ length self.old.clients }
+    {
+        self.clients[client].hear(given);
+    }
+
+    /// The message that a client had begun is whole: what it gives is known.
+    fn complete(
+        &mut self,
+        client: usize,
+        begun: Begun,
+        errors: Errors,
+        request: &Request,
+        due: &Option<ReplyView>,
+    )
+        requires client { client < length self.old.clients }
+        requires range { HasRange begun }
+        ensures state { values_of self.new ≡ with_complete client begun errors request.now due.now (values_of self.old) }
+        ensures clients { length self.new.clients ≡ length self.old.clients }
+    {
+        let Values { memory, clients } = self;
+        finish(memory, &mut clients[client], errors, begun, request, due);
+    }
+
+    /// A client's request ends, if it does.
+    fn end_if(&mut self, client: usize, begun: Begun, ends: bool)
+        requires client { client < length self.old.clients }
+        requires range { HasRange begun }
+        ensures { values_of self.new ≡ with_ended_if ends client begun (values_of self.old) }
+    {
+        if ends {
+            self.end(client, begun);
+        }
+    }
+
+    /// The message that a client had begun is whole, and a request; a reply to it is due, or came before, so that it has ended.
+    fn finish(&mut self, client: usize, errors: Errors, request: &Request, due: &Option<ReplyView>)
+        requires { client < length self.old.clients }
+        ensures { values_of self.new ≡ with_finished client errors request.now due.now (values_of self.old) }
+    {
+        let Some(begun) = self.clients[client].coming() else {
+            return;
+        };
+        self.complete(client, begun, errors, request, due);
+        self.end_if(client, begun, due.is_none());
+    }
+
+    /// A beat of a client was taken, of which nobody knows some lanes, and that left a board: with the first of a message a request begins
+    /// that may give a range.
+    pub(crate) fn take(
+        &mut self,
+        board: &Scoreboard,
+        client: u8,
+        beat: &ABeat,
+        lanes: u8,
+        reach: Option<ByteRange>,
+    )
+        requires client { client < length self.old.clients }
+        requires few { self.old.memory.begun < 2 ^ 63 }
+        requires room { length (numbers_of self.old.clients client).live < 258 }
+        requires range { IfSome reach IsByteRange }
+        requires page { IfSome reach (λ range. rooms_in self.old.memory (range.address / 4096) ≡ true) }
+        ensures { values_of self.new ≡ with_taken client reach (unknown_given beat.now lanes) board.now (values_of self.old) }
+    {
+        let number = usize::from(client);
+        self.start(number, reach);
+        self.hear(number, unknown_given(beat, lanes));
+        if board.source_begun(client).is_some() {
+            return;
+        }
+        let request = board.request();
+        let due = board.due_reply(client, request.source());
+        self.finish(number, board.errors(), request, &due);
     }
 
     /// The request of the reply whose next beat one of a source may be: of the one that has begun, if one has, else of the one that is due.
