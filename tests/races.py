@@ -18,12 +18,9 @@ from dataclasses import dataclass
 
 from compared import compared
 from ends import started, told
-from model import ARITHMETIC, GET, INTENT, LOGICAL, PUT_FULL, PUT_PARTIAL, Memory, Setup
+from model import ARITHMETIC, GET, GOOD, INTENT, LOGICAL, PUT_FULL, PUT_PARTIAL, ABeat, Memory, Ranges, Setup, applied, beats_of, full_mask
 
-from client import ABeat, beats_of  # model.py says where it stands
-from random_bench import applied, full_mask
-
-SETUP = Setup(3, 4, 16, 2, 16, 12, 8, ((0, 4, 0x10, "gpah"),), {0x10: "good"}, ())
+SETUP = Setup(3, 4, 16, 2, 16, 12, 8, ((0, 4, 0x10, "gpah"),), Ranges([(0x10, 1, GOOD)]), ())
 PUTS, GIVES_NONE = (PUT_FULL, PUT_PARTIAL), (GET, INTENT)
 # Opcodes, params and sizes of requests: of each kind, and of those that show which came first, a sum or a Put of one of its bytes.
 ALL = [(PUT_FULL, 0, 4), (PUT_FULL, 0, 0), (PUT_PARTIAL, 0, 4), (GET, 0, 3), (GET, 0, 3), (GET, 0, 4)] * 3 + [(PUT_FULL, 0, 3)] * 2

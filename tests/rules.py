@@ -18,15 +18,14 @@ import subprocess
 import sys
 import tempfile
 from collections import Counter, deque
-from dataclasses import dataclass, field, replace
+from dataclasses import dataclass, field
 from pathlib import Path
 from typing import Deque, Dict, Iterator, List, NamedTuple, Optional, Tuple
 
-from beats import AXI_RULES, NUMBERS, AxiPort, Beats, Port, crosses
+from beats import Beats
 from ends import started, told
-
-from client import ABeat, beats_of  # observed.py says where it stands
-from random_bench import GET, INTENT
+from model import INTENT, ABeat, beats_of
+from port_models import AXI_RULES, NUMBERS, AxiPort, Port, crosses
 
 TOP = Path(__file__).resolve().parent.parent
 RULES, RTL = TOP / "interfaces/systemverilog/zuldegei_rules.sv", TOP / "examples/testbench/rtl"
@@ -270,7 +269,7 @@ class Lot:
         rng, burst, bus = self.rng, self.axi.to_fill(), self.shape.bus_bytes
         if burst is None and not self.is_rare(3 if self.is_flooded else 10):
             return None
-        lanes = burst.transfer(bus)[2] if burst else rng.getrandbits(bus)
+        lanes = burst.lanes(bus) if burst else rng.getrandbits(bus)
         strobes = lanes if self.is_rare(2) else lanes & rng.getrandbits(bus)
         strobes ^= self.is_rare(16) << rng.randrange(bus)
         last = int((burst.is_last() if burst else self.is_rare(3)) != self.is_rare(16))

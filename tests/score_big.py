@@ -22,9 +22,10 @@ import sys
 from collections import Counter
 from typing import Iterator, NamedTuple
 
-from big_memory import GOOD, KINDS, PAGE, SHAPES, UNKNOWN
+from big_memory import KINDS, SHAPES
 from big_traffic import Asked, Traffic, new_pages
 from ends import told
+from model import GOOD, PAGE, UNKNOWN
 from score_memory import PROFILES, Line, Script, growths
 from shim import Ran, Shim
 

@@ -15,42 +15,15 @@ import time
 from pathlib import Path
 
 from compared import Counts
-from model import GET, LOGICAL, PUT_PARTIAL, Setup
+from model import GET, LOGICAL, PUT_PARTIAL, ABeat, DBeat, full_mask, setup_of
 from observed import WITHDRAWN, Observation
 from unknown import DIGITS, PAYLOADS, is_unclear, known, lanes_in, with_unknown
-
-from client import ABeat, DBeat, beats_of  # model.py says where it stands
-from random_bench import full_mask
 
 TOP = Path(__file__).resolve().parent.parent
 KINDS = {"A": "request", "D": "reply", "AW": "axi", "W": "axi", "B": "axi", "AR": "axi", "R": "axi"}
 FIELDS = {"A": 9, "D": 8, "AW": 5, "AR": 5, "W": 3, "B": 2, "R": 4}
 HEX = {"A": (6, 7, 8), "D": (7,), "AW": (2,), "AR": (2,), "W": (1, 2), "B": (), "R": (2,)}
 RESPONSES = ("OKAY", "EXOKAY", "SLVERR", "DECERR")
-
-
-def setup_of(lines):
-    """The set-up that lines say, and how many of them there are."""
-    regions, pages, bad, limits, count = [], {}, [], None, 0
-    for line in lines:
-        words = [] if line.lstrip().startswith("#") else line.split()
-        if words and words[0] not in ("config", "region", "page", "bad"):
-            break
-        count += 1
-        if not words:
-            continue
-        if words[0] == "config":
-            limits = words[1:]
-        elif words[0] == "region":
-            regions.append((int(words[1], 16), int(words[2]), int(words[3], 16), words[4]))
-        elif words[0] == "page":
-            pages.update({int(words[1], 16) + at: words[3] for at in range(int(words[2]))})
-        else:
-            bad.append(int(words[1], 16) & ~7)
-    clients, quota, ids, depth, longest, largest = map(int, limits[:6])
-    width = int(limits[7]) if len(limits) > 7 else 8
-    setup = Setup(clients, quota, ids, depth, longest, largest, width, tuple(regions), pages, tuple(bad))
-    return setup, limits[6], count
 
 
 def taken(board, words):
@@ -69,10 +42,6 @@ def beat_of(words):
         return channel, ABeat(*values[1:]), values[0]
     if channel == "D":
         return channel, DBeat(*values), values[0]
-    if channel == "W":
-        return channel, values[1:], None
-    if channel == "R":
-        return channel, (values[0], values[2], values[3]), None
     return channel, values, None
 
 
@@ -93,8 +62,8 @@ class Judging:
     """Takes the lines behind a set-up one after another, and keeps which of them are wrong and of which kind."""
 
     def __init__(self, lines):
-        setup, levels, self.first = setup_of(lines)
-        self.board, self.wrong, self.held = Observation(setup, levels), [], None
+        said = setup_of(lines)
+        self.board, self.wrong, self.held, self.first = Observation(said.setup, said.levels), [], None, said.count
 
     def take(self, number, words):
         """A line that isn't empty, and no comment."""
@@ -270,22 +239,20 @@ class Lot:
         return f"D {client} {it.opcode} {it.param} {it.size} {it.source} {it.denied} {it.payload:x} {it.corrupt}"
 
     def axi(self):
-        rng, board = self.rng, self.board
-        lacks = next((it for it in board.writes.bursts if it.came <= it.len), None)
-        whole = [it for it in board.writes.bursts if it.came > it.len]
+        rng, port = self.rng, self.board.port
+        lacks, whole = port.to_fill(), [it for it in port.writes.bursts() if it.came > it.len]
         kind = rng.randrange(5)
         if kind == 0 or kind == 1 and lacks is None:
             size = rng.randrange(4)
             burst = f"{rng.randrange(4)} {rng.randrange(8192):x} {rng.choice((0, 0, 1, 3, 15))} {size} 1"
             return rng.choice(("AW", "AR")) + " " + burst
         if kind == 1:
-            lanes = lacks.transfer(8)[2] & rng.getrandbits(8)
+            lanes = lacks.lanes(8) & rng.getrandbits(8)
             return f"W {rng.getrandbits(64):x} {lanes:x} {int(lacks.is_last())}"
         if kind == 2 and whole:
             return f"B {rng.choice(whole).id} {rng.choice(('OKAY', 'OKAY', 'SLVERR', 'DECERR'))}"
-        if board.reads.bursts:
-            first = rng.choice(board.reads.bursts)
-            first = next(it for it in board.reads.bursts if it.id == first.id)
+        if port.reads.count:
+            first = port.reads.oldest(rng.choice(port.reads.bursts()).id)
             return f"R {first.id} {rng.getrandbits(64):x} {rng.choice(('OKAY', 'SLVERR'))} {int(first.is_last())}"
         return f"B {rng.randrange(5)} OKAY"
 
@@ -319,8 +286,7 @@ def main():
     names, found = sorted(traces), 0
     for _ in range(given.mutated):
         name = rng.choice(names)
-        _, _, first = setup_of(traces[name])
-        found += bool(compare(f"{name}, changed", changed(rng, traces[name], first))[0])
+        found += bool(compare(f"{name}, changed", changed(rng, traces[name], setup_of(traces[name]).count))[0])
     print(f"{found} of {given.mutated} changed traces are wrong")
     lot = Lot(rng)
     for _ in range(given.beats):
@@ -344,7 +310,7 @@ def observations(program):
         trace = script.with_suffix(".trace").read_text().splitlines()
         lines = script.read_text().splitlines()
         if any(it.startswith(("= accepted", "= refused")) for it in trace):
-            found[script.stem] = [*lines[: setup_of(lines)[2]], *trace]
+            found[script.stem] = [*lines[: setup_of(lines).count], *trace]
     return found
 
 

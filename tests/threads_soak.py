@@ -17,17 +17,16 @@ from dataclasses import dataclass
 from pathlib import Path
 
 from ends import told
-from model import ARITHMETIC, GET, INTENT, LOGICAL, PUT_FULL, PUT_PARTIAL, Memory, Setup
+from model import ARITHMETIC, GET, GOOD, INTENT, LOGICAL, PUT_FULL, PUT_PARTIAL, ABeat, Memory, Ranges, Setup, beats_of, full_mask
 
-from client import ABeat, beats_of, byte_of, reply_of  # model.py says where it stands
-from random_bench import full_mask
+from client import byte_of, reply_of  # model.py says where it stands
 
 SECONDS = 120
 MOST_BEATS = 4096
 # TileLink pages 0 to 3 lead to good pages, 4 to one that answers with an error, 5 to one that isn't there. Pages 6 and 7 lead
 # to good pages too, 6 for Gets alone; page 8 is in no region.
 REGIONS = ((0, 6, 0x10, "gpah"), (6, 1, 0x10, "g---"), (7, 1, 0x11, "gpah"))
-PAGES = {0x10: "good", 0x11: "good", 0x12: "good", 0x13: "good", 0x14: "slverr"}
+PAGES = Ranges([(0x10, 4, GOOD), (0x14, 1, "slverr")])
 # Half of all requests lie in these bytes, by way of a page or of another.
 SHARED, ROOM = 0x400, 256
 BAD = (0x10000 + SHARED + 0x48, 0x10000 + SHARED + 0xC0, 0x11000, 0x11FF8, 0x13000)
