@@ -6,13 +6,13 @@ port_models.py: the answer has to be the first rule that a beat breaks. Each ans
 
 import argparse
 import random
-import secrets
 import sys
 from collections import Counter
 from dataclasses import replace
+from pathlib import Path
 from typing import Callable, Iterator, NamedTuple
 
-from ends import started, told
+from ends import asked, started, told
 from model import GET, INTENT, PUT_FULL, PUT_PARTIAL, ABeat, full_mask
 from port_models import ATOMICS, AXI_RULES, NUMBERS, PARAMS, AxiPort, Port, Side, crosses
 
@@ -124,7 +124,7 @@ def offered(rng: random.Random, levels: str, largest: int, counts: Counter) -> t
     return "\n".join(lines) + "\n", "\n".join(trace) + "\n"
 
 
-def of_ports(rng: random.Random, tlbridge: str) -> Iterator:
+def of_ports(rng: random.Random, tlbridge: Path) -> Iterator:
     counts = Counter()
     for levels, largest in PORTS:
         script, trace = offered(rng, levels, largest, counts)
@@ -252,7 +252,7 @@ def observed(port: AxiPort, draw: Callable[[], tuple[str, list]], count: int, lo
     return Observed(*("".join(f"{it}\n" for it in them).encode() for them in (lines, said)), counts, most)
 
 
-def of_axi(rng: random.Random, tlscore: str) -> Iterator:
+def of_axi(rng: random.Random, tlscore: Path) -> Iterator:
     counts = Counter()
     for limits in AXI_PORTS:
         port = AxiPort(*limits)
@@ -262,21 +262,12 @@ def of_axi(rng: random.Random, tlscore: str) -> Iterator:
     yield from often("AXI4 port", counts, AXI_ANSWERS)
 
 
-def cases(tlscore: str, tlbridge: str, seed: str) -> Iterator:
-    print(f"seed {seed}")
-    rng = random.Random(seed)
-    yield from of_ports(rng, tlbridge)
-    yield from of_axi(rng, tlscore)
-
-
-def main() -> int:
-    asked = argparse.ArgumentParser(description=__doc__)
-    asked.add_argument("tlscore")
-    asked.add_argument("tlbridge")
-    asked.add_argument("--seed", default=secrets.token_hex(4))
-    given = asked.parse_args()
-    return told(cases(given.tlscore, given.tlbridge, given.seed))
+def cases(given: argparse.Namespace) -> Iterator:
+    print(f"seed {given.seed}")
+    rng = random.Random(given.seed)
+    yield from of_ports(rng, given.tlbridge)
+    yield from of_axi(rng, given.tlscore)
 
 
 if __name__ == "__main__":
-    sys.exit(main())
+    sys.exit(told(cases(asked(__doc__, "tlscore", "tlbridge", by_lot=True).parse_args())))

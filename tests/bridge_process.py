@@ -10,10 +10,8 @@ installed is named.
     python3 tests/bridge_process.py TLBRIDGE [SCRIPTS] [--requests N] [--seed WORD] [--library FOLDER]
 """
 
-import argparse
 import os
 import random
-import secrets
 import subprocess
 import sys
 import tempfile
@@ -23,7 +21,7 @@ from pathlib import Path
 import script_cases
 import stored
 from c_programs import C, TOP, Part, c_compiler, compile_c, compiled, languages, library_of, watched, wrong_calls
-from ends import Ended, started, told
+from ends import Ended, asked, started, told
 from run_traces import SECONDS, Hostile, Interactive
 
 import random_bench
@@ -227,15 +225,16 @@ def example(folder, library):
         yield f"the example as {name}", why or (None if ran.status == 0 and b"11 22 33 44 55 66 77 88\n" in ran.text else f"{ran}")
 
 
-def cases(asked):
+def cases(given):
+    print(f"seed {given.seed}")
     if not c_compiler():
         print("skipped: the model in the process of a test, as there is no C compiler")
         return
-    folder, why = library_of(asked)
+    folder, why = library_of(given)
     if why:
         yield "the library", why
         return
-    tlbridge, rng = str(Path(asked.tlbridge).resolve()), random.Random(asked.seed)
+    tlbridge, rng = str(given.tlbridge), random.Random(given.seed)
     library = scoreboard.load(folder / "libzuldegei.so")
     with tempfile.TemporaryDirectory() as room:
         program = compiled("bridge_process", TOP / "tests/bridge_process.c", folder=Path(room), library=folder)
@@ -246,21 +245,13 @@ def cases(asked):
         yield from in_python(library)
         yield from refused(library)
         yield from by_words(tlbridge, folder)
-        yield from by_lot(program, tlbridge, library, rng, asked.scripts)
-        yield from benches(tlbridge, library, rng, asked.requests)
-
-
-def main():
-    asked = argparse.ArgumentParser(description=__doc__)
-    asked.add_argument("tlbridge")
-    asked.add_argument("scripts", nargs="?", type=int, default=1_000, help="how many scripts by lot (1,000)")
-    asked.add_argument("--requests", type=int, default=100_000, help="how many requests in the process (100,000)")
-    asked.add_argument("--seed", default=secrets.token_hex(4))
-    asked.add_argument("--library", help="where libzuldegei.a and libzuldegei.so stand (out, where they are built)")
-    given = asked.parse_args()
-    print(f"seed {given.seed}")
-    return told(cases(given))
+        yield from by_lot(program, tlbridge, library, rng, given.scripts)
+        yield from benches(tlbridge, library, rng, given.requests)
 
 
 if __name__ == "__main__":
-    sys.exit(main())
+    words = asked(__doc__, "tlbridge", by_lot=True)
+    words.add_argument("scripts", nargs="?", type=int, default=1_000, help="how many scripts by lot (1,000)")
+    words.add_argument("--requests", type=int, default=100_000, help="how many requests in the process (100,000)")
+    words.add_argument("--library", help="where libzuldegei.a and libzuldegei.so stand (out, where they are built)")
+    sys.exit(told(cases(words.parse_args())))

@@ -12,7 +12,6 @@ isn't installed is named, and what needs it isn't tried.
 import argparse
 import os
 import re
-import shutil
 import subprocess
 import sys
 import tempfile
@@ -20,7 +19,7 @@ from concurrent.futures import ThreadPoolExecutor
 from pathlib import Path
 from typing import Iterator, List, NamedTuple, Optional, Tuple
 
-from ends import told
+from ends import asked, is_there, told
 from in_process_rtl import SYSTEMVERILOG, TOP, UNOPTIMIZED, Simulated, built, failed_wrong, long_setup, run, started
 
 MEMORY, PREDICTOR = SYSTEMVERILOG / "zuldegei_axi_memory.sv", SYSTEMVERILOG / "zuldegei_predictor.sv"
@@ -175,8 +174,7 @@ def calls(library: Path, folder: Path) -> Iterator[Case]:
 
 def replies() -> Iterator[Case]:
     """The comparison of replies, by four states."""
-    if not shutil.which("iverilog"):
-        print("skipped: how the predictor compares replies with x, as iverilog isn't installed")
+    if not is_there("how the predictor compares replies with x", "iverilog"):
         return
     with tempfile.TemporaryDirectory() as room:
         bench = Path(room, "replies.vvp")
@@ -190,11 +188,10 @@ def replies() -> Iterator[Case]:
 
 def in_verilator(given: argparse.Namespace) -> Iterator[Case]:
     """What needs the library, in the simulator."""
-    if not shutil.which("verilator"):
-        print("skipped: the free memory and the predictor in the simulator, as verilator isn't installed")
+    if not is_there("the free memory and the predictor in the simulator", "verilator"):
         return
     with tempfile.TemporaryDirectory() as room, ThreadPoolExecutor(given.jobs) as pool:
-        folder, library = Path(room), Path(given.library or TOP / "out").resolve()
+        folder, library = Path(room), given.library
         yield from calls(library, folder)
         programs = [*pool.map(lambda it: made(it, library, folder), BENCHES)]
         yield from words_tried(programs[0])
@@ -209,14 +206,8 @@ def cases(given: argparse.Namespace) -> Iterator[Case]:
     yield from in_verilator(given)
 
 
-def main() -> int:
-    asked = argparse.ArgumentParser(description=__doc__)
-    asked.add_argument("score", metavar="TLSCORE", type=lambda it: Path(it).resolve())
-    asked.add_argument("--seeds", type=int, default=10, help="how many runs of each (10)")
-    asked.add_argument("--library", help="where libzuldegei.a stands (out)")
-    asked.add_argument("--jobs", type=int, default=os.cpu_count() or 1, help="how many at once (one a processor)")
-    return told(cases(asked.parse_args()))
-
-
 if __name__ == "__main__":
-    sys.exit(main())
+    words = asked(__doc__, "score", over_library=True)
+    words.add_argument("--seeds", type=int, default=10, help="how many runs of each (10)")
+    words.add_argument("--jobs", type=int, default=os.cpu_count() or 1, help="how many at once (one a processor)")
+    sys.exit(told(cases(words.parse_args())))

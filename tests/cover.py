@@ -24,7 +24,7 @@ from html.parser import HTMLParser
 from pathlib import Path
 from typing import Dict, Iterator, List, Optional, Tuple
 
-from ends import told
+from ends import is_there, told
 from score_cases import all_cases
 from waves import RTL, TOP, command
 from zuldegei.command import Fault
@@ -266,8 +266,7 @@ def page(path: Path, bins: Dict[str, list], counts: "Counter[str]") -> Iterator[
 def lcov(folder: Path, bins: Dict[str, list]) -> Iterator[Case]:
     """What lcov and genhtml say of the .info file."""
     hit, groups = sum(it[0] > 0 for it in bins.values()), {it.partition("/")[0] for it in bins}
-    if not shutil.which("lcov") or not shutil.which("genhtml"):
-        print("skipped: lcov and genhtml: Debian's package lcov isn't installed", flush=True)
+    if not is_there("the file for lcov", "lcov", "genhtml"):
         return
     said = subprocess.run(["lcov", "--summary", "all.info"], cwd=folder, capture_output=True, text=True)
     due = f"({hit} of {len(bins)} lines)"

@@ -16,7 +16,7 @@ from pathlib import Path
 from typing import Dict, Iterator, List, Optional, Tuple
 
 from cover import CASES, RUNS, WIDE, read
-from ends import told
+from ends import is_there, told
 from waves import RTL, TOP, command
 from zuldegei.cover_bins import GROUPS, bins_of
 from zuldegei.cover_groups import Covergroups, identifier
@@ -108,8 +108,7 @@ def parsed(folder: Path) -> Iterator[Case]:
 
 def simulated(folder: Path) -> Iterator[Case]:
     """What is sampled in a simulation: the counts of zuldegei-cover, up to the most."""
-    if not shutil.which("verilator"):
-        print("skipped: covergroups in a simulation: Verilator isn't installed", flush=True)
+    if not is_there("covergroups in a simulation", "verilator"):
         return
     shutil.copy(RUNS[2], folder / "run.lines")
     shutil.copy(CASES / "wait.lines", folder / "other.lines")

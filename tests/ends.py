@@ -1,8 +1,16 @@
-"""How a run of a program ends, how that isn't as it is wanted, and the last line of a file of cases."""
+"""What all tests share: the words that they are called by, how a run of a program ends and how that isn't as it is wanted, what isn't
+installed, and the last line."""
 
+import argparse
+import secrets
+import shutil
 import subprocess
+import tempfile
 from dataclasses import dataclass
 from itertools import zip_longest
+from pathlib import Path
+
+TOP = Path(__file__).resolve().parent.parent
 
 # Lines on standard error, as docs/SCRIPT.md has them, and docs/SCOREBOARD.md.
 USAGE, SCORE_USAGE = b"usage: tlbridge run, check or threads\n", b"usage: tlscore [--version]\n"
@@ -36,6 +44,31 @@ class Ended:
         return f"line {number} of {len(self.text)} bytes of text is {got!r}, not {wanted!r}"
 
 
+def asked(page, *files, by_lot=False, over_library=False):
+    """The words of a test: files that it needs by these names, the seed of what it draws by lot, and the folder of the library."""
+    words = argparse.ArgumentParser(description=page, formatter_class=argparse.RawDescriptionHelpFormatter)
+    for name in files:
+        words.add_argument(name, metavar=name.upper(), type=lambda it: Path(it).resolve())
+    if by_lot:
+        words.add_argument("--seed", default=secrets.token_hex(4))
+    if over_library:
+        words.add_argument("--library", type=lambda it: Path(it).resolve(), default=TOP / "out", help="where libzuldegei.a stands (out)")
+    return words
+
+
+def is_there(what, *programs):
+    """Whether all of these programs are installed that something needs; else that is left out, and named."""
+    lacking = [it for it in programs if not shutil.which(it)]
+    if lacking:
+        print(f"skipped: {what}, as {' and '.join(lacking)} {'is' if len(lacking) == 1 else 'are'}n't installed", flush=True)
+    return not lacking
+
+
+def unlike(got, due):
+    """How something isn't what is due, or nothing."""
+    return None if got == due else f"{got!r}, not {due!r}"
+
+
 def started(words, given, seconds=120):
     """Runs a program with its words on a standard input."""
     return Ended.of(subprocess.run(words, input=given, capture_output=True, timeout=seconds))
@@ -50,3 +83,9 @@ def told(cases):
             print(f"FAILED: {name}: {why}", flush=True)
     print(f"{passed} passed, {failed} failed")
     return 1 if failed else 0
+
+
+def told_in_a_folder(cases, *given):
+    """The same of cases that are tried in a folder for temporary files."""
+    with tempfile.TemporaryDirectory() as folder:
+        return told(cases(Path(folder).resolve(), *given))

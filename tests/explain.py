@@ -17,13 +17,12 @@ import shutil
 import struct
 import subprocess
 import sys
-import tempfile
 import zlib
 from collections import Counter
 from pathlib import Path
 from typing import Callable, Dict, Iterator, List, Optional, Tuple
 
-from ends import told
+from ends import is_there, told_in_a_folder
 from stored import observations
 from waves import RTL, TOP, command, one_line
 from zuldegei.causes import Explainer
@@ -442,16 +441,15 @@ def large(browser: str, folder: Path, score: str) -> Optional[str]:
 
 def waved(folder: Path) -> Iterator[Case]:
     """The VCD of each stored run: a string for each beat, and one for each wrong line, at their times; and GTKWave's list of signals."""
+    is_packed = is_there("VCD files made FST", "vcd2fst")
     for name in SIDES:
         lines, verdict = run_of(name)
         vcd = folder / f"{name}.vcd"
         ran = command("wave_of", lines, verdict, vcd)
         yield f"a VCD of {name}", f"status {ran.returncode}, {ran.stderr}" if ran.returncode != 1 else misplaced(vcd, lines, verdict)
-        if shutil.which("vcd2fst"):
+        if is_packed:
             packed = subprocess.run(["vcd2fst", vcd, vcd.with_suffix(".fst")], capture_output=True, text=True)
             yield f"the VCD of {name} as an FST", packed.stderr if packed.returncode else None
-    if not shutil.which("vcd2fst"):
-        print("skipped: VCD files made FST, as vcd2fst isn't installed")
     yield "a VCD of a run without times", untimed(folder)
     ran = command("wave_of", lines, verdict, vcd, "--timescale", "3ns")
     yield "a unit that VCD hasn't", one_line(ran, named=("3ns",), status=6)
@@ -512,5 +510,4 @@ def cases(folder: Path, score: str) -> Iterator[Case]:
 
 
 if __name__ == "__main__":
-    with tempfile.TemporaryDirectory() as made:
-        sys.exit(told(cases(Path(made), sys.argv[1])))
+    sys.exit(told_in_a_folder(cases, sys.argv[1]))

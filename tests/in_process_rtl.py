@@ -23,9 +23,8 @@ from itertools import zip_longest
 from pathlib import Path
 from typing import Iterator, NamedTuple, Optional, Tuple
 
-from ends import told
+from ends import TOP, asked, is_there, told
 
-TOP = Path(__file__).resolve().parent.parent
 sys.path += [str(TOP / "examples/testbench/rtl"), str(TOP / "python")]
 import run
 from zuldegei.latency import End, Latencies
@@ -247,15 +246,13 @@ def tried(bug: str, bench: Path, given: argparse.Namespace) -> Iterator[Case]:
 
 def in_process(given: argparse.Namespace) -> Iterator[Case]:
     """Each bridge under Verilator."""
-    if not shutil.which("verilator"):
-        print("skipped: the scoreboard in the simulator, as verilator isn't installed")
+    if not is_there("the scoreboard in the simulator", "verilator"):
         return
-    library = Path(given.library or TOP / "out").resolve()
     bugs = [given.only] if given.only else [run.RIGHT, *run.BUGS]
     with tempfile.TemporaryDirectory() as room, ThreadPoolExecutor(given.jobs) as pool:
         folder = Path(room)
-        first = made(bugs[0], library, folder, None)
-        benches = [first, *pool.map(lambda bug: made(bug, library, folder, first.parent), bugs[1:])]
+        first = made(bugs[0], given.library, folder, None)
+        benches = [first, *pool.map(lambda bug: made(bug, given.library, folder, first.parent), bugs[1:])]
         for found in pool.map(lambda it: [*tried(*it, given)], zip(bugs, benches)):
             yield from found
         yield from words_tried(first)
@@ -279,8 +276,7 @@ def piped(words: list, asked: run.Asked, score: Path, folder: Path) -> Tuple[str
 
 def by_pipe(given: argparse.Namespace) -> Iterator[Case]:
     """Bridges under Icarus, whose lines tlscore reads while they come."""
-    if not shutil.which("iverilog"):
-        print("skipped: tlscore behind a pipe from the simulator, as iverilog isn't installed")
+    if not is_there("tlscore behind a pipe from the simulator", "iverilog"):
         return
     for bug in PIPED:
         with tempfile.TemporaryDirectory() as room:
@@ -296,15 +292,9 @@ def cases(given: argparse.Namespace) -> Iterator[Case]:
     yield from by_pipe(given) if not given.only else ()
 
 
-def main() -> int:
-    asked = argparse.ArgumentParser(description=__doc__)
-    asked.add_argument("score", metavar="TLSCORE", type=lambda it: Path(it).resolve())
-    asked.add_argument("--seeds", type=int, default=3, help="how many runs of each, by each profile (3)")
-    asked.add_argument("--library", help="where libzuldegei.a stands (out)")
-    asked.add_argument("--only", help="this fault alone")
-    asked.add_argument("--jobs", type=int, default=os.cpu_count() or 1, help="how many at once (one a processor)")
-    return told(cases(asked.parse_args()))
-
-
 if __name__ == "__main__":
-    sys.exit(main())
+    words = asked(__doc__, "score", over_library=True)
+    words.add_argument("--seeds", type=int, default=3, help="how many runs of each, by each profile (3)")
+    words.add_argument("--only", help="this fault alone")
+    words.add_argument("--jobs", type=int, default=os.cpu_count() or 1, help="how many at once (one a processor)")
+    sys.exit(told(cases(words.parse_args())))

@@ -18,7 +18,7 @@ import tempfile
 from pathlib import Path
 from typing import Dict, Iterator, List, Optional, Set, Tuple
 
-from ends import told
+from ends import is_there, told
 from page_commands import BLOCK, SHOWN
 
 TOP = Path(__file__).resolve().parent.parent
@@ -124,8 +124,7 @@ def manuals(root: Path) -> Iterator[Case]:
     odd = {f"{it}.1" for it in programs} ^ {*pages}
     yield "a manual page for each program", f"apart are {sorted(odd)}" if odd else None
     for tool, words in (("mandoc", ["mandoc", "-Tlint"]), ("man", ["man", "--warnings", "-E", "UTF-8", "-l", "-Tutf8", "-Z"])):
-        if not shutil.which(tool):
-            print(f"skipped: manual pages by {tool}, as it isn't installed")
+        if not is_there("manual pages by this tool", tool):
             continue
         for name, path in sorted(pages.items()):
             done = ran([*words, str(path)], env={**os.environ, "LC_ALL": "C.UTF-8", "MANROFFSEQ": "", "MANWIDTH": "80"})
@@ -154,8 +153,7 @@ def versions(root: Path) -> Iterator[Case]:
 
 def compiled(root: Path, room: Path) -> Iterator[Case]:
     """The examples in C, C++ and SystemC, by what pkg-config says, with the shared library and with the static one."""
-    if not (shutil.which("pkg-config") and shutil.which("cc") and shutil.which("c++")):
-        print("skipped: the examples in C and SystemC, as pkg-config or a compiler isn't installed")
+    if not is_there("the examples in C and SystemC", "pkg-config", "cc", "c++"):
         return
     env = {**BARE, "PKG_CONFIG_PATH": str(root / "lib/pkgconfig"), "TMPDIR": str(room), "LD_LIBRARY_PATH": str(root / "lib")}
     flags = ran(["pkg-config", "--cflags", "--libs", "zuldegei"], env=env).stdout.split()

@@ -14,11 +14,10 @@ import re
 import signal
 import subprocess
 import sys
-import tempfile
 from pathlib import Path
 from typing import Dict, Iterator, List, Optional, Sequence, Tuple
 
-from ends import told
+from ends import told_in_a_folder
 from fuzz_commands import called
 from regress import KNOWN, begun, stopped, taken
 from waves import RTL, TOP, command
@@ -403,5 +402,4 @@ def cases(folder: Path, score: str) -> Iterator[Case]:
 
 
 if __name__ == "__main__":
-    with tempfile.TemporaryDirectory() as made_in:
-        sys.exit(told(cases(Path(made_in), str(Path(sys.argv[1]).resolve()))))
+    sys.exit(told_in_a_folder(cases, str(Path(sys.argv[1]).resolve())))

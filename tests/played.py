@@ -6,15 +6,13 @@ the midst of bursts. Where Verilator isn't installed that is said, and nothing i
     python3 tests/played.py TLSCORE [--library FOLDER]
 """
 
-import argparse
 import re
-import shutil
 import sys
 import tempfile
 from pathlib import Path
 from typing import Iterator, Optional, Tuple
 
-from ends import told
+from ends import asked, is_there, told
 from in_process_rtl import NO_LIMIT, SYSTEMVERILOG, TOLD, TOP, UNOPTIMIZED, built, run, started
 from stored import observations
 from systemc import AT_PORTS, END, by_hand, parts
@@ -75,8 +73,7 @@ def memory(program: Path) -> Iterator[Case]:
 
 
 def cases(score: Path, library: Path) -> Iterator[Case]:
-    if not shutil.which("verilator"):
-        print("skipped: the monitor and the predictor by hand, as verilator isn't installed")
+    if not is_there("the monitor and the predictor by hand", "verilator"):
         return
     with tempfile.TemporaryDirectory() as folder:
         program = bench(Path(folder), *FILES, library / "libzuldegei.a", TOP / "tests/played.sv")
@@ -85,13 +82,6 @@ def cases(score: Path, library: Path) -> Iterator[Case]:
         yield from memory(bench(Path(folder), SYSTEMVERILOG / "zuldegei_axi_memory.sv", TOP / "tests/free_memory.sv"))
 
 
-def main() -> int:
-    asked = argparse.ArgumentParser(description=__doc__)
-    asked.add_argument("score", metavar="TLSCORE", type=lambda it: Path(it).resolve())
-    asked.add_argument("--library", help="where libzuldegei.a stands (out)")
-    given = asked.parse_args()
-    return told(cases(given.score, Path(given.library or TOP / "out").resolve()))
-
-
 if __name__ == "__main__":
-    sys.exit(main())
+    given = asked(__doc__, "score", over_library=True).parse_args()
+    sys.exit(told(cases(given.score, given.library)))

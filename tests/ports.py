@@ -5,14 +5,13 @@
 
 import argparse
 import random
-import secrets
 import sys
 from collections import Counter
 from dataclasses import dataclass
 from typing import Iterator
 
 from beats import BROKEN, RESPONSES, observed
-from ends import started, told
+from ends import asked, started, told
 from port_models import AxiPort, Side, crosses
 
 # IDs, bursts of an ID that may be unanswered on a side, and the bytes of the bus: at most 4,096 on a side.
@@ -85,13 +84,7 @@ def cases(given: argparse.Namespace) -> Iterator:
         yield f"beats that break {name}", None if counts[name] else "none"
 
 
-def main() -> int:
-    asked = argparse.ArgumentParser(description=__doc__)
-    asked.add_argument("tlscore")
-    asked.add_argument("beats", nargs="?", type=int, default=100_000)
-    asked.add_argument("--seed", default=secrets.token_hex(4))
-    return told(cases(asked.parse_args()))
-
-
 if __name__ == "__main__":
-    sys.exit(main())
+    words = asked(__doc__, "tlscore", by_lot=True)
+    words.add_argument("beats", nargs="?", type=int, default=100_000)
+    sys.exit(told(cases(words.parse_args())))

@@ -6,9 +6,7 @@ did before. Where yosys, ABC or Icarus isn't installed that is said.
     python3 tests/proof.py TLSCORE [--depth N]
 """
 
-import argparse
 import re
-import shutil
 import subprocess
 import sys
 import tempfile
@@ -16,7 +14,7 @@ from concurrent.futures import ThreadPoolExecutor
 from pathlib import Path
 from typing import Dict, Iterator, List, Optional, Tuple
 
-from ends import told
+from ends import asked, is_there, told
 from waves import command
 
 TOP = Path(__file__).resolve().parent.parent
@@ -118,30 +116,20 @@ def of_flattened(folder: Path) -> Iterator[Case]:
 
 
 def cases(score: str, depth: int) -> Iterator[Case]:
-    lacking = [it for it in ("yosys", "berkeley-abc") if not shutil.which(it)]
     with tempfile.TemporaryDirectory() as name:
         folder = Path(name)
-        if lacking:
-            print(f"skipped: the bounded proof, as {' and '.join(lacking)} isn't installed")
-        else:
+        if is_there("the bounded proof", "yosys", "berkeley-abc"):
             yield from of_words(folder)
             with ThreadPoolExecutor() as pool:
                 waiting = [pool.submit(of_right, folder, depth)]
                 waiting += [pool.submit(of_fault, score, folder, bug, label) for bug, label in FAULTS.items()]
                 yield from (it.result() for it in waiting)
-        if shutil.which("iverilog"):
+        if is_there("the flattened bridges", "iverilog"):
             yield from of_flattened(folder)
-        else:
-            print("skipped: the flattened bridges, as iverilog isn't installed")
-
-
-def main() -> int:
-    asked = argparse.ArgumentParser(description=__doc__, formatter_class=argparse.RawDescriptionHelpFormatter)
-    asked.add_argument("score", metavar="TLSCORE")
-    asked.add_argument("--depth", type=int, default=11, help="how many clocks are looked at of the right bridge (11: those in which each fault fails)")
-    given = asked.parse_args()
-    return told(cases(given.score, given.depth))
 
 
 if __name__ == "__main__":
-    sys.exit(main())
+    words = asked(__doc__, "score")
+    words.add_argument("--depth", type=int, default=11, help="how many clocks are looked at of the right bridge (11: those in which each fault fails)")
+    given = words.parse_args()
+    sys.exit(told(cases(given.score, given.depth)))

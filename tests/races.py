@@ -8,16 +8,14 @@ replied to before they are whole.
     python3 tests/races.py TLSCORE [HISTORIES] [--seed WORD]
 """
 
-import argparse
 import random
 import re
-import secrets
 import sys
 from collections import Counter
 from dataclasses import dataclass
 
 from compared import compared
-from ends import started, told
+from ends import asked, started, told
 from model import ARITHMETIC, GET, GOOD, INTENT, LOGICAL, PUT_FULL, PUT_PARTIAL, ABeat, Memory, Ranges, Setup, applied, beats_of, full_mask
 
 SETUP = Setup(3, 4, 16, 2, 16, 12, 8, ((0, 4, 0x10, "gpah"),), Ranges([(0x10, 1, GOOD)]), ())
@@ -251,13 +249,7 @@ def cases(given):
         yield f"seed {given.seed}: beats that are {what}", None if count >= least else f"{count}, not {least}"
 
 
-def main():
-    asked = argparse.ArgumentParser(description=__doc__)
-    asked.add_argument("tlscore")
-    asked.add_argument("histories", nargs="?", type=int, default=300)
-    asked.add_argument("--seed", default=secrets.token_hex(4))
-    return told(cases(asked.parse_args()))
-
-
 if __name__ == "__main__":
-    sys.exit(main())
+    words = asked(__doc__, "tlscore", by_lot=True)
+    words.add_argument("histories", nargs="?", type=int, default=300)
+    sys.exit(told(cases(words.parse_args())))

@@ -18,7 +18,7 @@ from collections import Counter
 from pathlib import Path
 from typing import Callable, Iterator, List, NamedTuple, Optional, Tuple
 
-from ends import told
+from ends import asked, told
 from explain import BROWSERS, pixels
 from waves import RTL, TOP
 
@@ -123,7 +123,7 @@ def pictured(score: str, folder: Path) -> Iterator[Case]:
 
 
 def cases(given: argparse.Namespace) -> Iterator[Case]:
-    simulator, score = run.installed(), str(Path(given.score).resolve())
+    simulator, score = run.installed(), str(given.score)
     yield from reached(python(given.bridge), given.runs, score)
     with tempfile.TemporaryDirectory() as folder:
         if simulator:
@@ -136,13 +136,7 @@ def cases(given: argparse.Namespace) -> Iterator[Case]:
             print("skipped: the picture of what runs reached: Chromium and iverilog aren't both installed")
 
 
-def main() -> int:
-    asked = argparse.ArgumentParser(description=__doc__)
-    asked.add_argument("score", metavar="TLSCORE")
-    asked.add_argument("bridge", metavar="TLBRIDGE")
-    asked.add_argument("--runs", type=int, default=WHOLE // 10, help=f"how many runs of each ({WHOLE // 10})")
-    return told(cases(asked.parse_args()))
-
-
 if __name__ == "__main__":
-    sys.exit(main())
+    words = asked(__doc__, "score", "bridge")
+    words.add_argument("--runs", type=int, default=WHOLE // 10, help=f"how many runs of each ({WHOLE // 10})")
+    sys.exit(told(cases(words.parse_args())))

@@ -16,14 +16,13 @@ import resource
 import signal
 import subprocess
 import sys
-import tempfile
 import threading
 import time
 from pathlib import Path
 from typing import Iterator, List, Optional, Tuple
 from xml.etree import ElementTree
 
-from ends import told
+from ends import told_in_a_folder
 from waves import RTL, TOP, command
 from zuldegei.beside import Beside, Helpers, Request
 from zuldegei.regress import Runner
@@ -558,5 +557,4 @@ def cases(folder: Path, score: str) -> Iterator[Case]:
 
 
 if __name__ == "__main__":
-    with tempfile.TemporaryDirectory() as made_in:
-        sys.exit(told(cases(Path(made_in), str(Path(sys.argv[1]).resolve()))))
+    sys.exit(told_in_a_folder(cases, str(Path(sys.argv[1]).resolve())))

@@ -12,8 +12,6 @@ tlscore finds. One shape of the ports is played by Verilator too, and yosys read
 import argparse
 import random
 import re
-import secrets
-import shutil
 import subprocess
 import sys
 import tempfile
@@ -23,7 +21,7 @@ from pathlib import Path
 from typing import Deque, Dict, Iterator, List, NamedTuple, Optional, Tuple
 
 from beats import Beats
-from ends import started, told
+from ends import asked, is_there, started, told
 from model import INTENT, ABeat, beats_of
 from port_models import AXI_RULES, NUMBERS, AxiPort, Port, crosses
 
@@ -642,7 +640,7 @@ def cases(given: argparse.Namespace) -> Iterator[Case]:
     print(f"seed {given.seed}")
     counts: Counter = Counter()
     with tempfile.TemporaryDirectory() as folder:
-        if shutil.which("iverilog"):
+        if is_there("the assertions by Icarus", "iverilog"):
             simulator = Simulator("iverilog", Path(folder))
             rng = random.Random(given.seed)
             yield from of_lots(rng, given.score, simulator, given.clocks, given.rounds, counts)
@@ -651,26 +649,14 @@ def cases(given: argparse.Namespace) -> Iterator[Case]:
             yield from of_wires(simulator)
             yield from of_unknown(simulator)
             yield from of_benches(given.score, Path(folder))
-        else:
-            print("skipped: the assertions by Icarus, as iverilog isn't installed")
-        if shutil.which("verilator"):
+        if is_there("the assertions by Verilator", "verilator"):
             yield from by_verilator(given, Path(folder))
-        else:
-            print("skipped: the assertions by Verilator, as it isn't installed")
-    if shutil.which("yosys"):
+    if is_there("the assertions by yosys", "yosys"):
         yield from by_yosys()
-    else:
-        print("skipped: the assertions by yosys, as it isn't installed")
-
-
-def main() -> int:
-    asked = argparse.ArgumentParser(description=__doc__, formatter_class=argparse.RawDescriptionHelpFormatter)
-    asked.add_argument("score", metavar="TLSCORE")
-    asked.add_argument("--seed", default=secrets.token_hex(4))
-    asked.add_argument("--clocks", type=int, default=6_000, help="of each case (6000)")
-    asked.add_argument("--rounds", type=int, default=1, help="how often each shape of the ports is tried (1)")
-    return told(cases(asked.parse_args()))
 
 
 if __name__ == "__main__":
-    sys.exit(main())
+    words = asked(__doc__, "score", by_lot=True)
+    words.add_argument("--clocks", type=int, default=6_000, help="of each case (6000)")
+    words.add_argument("--rounds", type=int, default=1, help="how often each shape of the ports is tried (1)")
+    sys.exit(told(cases(words.parse_args())))

@@ -6,17 +6,15 @@ told are just the lines where such a lane is looked at.
     python3 tests/run_traces.py TLSCORE TLBRIDGE [SCRIPTS] [--seed WORD]
 """
 
-import argparse
 import random
 import re
-import secrets
 import subprocess
 import sys
 from collections import Counter
 from dataclasses import dataclass, field, replace
 
 from compared import Counts, compared
-from ends import told
+from ends import asked, told
 from model import GET
 from port_models import Burst, Side
 from unknown import PAYLOADS, given_lanes, lanes_in, lanes_of_mask, with_unknown
@@ -283,14 +281,7 @@ def cases(given):
         yield f"seed {given.seed}: {what}", None if count >= least else f"{count} times, not {least}"
 
 
-def main():
-    asked = argparse.ArgumentParser(description=__doc__)
-    asked.add_argument("tlscore")
-    asked.add_argument("tlbridge")
-    asked.add_argument("scripts", nargs="?", type=int, default=300)
-    asked.add_argument("--seed", default=secrets.token_hex(4))
-    return told(cases(asked.parse_args()))
-
-
 if __name__ == "__main__":
-    sys.exit(main())
+    words = asked(__doc__, "tlscore", "tlbridge", by_lot=True)
+    words.add_argument("scripts", nargs="?", type=int, default=300)
+    sys.exit(told(cases(words.parse_args())))

@@ -5,21 +5,17 @@ beats by lot.
     python3 tests/scoreboard.py TLSCORE TLBRIDGE [MUTATED] [BEATS] [--seed WORD]
 """
 
-import argparse
 import random
 import re
-import secrets
 import subprocess
 import sys
-import time
-from pathlib import Path
 
 from compared import Counts
+from ends import TOP, asked, told
 from model import GET, LOGICAL, PUT_PARTIAL, ABeat, DBeat, full_mask, setup_of
 from observed import WITHDRAWN, Observation
 from unknown import DIGITS, PAYLOADS, is_unclear, known, lanes_in, with_unknown
 
-TOP = Path(__file__).resolve().parent.parent
 KINDS = {"A": "request", "D": "reply", "AW": "axi", "W": "axi", "B": "axi", "AR": "axi", "R": "axi"}
 FIELDS = {"A": 9, "D": 8, "AW": 5, "AR": 5, "W": 3, "B": 2, "R": 4}
 HEX = {"A": (6, 7, 8), "D": (7,), "AW": (2,), "AR": (2,), "W": (1, 2), "B": (), "R": (2,)}
@@ -257,54 +253,37 @@ class Lot:
         return f"B {rng.randrange(5)} OKAY"
 
 
-def main():
-    asked = argparse.ArgumentParser(description=__doc__)
-    asked.add_argument("tlscore")
-    asked.add_argument("tlbridge")
-    asked.add_argument("mutated", nargs="?", type=int, default=1000)
-    asked.add_argument("beats", nargs="?", type=int, default=1_000_000)
-    asked.add_argument("--seed", default=secrets.token_hex(4))
-    given = asked.parse_args()
+def differs(wanted, got):
+    """The first line that one of them finds wrong and the other doesn't, or the last lines; nothing where they are the same."""
+    first = min(set(wanted[0]) ^ set(got[0]), default=None)
+    return f"line {first[0]}, {first[1]}" if first else None if wanted == got else f"{wanted[1]} and {got[1]}"
+
+
+def cases(given):
     print(f"seed {given.seed}")
-    rng, began, failed, tried = random.Random(given.seed), time.monotonic(), 0, 0
-
-    def compare(what, lines, judge=judged):
-        nonlocal failed, tried
-        tried += 1
-        wanted, got = judge(lines), answered(given.tlscore, lines)
-        if wanted != got:
-            failed += 1
-            print(f"{what}: {differs(wanted, got)}")
-        return wanted
-
-    traces = observations(given.tlbridge)
+    rng, traces, found = random.Random(given.seed), observations(), 0
     for name, lines in traces.items():
-        wrong, _ = compare(name, lines)
-        if wrong:
-            failed += 1
-            print(f"{name}: a right trace is found wrong at line {wrong[0][0]}")
-    names, found = sorted(traces), 0
+        wanted = judged(lines)
+        why = f"a right trace is found wrong at line {wanted[0][0][0]}" if wanted[0] else None
+        yield name, differs(wanted, answered(given.tlscore, lines)) or why
     for _ in range(given.mutated):
-        name = rng.choice(names)
-        found += bool(compare(f"{name}, changed", changed(rng, traces[name], setup_of(traces[name]).count))[0])
+        name = rng.choice(sorted(traces))
+        lines = changed(rng, traces[name], setup_of(traces[name]).count)
+        wanted = judged(lines)
+        found += bool(wanted[0])
+        yield f"{name}, changed", differs(wanted, answered(given.tlscore, lines))
     print(f"{found} of {given.mutated} changed traces are wrong")
     lot = Lot(rng)
     for _ in range(given.beats):
         lot.draw()
-    wrong, counts = compare("beats by lot", lot.set_up + lot.drawn, lot.judging.ended)
-    print(f"{len(wrong)} of {counts[0]} beats by lot are wrong; {time.monotonic() - began:.0f} s")
-    print(f"{tried - failed} passed, {failed} failed")
-    return failed > 0
+    lines = lot.set_up + lot.drawn
+    wrong, counts = wanted = lot.judging.ended(lines)
+    yield "beats by lot", differs(wanted, answered(given.tlscore, lines))
+    print(f"{len(wrong)} of {counts[0]} beats by lot are wrong")
 
 
-def differs(wanted, got):
-    """The first line that one of them finds wrong and the other doesn't, or the last lines."""
-    first = min(set(wanted[0]) ^ set(got[0]), default=None)
-    return f"line {first[0]}, {first[1]}" if first else f"{wanted[1]} and {got[1]}"
-
-
-def observations(program):
-    """The stored traces that `run` prints, each behind its set-up, and a long one."""
+def observations():
+    """The stored traces that `run` prints, each behind its set-up."""
     found = {}
     for script in sorted((TOP / "examples").glob("*.script")):
         trace = script.with_suffix(".trace").read_text().splitlines()
@@ -315,4 +294,7 @@ def observations(program):
 
 
 if __name__ == "__main__":
-    sys.exit(main())
+    words = asked(__doc__, "tlscore", "tlbridge", by_lot=True)
+    words.add_argument("mutated", nargs="?", type=int, default=1000)
+    words.add_argument("beats", nargs="?", type=int, default=1_000_000)
+    sys.exit(told(cases(words.parse_args())))

@@ -5,7 +5,6 @@ judged. Slurm is one of the test's own, on this machine, with its sockets, ports
     python3 tests/slurm.py TLSCORE [--seeds N] [--in N]
 """
 
-import argparse
 import contextlib
 import json
 import os
@@ -15,12 +14,11 @@ import signal
 import socket
 import subprocess
 import sys
-import tempfile
 import time
 from pathlib import Path
 from typing import Dict, Iterator, List, Optional, Tuple
 
-from ends import told
+from ends import asked, told_in_a_folder
 from parts import Made, apart
 from regress import begun, stopped
 from waves import RTL, command
@@ -209,10 +207,8 @@ def cases(folder: Path, score: str, seeds: int, of: int) -> Iterator[Case]:
 
 
 if __name__ == "__main__":
-    asked = argparse.ArgumentParser(description=__doc__, formatter_class=argparse.RawDescriptionHelpFormatter)
-    asked.add_argument("tlscore")
-    asked.add_argument("--seeds", type=int, default=8, help="how many runs the night has")
-    asked.add_argument("--in", type=int, default=4, dest="of", help="in how many parts")
-    given = asked.parse_args()
-    with tempfile.TemporaryDirectory() as made_in:
-        sys.exit(told(cases(Path(made_in), str(Path(given.tlscore).resolve()), given.seeds, given.of)))
+    words = asked(__doc__, "tlscore")
+    words.add_argument("--seeds", type=int, default=8, help="how many runs the night has")
+    words.add_argument("--in", type=int, default=4, dest="of", help="in how many parts")
+    given = words.parse_args()
+    sys.exit(told_in_a_folder(cases, str(given.tlscore), given.seeds, given.of))

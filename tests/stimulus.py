@@ -16,7 +16,7 @@ from collections import Counter
 from pathlib import Path
 from typing import Iterator, List, NamedTuple, Optional, Sequence, Set, Tuple
 
-from ends import told
+from ends import asked, told
 from waves import RTL, TOP
 
 sys.path[:0] = [str(RTL.parent), str(TOP / "python")]
@@ -413,7 +413,7 @@ def at_the_model(program: str) -> Iterator[Case]:
 def cases(given: argparse.Namespace) -> Iterator[Case]:
     yield from by_hand()
     yield from cards(given.seed)
-    program = str(Path(given.bridge).resolve())
+    program = str(given.bridge)
     yield from legal(program, given.seed)
     yield from carried_out(program, given.seed)
     yield from at_the_model(program)
@@ -421,12 +421,7 @@ def cases(given: argparse.Namespace) -> Iterator[Case]:
         yield from command(Path(folder))
 
 
-def main() -> int:
-    asked = argparse.ArgumentParser(description=__doc__)
-    asked.add_argument("bridge", metavar="TLBRIDGE")
-    asked.add_argument("--seed", default="1")
-    return told(cases(asked.parse_args()))
-
-
 if __name__ == "__main__":
-    sys.exit(main())
+    words = asked(__doc__, "bridge")
+    words.add_argument("--seed", default="1")
+    sys.exit(told(cases(words.parse_args())))

@@ -9,14 +9,13 @@ tell faults in corners; the right bridge isn't blamed. A simulator that isn't in
 import argparse
 import os
 import re
-import shutil
 import subprocess
 import sys
 import tempfile
 from pathlib import Path
 from typing import Iterator, List, NamedTuple, Optional, Tuple
 
-from ends import told
+from ends import asked, is_there, told
 from in_process_rtl import UNOPTIMIZED, built
 from waves import RTL
 
@@ -156,7 +155,6 @@ def tenth(simulator: str, given: argparse.Namespace, folder: Path) -> Iterator[C
 
 
 def cases(given: argparse.Namespace) -> Iterator[Case]:
-    given.score, given.bridge = (str(Path(it).resolve()) for it in (given.score, given.bridge))
     simulator = run.installed()
     if not simulator:
         print(f"skipped: a stimulus in a simulator, as neither {' nor '.join(run.SIMULATORS)} is installed")
@@ -169,19 +167,10 @@ def cases(given: argparse.Namespace) -> Iterator[Case]:
         yield from within_messages(program, folder, given)
         yield from at_fault(program, folder)
         yield from clocks_kept(program, folder)
-        if all(map(shutil.which, run.SIMULATORS)):
+        if is_there("a stimulus in both simulators", *run.SIMULATORS):
             yield from alike(program, Path(tempfile.mkdtemp(dir=folder)))
-        else:
-            print("skipped: a stimulus in both simulators, as they aren't both installed")
         yield from tenth(simulator, given, folder)
 
 
-def main() -> int:
-    asked = argparse.ArgumentParser(description=__doc__)
-    asked.add_argument("score", metavar="TLSCORE")
-    asked.add_argument("bridge", metavar="TLBRIDGE")
-    return told(cases(asked.parse_args()))
-
-
 if __name__ == "__main__":
-    sys.exit(main())
+    sys.exit(told(cases(asked(__doc__, "score", "bridge").parse_args())))

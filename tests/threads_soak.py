@@ -7,16 +7,13 @@ A seed makes the scripts and their words; the schedule is the machine's. A run m
 200,000 if it isn't told otherwise. --rates tells how many requests and steps a second 1, 2, 4 and 8 clients make.
 """
 
-import argparse
 import random
-import secrets
 import subprocess
 import sys
 import time
 from dataclasses import dataclass
-from pathlib import Path
 
-from ends import told
+from ends import asked, told
 from model import ARITHMETIC, GET, GOOD, INTENT, LOGICAL, PUT_FULL, PUT_PARTIAL, ABeat, Memory, Ranges, Setup, beats_of, full_mask
 
 from client import byte_of, reply_of  # model.py says where it stands
@@ -204,19 +201,12 @@ def cases(program, runs, seed, most):
         yield f"seed {own}, width {width}, {memories} memory threads", soak(program, own, width, memories, most)
 
 
-def main():
-    words = argparse.ArgumentParser(description="eight clients at once against a plain memory")
-    words.add_argument("program")
+if __name__ == "__main__":
+    words = asked(__doc__, "program", by_lot=True)
     words.add_argument("runs", nargs="?", type=int, default=3)
-    words.add_argument("--seed", default=secrets.token_hex(4))
     words.add_argument("--steps", type=int, default=200_000)
     words.add_argument("--rates", action="store_true")
     given = words.parse_args()
-    program = str(Path(given.program).resolve())
     if given.rates:
-        rates(program, given.seed, given.steps)
-    return told(cases(program, given.runs, given.seed, given.steps))
-
-
-if __name__ == "__main__":
-    sys.exit(main())
+        rates(given.program, given.seed, given.steps)
+    sys.exit(told(cases(given.program, given.runs, given.seed, given.steps)))

@@ -9,16 +9,13 @@ import argparse
 import json
 import random
 import re
-import resource
-import secrets
 import subprocess
 import sys
-import tempfile
 from collections import Counter
 from pathlib import Path
 from typing import Dict, Iterator, List, NamedTuple, Optional, Sequence, Tuple
 
-from ends import told
+from ends import asked, told_in_a_folder
 from stored import observations
 from waves import RTL, TOP, command
 
@@ -255,9 +252,6 @@ def cases(folder: Path, given: argparse.Namespace) -> Iterator[Case]:
 
 
 if __name__ == "__main__":
-    words = argparse.ArgumentParser()
-    words.add_argument("score", type=lambda it: Path(it).resolve())
-    words.add_argument("--seed", default=secrets.token_hex(4))
+    words = asked(__doc__, "score", by_lot=True)
     words.add_argument("--histories", type=int, default=40)
-    with tempfile.TemporaryDirectory() as made_in:
-        sys.exit(told(cases(Path(made_in), words.parse_args())))
+    sys.exit(told_in_a_folder(cases, words.parse_args()))

@@ -6,17 +6,15 @@ simulator of Debian reads it.
     python3 tests/uvm.py [--library FOLDER]
 """
 
-import argparse
 import os
 import re
-import shutil
 import subprocess
 import sys
 import tempfile
 from pathlib import Path
 from typing import Iterator, List, Optional, Tuple
 
-from ends import told
+from ends import asked, is_there, told
 from in_process_rtl import SYSTEMVERILOG, UNOPTIMIZED, built
 from waves import RTL, TOP
 
@@ -95,8 +93,7 @@ def of_run(bench: Path, name: str) -> Iterator[Case]:
 
 
 def cases(library: Path) -> Iterator[Case]:
-    if not all(map(shutil.which, ("verilator", "cc"))):
-        print("skipped: the recorder for UVM, as verilator and a C compiler aren't both installed")
+    if not is_there("the recorder for UVM", "verilator", "cc"):
         return
     with tempfile.TemporaryDirectory() as folder:
         stand_in = Path(folder) / "stand_in.o"
@@ -121,11 +118,5 @@ def cases(library: Path) -> Iterator[Case]:
             yield from judged(bench, name)
 
 
-def main() -> int:
-    asked = argparse.ArgumentParser(description=__doc__)
-    asked.add_argument("--library", type=Path, default=TOP / "out", help="where libzuldegei.a stands (out)")
-    return told(cases(asked.parse_args().library.resolve() / "libzuldegei.a"))
-
-
 if __name__ == "__main__":
-    sys.exit(main())
+    sys.exit(told(cases(asked(__doc__, over_library=True).parse_args().library / "libzuldegei.a")))

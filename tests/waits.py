@@ -7,7 +7,6 @@ installed is named.
     python3 tests/waits.py TLSCORE [--library FOLDER]
 """
 
-import argparse
 import json
 import re
 import shutil
@@ -17,7 +16,7 @@ import tempfile
 from pathlib import Path
 from typing import Iterator, List, Optional, Tuple
 
-from ends import told
+from ends import asked, is_there, told, unlike
 from in_process_rtl import ABORTED, NO_LIMIT, SYSTEMVERILOG, TOLD, TOP, UNOPTIMIZED, Simulated, built, run, started
 from waves import command
 
@@ -39,10 +38,6 @@ COMMANDS = {"explain": ("lines", "told"), "wave_of": ("lines", "told", "vcd")}
 # What zuldegei-times has of them.
 WAITED = (TOP / "tests/waits.tables").read_text()
 Case = Tuple[str, Optional[str]]
-
-
-def unlike(got: object, due: object) -> Optional[str]:
-    return None if got == due else f"{got!r}, not {due!r}"
 
 
 def judged(score: Path, text: str) -> List[str]:
@@ -68,8 +63,7 @@ def by_print(name: str, words: List[str], folder: Path) -> Iterator[Case]:
 
 
 def by_icarus() -> Iterator[Case]:
-    if not shutil.which("iverilog"):
-        print("skipped: waits by Icarus, as iverilog isn't installed")
+    if not is_there("waits by Icarus", "iverilog"):
         return
     with tempfile.TemporaryDirectory() as room:
         program = f"{room}/bench.vvp"
@@ -95,8 +89,7 @@ def written(program: Path, *words: str) -> Tuple[Simulated, str]:
 
 
 def by_verilator(score: Path, library: Path) -> Iterator[Case]:
-    if not shutil.which("verilator"):
-        print("skipped: waits by Verilator, as verilator isn't installed")
+    if not is_there("waits by Verilator", "verilator"):
         return
     with tempfile.TemporaryDirectory() as room:
         program = bench(Path(room), library)
@@ -165,13 +158,6 @@ def cases(score: Path, library: Path) -> Iterator[Case]:
     yield from by_verilator(score, library)
 
 
-def main() -> int:
-    asked = argparse.ArgumentParser(description=__doc__)
-    asked.add_argument("score", metavar="TLSCORE", type=lambda it: Path(it).resolve())
-    asked.add_argument("--library", help="where libzuldegei.a stands (out)")
-    given = asked.parse_args()
-    return told(cases(given.score, Path(given.library or TOP / "out").resolve()))
-
-
 if __name__ == "__main__":
-    sys.exit(main())
+    given = asked(__doc__, "score", over_library=True).parse_args()
+    sys.exit(told(cases(given.score, given.library)))

@@ -7,7 +7,6 @@ standard prints them. And the fill lines of memory images.
     python3 tests/waves.py TLSCORE [--all]
 """
 
-import argparse
 import gzip
 import io
 import itertools
@@ -20,13 +19,12 @@ import shutil
 import struct
 import subprocess
 import sys
-import tempfile
 import threading
 import time
 from pathlib import Path
 from typing import Dict, Iterator, List, NamedTuple, Optional, Tuple
 
-from ends import told
+from ends import asked, is_there, told_in_a_folder
 
 TOP = Path(__file__).resolve().parent.parent
 RTL, DUMPS = TOP / "examples/testbench/rtl", TOP / "tests/dumps"
@@ -631,10 +629,8 @@ def images(folder: Path, score: str) -> Iterator[Case]:
         wanted = {0x10000 + int(line.split()[0], 16): int(line.split()[1], 16) for line in ran.stdout.splitlines() if " " in line[4:5]}
         got = filled(command("fill", folder / "words.hex", "--at", "10000"))
         yield "what $readmemh reads, as Icarus does", None if got == wanted and len(got) > 40 else f"{got}, not {wanted}"
-    if shutil.which("objcopy"):
+    if is_there("the image of an ELF", "objcopy"):
         yield "an ELF, as objcopy has it", elf(folder)
-    else:
-        print("skipped: the image of an ELF, as objcopy isn't installed")
     yield from elves(folder)
     data = random.Random(3).randbytes(100)
     (folder / "image.bin").write_bytes(data)
@@ -710,30 +706,18 @@ def cases(folder: Path, score: str, faults: Tuple[str, ...]) -> Iterator[Case]:
     yield from counts_told(folder)
     yield from shown_maps()
     yield from images(folder, score)
-    if shutil.which("iverilog"):
+    if is_there("dumps by Icarus", "iverilog"):
         yield from icarus(folder)
         yield from styles(folder)
         yield two_clocks(folder, "iverilog")
-        if shutil.which("fst2vcd"):
+        if is_there("FST", "fst2vcd"):
             yield from fst(folder)
-        else:
-            print("skipped: FST, as fst2vcd isn't installed")
-    else:
-        print("skipped: dumps by Icarus, as iverilog isn't installed")
-    if shutil.which("verilator") and shutil.which("fst2vcd"):
+    if is_there("dumps by Verilator", "verilator", "fst2vcd"):
         yield from verilator(folder, faults)
-    else:
-        print("skipped: dumps by Verilator, as verilator or fst2vcd isn't installed")
-
-
-def main() -> int:
-    asked = argparse.ArgumentParser(description=__doc__)
-    asked.add_argument("tlscore")
-    asked.add_argument("--all", action="store_true", help="also each fault by Verilator, which takes long to build each")
-    given = asked.parse_args()
-    with tempfile.TemporaryDirectory() as folder:
-        return told(cases(Path(folder), given.tlscore, run.BUGS if given.all else ()))
 
 
 if __name__ == "__main__":
-    sys.exit(main())
+    words = asked(__doc__, "tlscore")
+    words.add_argument("--all", action="store_true", help="also each fault by Verilator, which takes long to build each")
+    given = words.parse_args()
+    sys.exit(told_in_a_folder(cases, given.tlscore, run.BUGS if given.all else ()))
