@@ -7,10 +7,12 @@ there, and behind arrows what is printed, the line on standard error last.
 """
 
 import re
+from enum import IntEnum
 from pathlib import Path
-from typing import Iterator, List, NamedTuple, Optional
+from typing import Dict, Iterator, List, NamedTuple, Optional, Type
 
-TOP = Path(__file__).resolve().parent.parent
+from ends import TOP, unlike
+
 TEXT = {".lines": ".told", ".script": ".trace"}
 # The status of a fault, and what a text has that ends with status 1, by the word of a run: what is found wrong, or refused.
 FAULTS = {b"script": 2, b"set-up": 2, b"thread": 5}
@@ -88,6 +90,32 @@ def observations(folder: Path) -> List[Path]:
     if not found:
         raise FileNotFoundError(f"{folder} has no observation")
     return found
+
+
+class Call(NamedTuple):
+    """A call in Python that isn't carried out (tests/calls/README.md): the call, and the status and the text of its error."""
+
+    name: str
+    call: str
+    status: str
+    text: str
+
+    def wrong(self, names: Dict[str, object], error: Type[Exception], statuses: Type[IntEnum]) -> Optional[str]:
+        """How the call, among these names, doesn't raise its error."""
+        try:
+            return f"it gave {eval(self.call, names)!r}"
+        except error as why:
+            return unlike((why.status, str(why)), (eval(self.status, dict(statuses.__members__)), self.text))
+        except Exception as why:
+            return f"it raised {type(why).__name__}: {why}"
+
+
+def calls(file: Path) -> Iterator[Call]:
+    """The calls of a file of them."""
+    for block in file.read_text().strip().split("\n\n"):
+        name, call, end = block.splitlines()
+        status, _, text = end.removeprefix("-> ").partition(": ")
+        yield Call(name[2:], call, status, text)
 
 
 def scripts() -> Iterator[Case]:
