@@ -28,12 +28,11 @@ import tempfile
 import traceback
 from collections import Counter
 from pathlib import Path
-from typing import Callable, Dict, Iterator, List, NamedTuple, Optional, Sequence, Tuple
+from typing import Dict, Iterator, List, NamedTuple, Optional, Sequence, Tuple
 from xml.etree import ElementTree
 
 from ends import told
 from waves import HAND, MAP, RTL, TOP, UNKNOWN, a_beat, command, hand
-from waves import WORDS as WORDS_OF_AN_IMAGE
 from zuldegei import vcd
 from zuldegei.command import Fault, Status
 from zuldegei.cover_read import Reader
@@ -172,7 +171,7 @@ class Inputs:
         self.maps += [it.read_bytes() for it in sorted((TOP / "tests/dumps").glob("*.map"))]
         self.counts = cover_of("a run", Reader().read(self.runs[0][0].decode().splitlines(True))).json().encode()
         self.parts = parts_of(score, self.runs[: self.stored : 3])
-        self.images = [WORDS_OF_AN_IMAGE.encode(), b"\1\2\3" * 40]
+        self.images = [(TOP / "tests/images/words.hex").read_bytes(), b"\1\2\3" * 40]
         self.images += [elf(kind, order) for kind, order in itertools.product((1, 2), "<>")]
 
     def waves(self, lot: random.Random) -> Call:

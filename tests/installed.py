@@ -31,16 +31,6 @@ NEEDED = {"verilator": "verilator", "g++": "g++", "pkg-config": "pkg-config", "i
           "prove.py": "berkeley-abc", "small_bridge.sv": "yosys"}  # fmt: skip
 LIST = "share/zuldegei/installed.list"
 MODULES = ("waves", "fill", "explain", "wave-of", "times", "regress", "cover", "stimulus")
-# A stand-in for rt, which puts what was given where rt puts what it builds.
-RT = """#!/bin/sh
-name=${PWD##*/}
-case $1 in
-version) echo 'stand-in 1' ;;
-doc) echo "$GIVEN/kit/READ.md" ;;
-run) mkdir -p out && cp "$GIVEN/$name" "out/$name" ;;
-lib) mkdir -p out && cp "$GIVEN/lib$name.a" "out/lib$name.a" ;;
-esac
-"""
 CRATES = "tlbridge:\ntlscore:\nzuldegei staticlib:\n"
 # Words that can't be, of each script: the status and the start of what is said.
 WRONG_WORDS = (
@@ -239,8 +229,7 @@ def copied(room: Path, name: str, given: Path) -> Tuple[Path, Dict[str, str]]:
         (copy / f"crates/{crate}/src/main.rt").write_text("a source\n")
     (copy / "crates.txt").write_text(CRATES)
     (room / "path").mkdir(exist_ok=True)
-    (room / "path/rt").write_text(RT)
-    (room / "path/rt").chmod(0o755)
+    shutil.copy(TOP / "tests/stand_ins/rt_that_copies", room / "path/rt")
     return copy, {**os.environ, "PATH": f"{room / 'path'}:{os.environ['PATH']}", "GIVEN": str(given)}
 
 

@@ -11,6 +11,7 @@ import json
 import os
 import random
 import re
+import shutil
 import signal
 import subprocess
 import sys
@@ -298,27 +299,14 @@ def worded() -> Iterator[Case]:
         yield f"the words {' '.join(words)}", None if (status, said.count("\n")) == (6, 1) else f"{status}, {said!r}"
 
 
-SBATCH = """#!/bin/sh
-for word; do case $word in --array=1-*) of=${word#--array=1-};; --output=*) logs=${word#--output=};; esac; done
-logs=$(echo "${logs%AT.log}" | sed 's/PERPER/PER/g')
-for told; do echo "$told"; done >called
-AHEAD
-echo 7
-number=0
-while [ $number -lt $of ]; do
-    number=$((number + 1))
-    SLURM_ARRAY_TASK_ID=$number sh "$word" >"$logs$number.log" 2>&1
-done
-""".replace("AT", "%a").replace("PER", "%")
-
-
 def stand_ins(folder: Path, ahead: str = "") -> Dict[str, str]:
-    """Stand-ins for Slurm's commands; sbatch makes the parts here, one behind the other. They are first on PATH."""
+    """Stand-ins for Slurm's commands, and for what the page's lines call: first on PATH, and with what they do by their variables."""
     (folder / "bin").mkdir(exist_ok=True)
-    for name, text in (("sbatch", SBATCH.replace("AHEAD", ahead)), ("scancel", '#!/bin/sh\necho "$1" >>cancelled\n'), ("squeue", "#!/bin/sh\n")):
-        (folder / "bin" / name).write_text(text)
-        (folder / "bin" / name).chmod(0o755)
-    return {"PATH": f"{folder / 'bin'}:/usr/bin:/bin"}
+    for name in ("sbatch", "scancel", "squeue", "bsub", "ssh", "zuldegei-regress"):
+        shutil.copy(TOP / "tests/stand_ins" / name, folder / "bin")
+    shutil.copy(TOP / "tests/stand_ins/simulate", folder)
+    variables = {"AHEAD": ahead, "RIGHT": str(RIGHT), "PYTHON": sys.executable, "PACKAGE": str(TOP / "python")}
+    return {"PATH": f"{folder / 'bin'}:/usr/bin:/bin", **variables}
 
 
 def by_stand_ins(folder: Path, score: str) -> Iterator[Case]:
@@ -349,36 +337,12 @@ def by_stand_ins(folder: Path, score: str) -> Iterator[Case]:
     yield "no sbatch", refused(ran, 3, "sbatch can't be run")
 
 
-# Stand-ins for what the page's lines call: bsub makes the jobs of an array here, and ssh does what a machine is told.
-PAGE = {
-    "zuldegei-regress": f'#!/bin/sh\nPYTHONPATH={TOP}/python PYTHONDONTWRITEBYTECODE=1 exec {sys.executable} -m zuldegei.regress "$@"\n',
-    "ssh": """#!/bin/sh
-[ "$1" = -n ] && echo "$2" >>machines && cd / && exec sh -c "$3"
-""",
-    "bsub": """#!/bin/sh
-of=1
-while [ $# -gt 1 ]; do
-    case $1$2 in "-Jnight[1-8]") of=8;; -wended*) [ -e night/part-8.log ] || exit 9;; esac
-    [ "$1" != -o ] || log=$2
-    shift 2
-done
-for LSB_JOBINDEX in $(seq $of); do
-    export LSB_JOBINDEX
-    sh -c "$1" >"$(echo "$log" | sed "s/%I/$LSB_JOBINDEX/")" 2>&1
-done
-""",
-    "../simulate": "#!/bin/sh\n[ $1 = 17 ] || exec cat RIGHT\n",
-}
-
-
 def on_the_page(folder: Path, score: str) -> Iterator[Case]:
     """The lines of the page for LSF and ssh, by stand-ins: the files are those of one call."""
     variables = {**stand_ins(folder), "TLSCORE": score}
-    for name, text in PAGE.items():
-        (folder / "bin" / name).write_text(text.replace("RIGHT", str(RIGHT)))
-        (folder / "bin" / name).chmod(0o755)
     text = (TOP / "python/README.md").read_text()
-    one = command("regress", "--seeds", "1-20", "--command", "./simulate {seed}", "--junit", "one.xml", "--score", score, cwd=folder)
+    words = ("--seeds", "1-20", "--command", "./simulate {seed}", "--junit", "one.xml", "--score", score)
+    one = command("regress", *words, cwd=folder, environment={"RIGHT": str(RIGHT)})
     due = TIMES.sub("", (folder / "one.xml").read_text())
     for name in ("LSF", "ssh"):
         lines = re.search(rf"(?m)^    # {name}: .*\n((?:    .*\n)+)", text)[1].replace("1-200", "1-20")

@@ -18,42 +18,14 @@ import time
 from pathlib import Path
 from typing import Dict, Iterator, List, Optional, Tuple
 
-from ends import asked, told_in_a_folder
+from ends import TOP, asked, told_in_a_folder
 from parts import Made, apart
 from regress import begun, stopped
 from waves import RTL, command
 
 PROGRAMS = ("munged", "slurmctld", "slurmd", "sbatch", "scancel", "squeue", "sinfo")
 SECONDS, MOST = 60, 600  # in which the daemons are there, or have ended; and in which all has, but for 2 for each seed
-CONFIG = """ClusterName=test
-SlurmctldHost={host}(127.0.0.1)
-SlurmctldPort={ports[0]}
-SlurmdPort={ports[1]}
-SlurmUser={user}
-SlurmdUser={user}
-AuthType=auth/munge
-AuthInfo=socket={folder}/munge.socket
-CredType=cred/munge
-StateSaveLocation={folder}/state
-SlurmdSpoolDir={folder}/spool
-SlurmctldPidFile={folder}/slurmctld.pid
-SlurmdPidFile={folder}/slurmd.pid
-SlurmdParameters=config_overrides
-ProctrackType=proctrack/pgid
-TaskPlugin=task/none
-SwitchType=switch/none
-MpiDefault=none
-SelectType=select/cons_tres
-SelectTypeParameters=CR_CPU
-JobAcctGatherType=jobacct_gather/none
-AccountingStorageType=accounting_storage/none
-JobCompType=jobcomp/none
-ReturnToService=2
-SchedulerParameters=batch_sched_delay=0,sched_interval=1,sched_min_interval=0
-MinJobAge=4
-NodeName=node NodeHostname={host} NodeAddr=127.0.0.1 CPUs=4 State=UNKNOWN
-PartitionName=all Nodes=ALL Default=YES MaxTime=INFINITE State=UP
-"""
+CONFIG = (TOP / "tests/slurm.conf").read_text()
 PATH = f"{os.environ['PATH']}:/usr/sbin:/sbin"  # where the daemons may be
 USER = pwd.getpwuid(os.getuid()).pw_name
 RUNS = sorted((RTL / "runs").glob("*.lines"))

@@ -20,20 +20,13 @@ from waves import RTL, TOP
 
 FILES = (SYSTEMVERILOG / "zuldegei_pkg.sv", TOP / "tests/uvm_pkg.sv", SYSTEMVERILOG / "zuldegei_uvm.sv", TOP / "tests/uvm.sv")
 RUNS = ("answered-early", "cut-short", "page-crossed")
-MACROS = """`define uvm_object_utils(T)
-`define uvm_component_utils(T)
-`define uvm_fatal(ID, MSG) begin $display("fatal %s: %s", ID, MSG); $finish; end
-`define uvm_error(ID, MSG) begin $display("error %s: %s", ID, MSG); end
-`define uvm_info(ID, MSG, LEVEL) begin $display("info %s: %s", ID, MSG); end
-"""
 SETUP = ("config", "region", "page", "bad", "profile", "errors", "axi", "x", "fill")
 Case = Tuple[str, Optional[str]]
 
 
 def made(folder: Path, library: Path) -> Path:
     """The recorder with its stand-ins, over a library."""
-    (folder / "uvm_macros.svh").write_text(MACROS)
-    words = ["verilator", "--cc", "--exe", "--main", "--timing", "-Wno-fatal", f"-I{folder}", "--top-module", "uvm", "-Mdir", str(folder)]
+    words = ["verilator", "--cc", "--exe", "--main", "--timing", "-Wno-fatal", f"-I{TOP / 'tests'}", "--top-module", "uvm", "-Mdir", str(folder)]
     built([*words, "-o", "bench", *map(str, FILES), str(library)], TOP, "the recorder")
     built(["make", "-s", "-f", "Vuvm.mk", *UNOPTIMIZED], folder, "the recorder")
     return folder / "bench"

@@ -599,19 +599,6 @@ def refusal(ended: Tuple[str, str], named: str) -> Optional[str]:
     return None if named in ended[1] and not ended[0] else f"it said {ended[1]!r} behind {ended[0]!r}"
 
 
-WORDS = "// two words, and others\n1122334455667788 99aabbccddeeff00\n@5 x1 zz00 /* a\n comment */ dead_beef\n@3 1x000000000002"
-READS = """module top;
-    logic [63:0] words[8];
-    initial begin
-        for (int i = 0; i < 8; i++) words[i] = 'x;
-        $readmemh("words.hex", words);
-        for (int i = 0; i < 64; i++) if (^words[i/8][i%8*8+:8] !== 1'bx) $display("%h %h", 16'(i), words[i/8][i%8*8+:8]);
-    end
-endmodule
-"""
-IMAGE = 'const char text[] = "hello, memory"; long more[40] = {1, 2, 3, [39] = -1}; int zeros[20]; void _start(void) {}\n'
-
-
 def filled(ran: subprocess.CompletedProcess) -> Dict[int, int]:
     """The bytes of fill lines, each of which has 32 at the most."""
     lines = [line.split() for line in ran.stdout.splitlines()]
@@ -621,9 +608,8 @@ def filled(ran: subprocess.CompletedProcess) -> Dict[int, int]:
 
 def images(folder: Path, score: str) -> Iterator[Case]:
     """The fill lines of each kind of image."""
-    (folder / "words.hex").write_text(WORDS)
+    shutil.copytree(TOP / "tests/images", folder, dirs_exist_ok=True)
     if shutil.which("iverilog"):
-        (folder / "reads.sv").write_text(READS)
         run.simulated(["iverilog", "-g2012", "-o", str(folder / "reads"), str(folder / "reads.sv")])
         ran = subprocess.run(["vvp", "-n", str(folder / "reads")], capture_output=True, text=True, cwd=folder)
         wanted = {0x10000 + int(line.split()[0], 16): int(line.split()[1], 16) for line in ran.stdout.splitlines() if " " in line[4:5]}
@@ -654,7 +640,6 @@ def images(folder: Path, score: str) -> Iterator[Case]:
 
 def elf(folder: Path) -> Optional[str]:
     """An ELF's fill lines, and whether one that is cut is refused."""
-    (folder / "image.c").write_text(IMAGE)
     linked = ["-nostdlib", "-static", "-Wl,-Ttext=0x80000000", "-Wl,--build-id=none", "-Wl,-z,noseparate-code", "-fno-pie", "-no-pie"]
     subprocess.run(["cc", *linked, "-o", "image.elf", "image.c"], cwd=folder, check=True, capture_output=True)
     subprocess.run(["objcopy", "-O", "binary", "image.elf", "image.bin"], cwd=folder, check=True)
