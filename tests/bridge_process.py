@@ -134,9 +134,9 @@ def by_words(tlbridge, library):
 
 def in_python(library):
     """Wrong calls of the class, and what the program has no command for."""
-    for it in stored.calls(TOP / "tests/calls/bridge.calls"):
+    for it in stored.blocks(TOP / "tests/calls/bridge.calls"):
         with Bridge(SETUP, library) as bridge:
-            why = it.wrong({**globals(), "bridge": bridge, "library": library}, BridgeError, Error)
+            why = it.refused({**globals(), "bridge": bridge, "library": library}, BridgeError, Error)
             yield it.name, why or (None if bridge.work() == 0 and bridge.choices() == 0 else "the bridge has changed")
     try:
         yield "a bridge that was closed", f"it gave {bridge.drain()!r}"

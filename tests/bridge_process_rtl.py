@@ -12,6 +12,7 @@ isn't installed is named, and what needs it isn't tried.
 import argparse
 import os
 import re
+import shutil
 import subprocess
 import sys
 import tempfile
@@ -19,6 +20,7 @@ from concurrent.futures import ThreadPoolExecutor
 from pathlib import Path
 from typing import Iterator, List, NamedTuple, Optional, Tuple
 
+import stored
 from ends import asked, is_there, told
 from in_process_rtl import SYSTEMVERILOG, TOP, UNOPTIMIZED, Simulated, built, failed_wrong, long_setup, run, started
 
@@ -106,24 +108,14 @@ def predicted_wrong(program: Path, seed: int, status: int, text: str, judged: st
 
 def words_tried(program: Path) -> Iterator[Case]:
     """Words of the run by which the predictor, or the memory, can't do its work; each with Verilator's limit of errors, and without."""
-    setup, folder = f"+zuldegei_setup={run.HERE / 'setup.lines'}", program.parent
+    folder = program.parent
+    shutil.copy(run.HERE / "setup.lines", folder)
     (folder / "unknown.lines").write_text("config 2 4 16 2 16 12 hh\nprofile tilelink\nregions\n")
-    for words, why in (
-        (["+zuldegei_setup=unknown.lines"], "no model: script fault: line 2, word 1 (-1001)"),
-        (["+zuldegei_setup=nofile"], "nofile can't be read"),
-        ([], "there is no set-up, neither by +zuldegei_setup=FILE nor by SETUP"),
-        ([setup, "+zuldegei_stop=x"], "+zuldegei_stop=x has no number of up to nine digits"),
-        ([setup, "+zuldegei_seed=x"], "+zuldegei_seed=x has no number of up to 18 digits"),
-        ([setup, "+zuldegei_seed"], "+zuldegei_seed= has no number of up to 18 digits"),
-        ([setup, "+zuldegei_errors=17"], "+zuldegei_errors=17 has no number of 0 to 16"),
-        ([setup, "+zuldegei_ready_waits=16"], "+zuldegei_ready_waits=16 has no number of 0 to 15"),
-        ([setup, "+zuldegei_b_waits"], "+zuldegei_b_waits= has no number of 0 to 15"),
-        ([setup, "+zuldegei_r_waits=x"], "+zuldegei_r_waits=x has no number of 0 to 15"),
-    ):
+    for it in stored.blocks(TOP / "tests/words/predictor.words"):
         for limit in ([MANY], []):
-            ran = started(program, *limit, *words)
-            is_told = f"zuldegei: the run failed: {why}\n" in ran.text and (ran.status == 1 if limit else ran.status != 0)
-            yield f"with {words} and {limit}", None if is_told else f"status {ran.status}: {ran.text[-300:]!r}"
+            ran = started(program, *limit, *it.words)
+            is_told = f"zuldegei: the run failed: {it.due}\n" in ran.text and (ran.status == 1 if limit else ran.status != 0)
+            yield f"with {it.given} and {limit}", None if is_told else f"status {ran.status}: {ran.text[-300:]!r}"
 
 
 def by_words(program: Path, score: str) -> Iterator[Case]:

@@ -27,9 +27,9 @@ SETUP_WORDS = ("config", "region", "page", "bad", "profile", "axi", "errors", "x
 
 
 def refused(library: object) -> Iterator[Case]:
-    for it in stored.calls(TOP / "tests/calls/scoreboard.calls"):
+    for it in stored.blocks(TOP / "tests/calls/scoreboard.calls"):
         with Scoreboard(SETUP, library) as board:
-            why = it.wrong({**globals(), "board": board, "library": library}, ScoreboardError, Error)
+            why = it.refused({**globals(), "board": board, "library": library}, ScoreboardError, Error)
             yield it.name, why or unlike(board.counts(), Judged(0, 0, 0, 0, 0, 0))
     board.close()
     try:

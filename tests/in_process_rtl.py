@@ -23,6 +23,7 @@ from itertools import zip_longest
 from pathlib import Path
 from typing import Iterator, NamedTuple, Optional, Tuple
 
+import stored
 from ends import TOP, asked, is_there, told
 
 sys.path += [str(TOP / "examples/testbench/rtl"), str(TOP / "python")]
@@ -79,7 +80,7 @@ def simulated(bench: Path, seed: int, setup: Path, *more: str) -> Simulated:
     return ran._replace(lines=seen.read_text(errors="replace"))
 
 
-def started(bench: Path, *words: str) -> Simulated:
+def started(bench: Path, *words: object) -> Simulated:
     """A run by its words, of whose lines nobody asks."""
     pipe = subprocess.PIPE
     ran = subprocess.run([bench, *words], cwd=bench.parent, stdout=pipe, stderr=subprocess.STDOUT, text=True, timeout=300, check=False)
@@ -177,32 +178,16 @@ def late_told(name: str, bench: Path, seed: int, setup: Path) -> Iterator[Case]:
 
 def words_tried(bench: Path) -> Iterator[Case]:
     """Words of the run by which nothing can be judged, and how that is said; each with Verilator's limit of errors, and without."""
-    folder, setup = bench.parent, f"+zuldegei_setup={run.HERE / 'setup.lines'}"
+    folder = bench.parent
+    shutil.copy(run.HERE / "setup.lines", folder)
     (folder / "empty.lines").touch()
     (folder / "refused.lines").write_text("config 2 4 999 2 16 12 hh\n")
-    no_number = "has no number of up to nine digits"
-    for words, why in (
-        (["+zuldegei_setup=nofile"], "nofile can't be read"),
-        (["+zuldegei_setup=nofile", "+zuldegei_stop=2"], "nofile can't be read"),
-        (["+zuldegei_setup=empty.lines"], "empty.lines has no set-up"),
-        (["+zuldegei_setup=refused.lines"], "no scoreboard: set-up fault: BadConfig 0 (-4)"),
-        (["+zuldegei_setup"], "the file of +zuldegei_setup= can't be read"),
-        ([], "there is no set-up, neither by +zuldegei_setup=FILE nor by SETUP"),
-        ([setup, "+zuldegei_stop=x"], f"+zuldegei_stop=x {no_number}"),
-        ([setup, "+zuldegei_stop=-1"], f"+zuldegei_stop=-1 {no_number}"),
-        ([setup, "+zuldegei_stop=1x"], f"+zuldegei_stop=1x {no_number}"),
-        ([setup, "+zuldegei_stop="], f"+zuldegei_stop= {no_number}"),
-        ([setup, "+zuldegei_stop"], f"+zuldegei_stop= {no_number}"),
-        ([setup, "+zuldegei_stop=1234567890"], f"+zuldegei_stop=1234567890 {no_number}"),
-        ([setup, "+zuldegei_late=0"], f"+zuldegei_late=0 {no_number} above 0"),
-        ([setup, "+zuldegei_late=1.5"], f"+zuldegei_late=1.5 {no_number} above 0"),
-        ([setup, "+zuldegei_late"], f"+zuldegei_late= {no_number} above 0"),
-    ):
-        ran = started(bench, NO_LIMIT, *words)
-        yield f"with {words}", failed_wrong(ran, 1, f"the run failed: {why}")
-        ran = started(bench, *words)
-        is_told = f"zuldegei: the run failed: {why}\n" in ran.text and ran.status == ABORTED
-        yield f"with {words}, and no limit of errors", None if is_told else f"status {ran.status}: {ran.text[-300:]!r}"
+    for it in stored.blocks(TOP / "tests/words/monitor.words"):
+        ran = started(bench, NO_LIMIT, *it.words)
+        yield f"with {it.given}", failed_wrong(ran, 1, f"the run failed: {it.due}")
+        ran = started(bench, *it.words)
+        is_told = f"zuldegei: the run failed: {it.due}\n" in ran.text and ran.status == ABORTED
+        yield f"with {it.given}, and no limit of errors", None if is_told else f"status {ran.status}: {ran.text[-300:]!r}"
 
 
 def long_setup(bench: Path, line: str, module: str = "scoreboard") -> Iterator[Case]:

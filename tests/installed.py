@@ -18,6 +18,7 @@ import tempfile
 from pathlib import Path
 from typing import Dict, Iterator, List, Optional, Set, Tuple
 
+import stored
 from ends import is_there, told
 from page_commands import BLOCK, SHOWN
 
@@ -32,15 +33,6 @@ NEEDED = {"verilator": "verilator", "g++": "g++", "pkg-config": "pkg-config", "i
 LIST = "share/zuldegei/installed.list"
 MODULES = ("waves", "fill", "explain", "wave-of", "times", "regress", "cover", "stimulus")
 CRATES = "tlbridge:\ntlscore:\nzuldegei staticlib:\n"
-# Words that can't be, of each script: the status and the start of what is said.
-WRONG_WORDS = (
-    (("install", "--prefix"), 6, "usage: ./install"),
-    (("install", "here"), 6, "usage: ./install"),
-    (("install", "--uninstall", "--prefix", "/nowhere"), 3, "install: nothing is installed there"),
-    (("install", "--built", "/nowhere"), 3, "the tree can't be made"),
-    (("release", "--unknown"), 6, "usage: ./release"),
-    (("release", "one", "two"), 6, "usage: ./release"),
-)
 # What is said in Python of an answer that no write asked for.
 SETUP = "config 1 4 16 2 16 12 h\npage 10 4 good\n"
 SCOREBOARD = f"from zuldegei.scoreboard import Scoreboard; print(Scoreboard({SETUP!r}).b(id=0).text)"
@@ -215,9 +207,11 @@ def unlinked() -> Iterator[Case]:
 
 
 def words() -> Iterator[Case]:
-    for given, status, said in WRONG_WORDS:
-        done = ran([f"./{given[0]}", *given[1:]], env={**os.environ, "DESTDIR": "/nowhere"})
-        yield " ".join(given), why(done, status) or (None if done.stderr.startswith(said) else done.stderr)
+    """Words that can't be, of each script: the status and the start of what is said."""
+    for it in stored.blocks(TOP / "tests/words/scripts.words"):
+        status, _, said = it.due.partition(" ")
+        done = ran(["sh", "-c", f"./{it.given}"], env={**os.environ, "DESTDIR": "/nowhere"})
+        yield it.name, why(done, int(status)) or (None if done.stderr.startswith(said) else done.stderr)
 
 
 def copied(room: Path, name: str, given: Path) -> Tuple[Path, Dict[str, str]]:

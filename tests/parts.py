@@ -21,6 +21,7 @@ from typing import Dict, Iterator, List, Optional, Sequence, Tuple
 from ends import told_in_a_folder
 from fuzz_commands import called
 from regress import KNOWN, begun, stopped, taken
+from stored import blocks
 from waves import RTL, TOP, command
 from zuldegei import regress
 from zuldegei.parts import merged
@@ -277,26 +278,9 @@ def said_of(*words: str) -> Tuple[int, str]:
 
 def worded() -> Iterator[Case]:
     """Words that can't be."""
-    for text in ("9/8", "0/8", "1/0", "-1/8", "8", "1/8/2", "a/b", "", "1/10001", "1/ 8", "\u0661/8"):
-        status, said = said_of("run.lines", "--json", "it", f"--part={text}")
-        yield f"the part {text!r}", None if (status, said.count("\n")) == (6, 1) and "--part" in said else f"{status}, {said!r}"
-    for words in (
-        ["run.lines", "--part", "1/2"],
-        ["run.lines", "--part", "1/2", "--json", "it", "--slurm", "2", "--parts", "there"],
-        ["run.lines", "--slurm", "2"],
-        ["run.lines", "--slurm", "0", "--parts", "there"],
-        ["run.lines", "--slurm", "10001", "--parts", "there"],
-        ["run.lines", "--parts", "there"],
-        ["run.lines", "--sbatch", "x"],
-        ["run.lines", "--slurm", "2", "--parts", "there", "--sbatch", "'x"],
-        ["run.lines", "--merge", "a.json", "--seeds", "1"],
-        ["--merge", "a.json", "--keep", "there"],
-        ["--merge", "a.json", "--json", "./a.json"],
-        ["run.lines", "-j", "0"],
-        ["--merge"],
-    ):
-        status, said = said_of(*words)
-        yield f"the words {' '.join(words)}", None if (status, said.count("\n")) == (6, 1) else f"{status}, {said!r}"
+    for it in blocks(TOP / "tests/words/regress.words"):
+        status, said = said_of(*(os.fsdecode(word) for word in it.words))
+        yield f"the words {it.given}", it.one_line(subprocess.CompletedProcess(it.words, status, "", said), "zuldegei-regress")
 
 
 def stand_ins(folder: Path, ahead: str = "") -> Dict[str, str]:

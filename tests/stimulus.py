@@ -17,6 +17,7 @@ from pathlib import Path
 from typing import Iterator, List, NamedTuple, Optional, Sequence, Set, Tuple
 
 from ends import asked, told
+from stored import blocks
 from waves import RTL, TOP
 
 sys.path[:0] = [str(RTL.parent), str(TOP / "python")]
@@ -259,7 +260,7 @@ def command(folder: Path) -> Iterator[Case]:
     sources = {it.split()[5] for it in called(folder, *base, "--sources", 2, "--weights", "source=99").stdout.splitlines() if it.startswith("a ")}
     yield "two sources", None if sources == {"*", "0", "1"} else f"{sources}"
     yield from missed(folder, base, names)
-    yield from at_fault(folder, base)
+    yield from at_fault(folder)
 
 
 def missed(folder: Path, base: Sequence[str], names: Set[str]) -> Iterator[Case]:
@@ -280,27 +281,13 @@ def missed(folder: Path, base: Sequence[str], names: Set[str]) -> Iterator[Case]
     yield "nothing was missed", None if is_well else printed[:99]
 
 
-def at_fault(folder: Path, base: Sequence[str]) -> Iterator[Case]:
+def at_fault(folder: Path) -> Iterator[Case]:
     """Words and files that can't be: a status, and one line that says why."""
     (folder / "no.lines").write_text("region 0 1 0 gpah\n")
     (folder / "odd.cover").write_text("{}\n")
     (folder / "odd.lines").write_text("without edge/*\n")
-    for name, words, status, said in (
-        ("no set-up", (), 6, "--setup"),
-        ("a set-up that isn't there", ("--setup", "none.lines"), 3, "none.lines: No such file"),
-        ("a set-up without config", ("--setup", "no.lines"), 2, "no.lines: no config line"),
-        ("a file of counts that is none", (*base, "--missed", "odd.cover"), 2, "odd.cover isn't what"),
-        ("a line without a reason", (*base, "--without", "odd.lines"), 2, "line 1 of odd.lines"),
-        ("a group that isn't there", (*base, "--weights", "edges=1"), 6, "'edges=1' isn't GROUP=N"),
-        ("a group without cards", (*base, "--weights", "reset=1"), 6, "no client can reach reset"),
-        ("no request", (*base, "--requests", "0"), 6, "0 is none of 1 to"),
-        ("a seed below 0", (*base, "--seed", "-1"), 6, "--seed"),
-        ("lots of 17", (*base, "--lots", "17"), 6, "17 is none of 0 to 16"),
-        ("a word that isn't known", (*base, "--hurry"), 6, "--hurry"),
-    ):
-        ran = called(folder, *words)
-        is_well = ran.returncode == status and said in ran.stderr and ran.stderr.count("\n") == 1 and ran.stderr.startswith("zuldegei-stimulus: ")
-        yield name, None if is_well else f"status {ran.returncode}, {ran.stderr[-300:]}"
+    for it in blocks(TOP / "tests/words/stimulus.words"):
+        yield it.name, it.one_line(called(folder, *map(os.fsdecode, it.words)), "zuldegei-stimulus")
 
 
 # ---- the player

@@ -7,8 +7,10 @@ there, and behind arrows what is printed, the line on standard error last.
 """
 
 import re
+import shlex
 from enum import IntEnum
 from pathlib import Path
+from subprocess import CompletedProcess
 from typing import Dict, Iterator, List, NamedTuple, Optional, Type
 
 from ends import TOP, unlike
@@ -92,30 +94,43 @@ def observations(folder: Path) -> List[Path]:
     return found
 
 
-class Call(NamedTuple):
-    """A call in Python that isn't carried out (tests/calls/README.md): the call, and the status and the text of its error."""
+class Block(NamedTuple):
+    """A case that is some lines of a file: what it is, a line that is given, and behind an arrow what has to come of it."""
 
     name: str
-    call: str
-    status: str
-    text: str
+    given: str
+    due: str
 
-    def wrong(self, names: Dict[str, object], error: Type[Exception], statuses: Type[IntEnum]) -> Optional[str]:
-        """How the call, among these names, doesn't raise its error."""
+    @property
+    def words(self) -> List[bytes]:
+        """The words of a call, as a shell takes them, in quotes also bytes by their numbers."""
+        return [it.encode().decode("unicode_escape").encode("latin-1") for it in shlex.split(self.given)]
+
+    def one_line(self, ran: "CompletedProcess[str]", name: str) -> Optional[str]:
+        """How a call of a command, by its name, doesn't end with the status that is due, and one line that has what is due behind it."""
+        status, _, said = self.due.partition(" ")
+        is_well = ran.returncode == int(status) and ran.stderr.startswith(f"{name}: ") and said in ran.stderr and ran.stderr.count("\n") == 1
+        return None if is_well else f"status {ran.returncode}, {ran.stderr[-300:]!r}"
+
+    def refused(self, names: Dict[str, object], error: Type[Exception], statuses: Type[IntEnum]) -> Optional[str]:
+        """How a call in Python, among these names, doesn't raise an error with the status and the text that are due."""
+        status, _, text = self.due.partition(": ")
         try:
-            return f"it gave {eval(self.call, names)!r}"
+            return f"it gave {eval(self.given, names)!r}"
         except error as why:
-            return unlike((why.status, str(why)), (eval(self.status, dict(statuses.__members__)), self.text))
+            return unlike((why.status, str(why)), (eval(status, dict(statuses.__members__)), text))
         except Exception as why:
             return f"it raised {type(why).__name__}: {why}"
 
 
-def calls(file: Path) -> Iterator[Call]:
-    """The calls of a file of them."""
+def blocks(file: Path) -> Iterator[Block]:
+    """The cases of a file of them. One that isn't named is so by what is given."""
     for block in file.read_text().strip().split("\n\n"):
-        name, call, end = block.splitlines()
-        status, _, text = end.removeprefix("-> ").partition(": ")
-        yield Call(name[2:], call, status, text)
+        found = {"#": "", "->": "", "": ""}
+        for line in block.splitlines():
+            mark = line.split(" ")[0]
+            found[mark if mark in found else ""] = line.removeprefix(f"{mark} ") if mark in found else line
+        yield Block(found["#"] or found[""], found[""], found["->"])
 
 
 def scripts() -> Iterator[Case]:
