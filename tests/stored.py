@@ -95,7 +95,7 @@ def observations(folder: Path) -> List[Path]:
 
 
 class Block(NamedTuple):
-    """A case that is some lines of a file: what it is, a line that is given, and behind an arrow what has to come of it."""
+    """A case that is some lines of a file: what it is, what is given, and behind an arrow what has to come of it."""
 
     name: str
     given: str
@@ -126,11 +126,10 @@ class Block(NamedTuple):
 def blocks(file: Path) -> Iterator[Block]:
     """The cases of a file of them. One that isn't named is so by what is given."""
     for block in file.read_text().strip().split("\n\n"):
-        found = {"#": "", "->": "", "": ""}
-        for line in block.splitlines():
-            mark = line.split(" ")[0]
-            found[mark if mark in found else ""] = line.removeprefix(f"{mark} ") if mark in found else line
-        yield Block(found["#"] or found[""], found[""], found["->"])
+        lines = block.splitlines()
+        names, due = ([it.removeprefix(mark) for it in lines if it.startswith(mark)] for mark in ("# ", "-> "))
+        given = "\n".join(it for it in lines if not it.startswith(("# ", "-> ")))
+        yield Block("".join(names) or given, given, "".join(due))
 
 
 def scripts() -> Iterator[Case]:

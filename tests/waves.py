@@ -24,6 +24,7 @@ import time
 from pathlib import Path
 from typing import Dict, Iterator, List, NamedTuple, Optional, Tuple
 
+import stored
 from ends import asked, is_there, told_in_a_folder
 
 TOP = Path(__file__).resolve().parent.parent
@@ -511,23 +512,7 @@ def reset_by_hand() -> Iterator[Case]:
         yield f"a reset behind {name}", why or (None if got == wanted else f"{got!r}, not {wanted!r}")
 
 
-NEXT = "\n"
 TWO_RESETS = "clock top.clock\nreset top.a\nclient 0 flat top.\nclock top.clock\nreset top.b\naxi flat top.\n"
-TWICE = (
-    ("a client", f"{HAND}client 0 flat top.\n", ("line 4", "client 0", "line 2")),
-    ("a client of an array", f"{HAND}client 1 flat top. part 0 of 2\nclient 1 flat top. part 1 of 2\n", ("line 5", "client 1")),
-    ("the AXI4 port", f"{HAND}axi amba top.s_axi_\n", ("line 4", "AXI4", "line 3")),
-    ("a reset", f"clock top.clock\nreset top.a\nreset top.b low\n{HAND}", ("line 3", "reset", "top.clock", "line 2")),
-    ("a client behind one of its fields", f"clock top.clock\na 0 corrupt =0\n{HAND.partition(NEXT)[2]}", ("line 3", "a of client 0")),
-    ("a clock", f"{HAND}clock top.clock\nclient 1 flat top.\n", ("line 4", "top.clock", "line 1")),
-    ("a field", f"{HAND}a 0 corrupt =0\n\na 0 corrupt =1\n", ("line 6", "corrupt of a of client 0", "line 4")),
-    ("another number for an ID", f"{HAND}renumber id 9 2\nrenumber id 9 3\n", ("line 5", "ID 9", "line 4")),
-    ("another number for a source", f"{HAND}renumber source 0 9 2\nrenumber source 0 9 3\n", ("line 5", "source 9 of client 0")),
-    ("a clock, where its reset lacks", TWO_RESETS.replace("reset top.b\n", ""), ("line 4", "top.clock", "line 1")),
-    ("a clock with the same reset", TWO_RESETS.replace("top.b", "top.a"), ("line 4", "top.clock", "line 1")),
-    ("a clock with no port, and so its reset", f"clock top.clock\nreset top.reset\n{HAND}", ("line 1", "top.clock")),
-    ("a client and a ready map of it", "use rocket-chip top\nclient 0 flat top.\n", ("line 2", "client 0", "line 1")),
-)
 BEYOND = ("client -1 flat top.", "client 8 flat top.", "a 8 corrupt =0", "d -1 denied =0", "renumber source 8 1 2", "use rocket-chip top 8")
 ONCE = (TWO_RESETS, "use opentitan top\nuse pulp top\n", f"{HAND}client 7 flat top.\n", "use opentitan top\nd 0 denied =0\n",
         f"{HAND}clock top.clock falling\nclient 1 flat top.\n")
@@ -535,9 +520,10 @@ ONCE = (TWO_RESETS, "use opentitan top\nuse pulp top\n", f"{HAND}client 7 flat t
 
 def said_twice() -> Iterator[Case]:
     """Maps in which a second line stands for one thing, and those with a client that no bridge has; and such as have neither."""
-    for name, the_map, named in TWICE:
-        got = in_process(the_map, hand(False).text())
-        yield f"{name} twice", None if all(it in got[1] for it in named) and got[1].startswith("the map") else f"it said {got[1]!r}"
+    behind_an_empty_line = stored.Block("a field", f"{HAND}a 0 corrupt =0\n\na 0 corrupt =1", "line 6; corrupt of a of client 0; line 4")
+    for it in (*stored.blocks(TOP / "tests/commands/maps/twice.blocks"), behind_an_empty_line):
+        _, said = in_process(f"{it.given}\n", hand(False).text())
+        yield f"{it.name} twice", None if all(part in said for part in it.due.split("; ")) and said.startswith("the map") else f"it said {said!r}"
     for line in BEYOND:
         yield line, refusal(in_process(f"{HAND.replace('client 0', 'client 1')}{line}\n", hand(False).text()), "clients are 0 to 7")
     for the_map in ONCE:
