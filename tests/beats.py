@@ -13,7 +13,7 @@ from pathlib import Path
 from typing import Callable, Iterator, NamedTuple
 
 from ends import asked, started, told
-from model import GET, INTENT, PUT_FULL, PUT_PARTIAL, ABeat, full_mask
+from model import GET, INTENT, PUT_FULL, PUT_PARTIAL, ABeat, a_line, full_mask
 from port_models import ATOMICS, AXI_RULES, NUMBERS, PARAMS, AxiPort, Port, Side, crosses
 
 LEAST = 1_000
@@ -96,12 +96,6 @@ class Beats:
         return replace(beat, **rng.choice(changes)())
 
 
-def fields_of(client: int, it: ABeat) -> str:
-    """Those of an `a` line, as its trace has them."""
-    head = f"{client} {it.opcode} {it.param} {it.size} {it.source}"
-    return f"{head} {it.address:08x} {it.mask:02x} {it.payload:016x} {it.corrupt}"
-
-
 def offered(rng: random.Random, levels: str, largest: int, counts: Counter) -> tuple[str, str]:
     """A script of `check`, and its trace. Most sources are freed as soon as their message is whole."""
     ports = [Port(level, largest) for level in levels]
@@ -112,10 +106,10 @@ def offered(rng: random.Random, levels: str, largest: int, counts: Counter) -> t
         beat = Beats(rng, port).draw()
         answer = port.take(beat)
         counts[answer] += 1
-        fields = fields_of(client, beat)
+        line = a_line(client, beat)
         said = f"refused {NUMBERS[answer]} {answer}" if answer in NUMBERS else answer.lower()
-        lines.append(f"a {fields}")
-        trace += [f"A {fields}", f"= {said}"]
+        lines.append(line.replace("A", "a", 1))
+        trace += [line, f"= {said}"]
         if answer == "WHOLE" and (rng.random() < 0.75 or len(port.busy) > 2):
             freed = rng.choice(sorted(port.busy))
             port.busy.remove(freed)

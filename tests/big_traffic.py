@@ -13,7 +13,8 @@ from typing import NamedTuple
 
 from big_memory import EACH, GETS
 from model import (
-    ARITHMETIC, GET, GOOD, INTENT, LOGICAL, PAGE, PUT_FULL, PUT_PARTIAL, UNKNOWN, ABeat, DBeat, Memory, Setup, beats_of, full_mask,
+    ARITHMETIC, GET, GOOD, INTENT, LOGICAL, PAGE, PUT_FULL, PUT_PARTIAL, UNKNOWN, ABeat, DBeat, Memory, Setup, a_line, beats_of,
+    d_line, full_mask,
 )  # fmt: skip
 from port_models import ATOMICS, PARAMS
 
@@ -256,9 +257,7 @@ class Traffic:
 
     def offer(self, flight: Flight) -> None:
         """The next beat of a message comes."""
-        it = flight.beats[flight.sent]
-        fields = f"{it.opcode} {it.param} {it.size} {it.source} {it.address:08x} {it.mask:02x} {it.payload:016x} {it.corrupt}"
-        self.say(f"A {flight.client} {fields}")
+        self.say(a_line(flight.client, flight.beats[flight.sent]))
         flight.sent += 1
         if flight.is_whole and self.asked.profile == "bridge":
             self.carry_out(flight)
@@ -307,7 +306,7 @@ class Traffic:
         if not flight.reply:
             self.carry_out(flight)
         it, beat = flight.reply[flight.told], flight.told
-        self.say(f"D {it.client} {it.opcode} 0 {it.size} {it.source} {it.denied} {self.shown(flight, it):016x} {it.corrupt}")
+        self.say(d_line(replace(it, payload=self.shown(flight, it))))
         flight.told += 1
         if it.opcode == 1:
             self.told += min(8, 2**it.size)

@@ -25,6 +25,7 @@ from pathlib import Path
 from typing import Dict, Iterator, List, Optional, Tuple
 
 from ends import is_there, told
+from pictures import BROWSERS
 from score_cases import all_cases
 from waves import RTL, TOP, command
 from zuldegei.command import Fault
@@ -37,7 +38,6 @@ from zuldegei.observation import Observation
 CASES, COMMAND, RUNS = TOP / "tests/cover", TOP / "tests/commands/cover", sorted((RTL / "runs").glob("*.lines"))
 RULE = re.compile(r"(?m)^\| (\d+ [A-Z0-9_]+)[^|]*\| `crates/")  # of a row that has a rule's places
 GROUP = re.compile(r"(?m)^\| `([a-z-]+)` \| ")  # of a row of docs/COVERAGE.md
-BROWSERS = ("chromium", "chromium-browser", "google-chrome")
 LEAST_SPEED, SPEED_BEATS, TRIES = 30_000, 60_000, 8  # beats a second of a processor, of so many beats, the best of so many
 MOST_MORE = 1.2  # times the room that a run of a quarter takes
 MERGES = 40

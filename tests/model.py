@@ -16,6 +16,18 @@ sys.path.append(str(Path(__file__).resolve().parent.parent / "examples" / "testb
 from client import ABeat, DBeat, beats_of  # noqa: E402
 from random_bench import ARITHMETIC, GET, INTENT, LOGICAL, PUT_FULL, PUT_PARTIAL, applied, full_mask  # noqa: E402, F401
 
+
+def a_line(client: int, it: ABeat) -> str:
+    """The line of a beat on channel A, as tlscore reads it and traces have it."""
+    head = f"A {client} {it.opcode} {it.param} {it.size} {it.source}"
+    return f"{head} {it.address:08x} {it.mask:02x} {it.payload:016x} {it.corrupt}"
+
+
+def d_line(it: DBeat) -> str:
+    """The line of a beat on channel D."""
+    return f"D {it.client} {it.opcode} {it.param} {it.size} {it.source} {it.denied} {it.payload:016x} {it.corrupt}"
+
+
 # The letter of a region that permits a request, and the opcode of the reply.
 LETTERS = {PUT_FULL: "p", PUT_PARTIAL: "p", ARITHMETIC: "a", LOGICAL: "a", GET: "g", INTENT: "h"}
 REPLIES = {PUT_FULL: 0, PUT_PARTIAL: 0, ARITHMETIC: 1, LOGICAL: 1, GET: 1, INTENT: 2}

@@ -9,18 +9,16 @@ With --runs 20 it makes the whole of which the pages tell, some 4,000 requests o
 """
 
 import argparse
-import os
 import shutil
 import subprocess
 import sys
 import tempfile
-from collections import Counter
 from pathlib import Path
 from typing import Callable, Iterator, List, NamedTuple, Optional, Tuple
 
 from ends import asked, told
-from explain import BROWSERS, pixels
-from waves import RTL, TOP
+from pictures import BROWSERS, pictured
+from waves import RTL
 
 sys.path.append(str(RTL.parent))
 import random_bench  # noqa: E402
@@ -109,19 +107,6 @@ def left_out(bench: Testbench, shown: Shown) -> Iterator[Case]:
     yield f"how many {bench.name} can't reach", None if count <= MOST_WITHOUT else str(count)
 
 
-def pictured(score: str, folder: Path) -> Iterator[Case]:
-    """Whether docs/picture.py makes a picture with squares of each kind, and whether the one that is kept is like it."""
-    picture, kept = folder / "coverage.png", TOP / "docs/coverage.png"
-    words = [sys.executable, TOP / "docs/picture.py", "coverage", picture]
-    ran = subprocess.run(words, env={**os.environ, "TLSCORE": score}, capture_output=True, text=True, timeout=300, check=False)
-    found, stored = pixels(picture) if ran.returncode == 0 else Counter(), pixels(kept)
-    lacking = [it for it in COLOURS if found[bytes.fromhex(it)] < 200]
-    yield "a picture of what was reached", f"it has hardly a pixel of {lacking}; {ran.stderr}" if lacking else None
-    apart = [it for it in COLOURS if not 0.9 < stored[bytes.fromhex(it)] / max(1, found[bytes.fromhex(it)]) < 1.1]
-    is_large = kept.stat().st_size > 150_000 or sum(stored.values()) != sum(found.values())
-    yield "docs/coverage.png", f"it has {kept.stat().st_size} bytes, and others of {apart}" if apart or is_large else None
-
-
 def cases(given: argparse.Namespace) -> Iterator[Case]:
     simulator, score = run.installed(), str(given.score)
     yield from reached(python(given.bridge), given.runs, score)
@@ -131,7 +116,7 @@ def cases(given: argparse.Namespace) -> Iterator[Case]:
         else:
             print(f"skipped: what the bridge in RTL reaches, as neither {' nor '.join(run.SIMULATORS)} is installed")
         if shutil.which("iverilog") and any(map(shutil.which, BROWSERS)):
-            yield from pictured(score, Path(folder))
+            yield from pictured("coverage", COLOURS, 200, 1.1, Path(folder), TLSCORE=score)
         else:
             print("skipped: the picture of what runs reached: Chromium and iverilog aren't both installed")
 

@@ -14,7 +14,7 @@ import time
 from dataclasses import dataclass
 
 from ends import asked, told
-from model import ARITHMETIC, GET, GOOD, INTENT, LOGICAL, PUT_FULL, PUT_PARTIAL, ABeat, Memory, Ranges, Setup, beats_of, full_mask
+from model import ARITHMETIC, GET, GOOD, INTENT, LOGICAL, PUT_FULL, PUT_PARTIAL, ABeat, Memory, Ranges, Setup, a_line, beats_of, full_mask
 
 from client import byte_of, reply_of  # model.py says where it stands
 
@@ -65,10 +65,6 @@ def request(rng):
     return tuple(beats)
 
 
-def offer_line(client, it):
-    return f"a {client} {it.opcode} {it.param} {it.size} {it.source} {it.address:x} {it.mask:x} {it.payload:x} {it.corrupt}"
-
-
 @dataclass(frozen=True)
 class Load:
     """What the clients ask for."""
@@ -106,7 +102,7 @@ def load(seed, clients, width, memories, most):
     requests, beats, steps = requests_of(rng, setup, most)
     words = [(rng.getrandbits(64), memories - 1)] + [(rng.getrandbits(64), rng.randrange(memories)) for _ in range(500)]
     lines = [[f"word {word} {memory}" for word, memory in words]]
-    lines += [[offer_line(client, beat) for it in own for beat in it] for client, own in enumerate(requests)]
+    lines += [[a_line(client, beat).lower() for it in own for beat in it] for client, own in enumerate(requests)]
     order = [which for which, own in enumerate(lines) for _ in own]
     rng.shuffle(order)
     rows = [iter(own) for own in lines]
