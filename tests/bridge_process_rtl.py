@@ -22,7 +22,8 @@ from typing import Iterator, List, NamedTuple, Optional, Tuple
 
 import stored
 from ends import asked, is_there, told
-from in_process_rtl import SYSTEMVERILOG, TOP, UNOPTIMIZED, Simulated, built, failed_wrong, long_setup, run, started
+from in_process_rtl import TOP, failed_wrong, long_setup
+from simulators import SYSTEMVERILOG, Simulated, by_icarus, by_verilator, run, started
 
 MEMORY, PREDICTOR = SYSTEMVERILOG / "zuldegei_axi_memory.sv", SYSTEMVERILOG / "zuldegei_predictor.sv"
 PACKAGE, BIND = SYSTEMVERILOG / "zuldegei_pkg.sv", SYSTEMVERILOG / "example_predictor_bind.sv"
@@ -68,11 +69,8 @@ def made(bench: Bench, library: Path, folder: Path) -> Path:
     room = Path(tempfile.mkdtemp(dir=folder))
     files = [it for it in run.FILES if it != "memory.sv"] + [str(MEMORY)]
     files += [str(it) for it in (PACKAGE, REPLIES, PREDICTOR, BIND, library / "libzuldegei.a")] if bench.predicts else []
-    words = ["verilator", "--cc", "--exe", "--main", "--timing", "-Wno-fatal", f"-DFREE_MEMORY={bench.order}"]
-    words += run.Bench(bench.bridge, run.Asked(), bug=bench.bug, habit=bench.habit).defines
-    built([*words, "--top-module", "testbench", "-Mdir", str(room), "-o", "bench", *files], run.HERE, bench.name)
-    built(["make", "-s", "-f", "Vtestbench.mk", *UNOPTIMIZED], room, bench.name)
-    return room / "bench"
+    defines = run.Bench(bench.bridge, run.Asked(), bug=bench.bug, habit=bench.habit).defines
+    return by_verilator(room, "testbench", files, f"-DFREE_MEMORY={bench.order}", *defines)
 
 
 def simulated(bench: Path, seed: int, *more: str) -> Tuple[int, str, str]:
@@ -157,9 +155,8 @@ def tried(bench: Bench, program: Path, given: argparse.Namespace) -> Iterator[Ca
 def calls(library: Path, folder: Path) -> Iterator[Case]:
     """The calls by DPI-C."""
     room = Path(tempfile.mkdtemp(dir=folder))
-    words = ["verilator", "--binary", "--timing", "-Wno-fatal", "--top-module", "bridge_process", "-Mdir", str(room), "-o", "bench"]
-    built([*words, str(PACKAGE), str(TOP / "tests/bridge_process.sv"), str(library / "libzuldegei.a")], room, "the calls")
-    ran = subprocess.run([room / "bench"], stdout=subprocess.PIPE, text=True, timeout=60, check=False)
+    bench = by_verilator(room, "bridge_process", (PACKAGE, TOP / "tests/bridge_process.sv", library / "libzuldegei.a"))
+    ran = subprocess.run([bench], stdout=subprocess.PIPE, text=True, timeout=60, check=False)
     lines = [it for it in ran.stdout.splitlines() if not it.startswith("- ")]
     yield "the calls by DPI-C", None if lines == ["looked at 44"] and ran.returncode == 0 else f"status {ran.returncode}: {lines[:3]}"
 
@@ -169,10 +166,8 @@ def replies() -> Iterator[Case]:
     if not is_there("how the predictor compares replies with x", "iverilog"):
         return
     with tempfile.TemporaryDirectory() as room:
-        bench = Path(room, "replies.vvp")
-        words = ["iverilog", "-g2012", "-s", "replies", "-o", str(bench), str(REPLIES), str(TOP / "tests/replies.sv")]
-        built(words, Path(room), "the comparison of replies")
-        ran = subprocess.run(["vvp", "-n", bench], stdout=subprocess.PIPE, text=True, timeout=60, check=False)
+        words = by_icarus(Path(room, "replies.vvp"), "replies", (REPLIES, TOP / "tests/replies.sv"))
+        ran = subprocess.run(words, stdout=subprocess.PIPE, text=True, timeout=60, check=False)
     lines = ran.stdout.splitlines()
     is_well = lines == ["compared 4010"] and ran.returncode == 0
     yield "the comparison of replies", None if is_well else f"status {ran.returncode}, {len(lines)} lines: {lines[:3]}"

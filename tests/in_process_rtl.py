@@ -21,18 +21,15 @@ import time
 from concurrent.futures import ThreadPoolExecutor
 from itertools import zip_longest
 from pathlib import Path
-from typing import Iterator, NamedTuple, Optional, Tuple
+from typing import Iterator, Optional, Tuple
 
 import stored
 from ends import TOP, asked, is_there, told
 
-sys.path += [str(TOP / "examples/testbench/rtl"), str(TOP / "python")]
-import run
+from simulators import QUICK, SYSTEMVERILOG, Simulated, built, run, started
 from zuldegei.latency import End, Latencies
 
-SYSTEMVERILOG = TOP / "interfaces/systemverilog"
 MODULES = [SYSTEMVERILOG / "zuldegei_pkg.sv", SYSTEMVERILOG / "zuldegei_monitor.sv", SYSTEMVERILOG / "example_bind.sv"]
-UNOPTIMIZED = ["OPT_FAST=-O0", "OPT_GLOBAL=-O0"]
 TOLD = re.compile(r"(?m)(= (?:wrong|judged) .*)$")
 TIMED = re.compile(r"(?m)^\[(\d+)\] %Error: .*zuldegei: (= wrong .*|the run failed: \d+ wrong)$")
 LATE = re.compile(r"zuldegei: late: no reply after \d+ to client (\d+) source (\d+), which asked at (\d+)")
@@ -46,14 +43,6 @@ PIPED = (run.RIGHT, "REPLY_TWICE", "UNKNOWN_READ")
 Case = Tuple[str, Optional[str]]
 
 
-class Simulated(NamedTuple):
-    """A run: its status, what it printed, and the lines of the monitor that prints them."""
-
-    status: int
-    text: str
-    lines: str
-
-
 def made(bug: str, library: Path, folder: Path, runtime: Optional[Path]) -> Path:
     """The testbench with a fault, in a folder of its own. Verilator's own objects are those of another one, where there is one."""
     bench, room = run.Bench("bridge", run.Asked(), bug=bug), folder / bug
@@ -64,27 +53,14 @@ def made(bug: str, library: Path, folder: Path, runtime: Optional[Path]) -> Path
     built(words, run.HERE, bug)
     for made_before in runtime.glob("verilated*.o") if runtime else ():
         shutil.copyfile(made_before, room / made_before.name)
-    built(["make", "-s", "-f", "Vtestbench.mk", *UNOPTIMIZED], room, bug)
+    built(["make", "-s", "-f", "Vtestbench.mk", *QUICK], room, bug)
     return room / "bench"
-
-
-def built(words: list, folder: Path, bug: str) -> None:
-    ran = subprocess.run(words, cwd=folder, capture_output=True, text=True, check=False)
-    if ran.returncode:
-        raise SystemExit(f"{bug}: {ran.stdout[-1000:]}{ran.stderr[-1000:]}")
 
 
 def simulated(bench: Path, seed: int, setup: Path, *more: str) -> Simulated:
     seen = bench.parent / f"seen-{setup.stem}-{seed}-{len(more)}.lines"
     ran = started(bench, f"+seed={seed}", f"+observed={seen}", f"+zuldegei_setup={setup}", "+zuldegei_end", *more)
     return ran._replace(lines=seen.read_text(errors="replace"))
-
-
-def started(bench: Path, *words: object) -> Simulated:
-    """A run by its words, of whose lines nobody asks."""
-    pipe = subprocess.PIPE
-    ran = subprocess.run([bench, *words], cwd=bench.parent, stdout=pipe, stderr=subprocess.STDOUT, text=True, timeout=300, check=False)
-    return Simulated(ran.returncode, ran.stdout, "")
 
 
 def whole_wrong(ran: Simulated, judged: str) -> Optional[str]:

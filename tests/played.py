@@ -13,7 +13,8 @@ from pathlib import Path
 from typing import Iterator, Optional, Tuple
 
 from ends import asked, is_there, told
-from in_process_rtl import NO_LIMIT, SYSTEMVERILOG, TOLD, TOP, UNOPTIMIZED, built, run, started
+from in_process_rtl import NO_LIMIT, TOLD, TOP
+from simulators import SYSTEMVERILOG, by_verilator, run, started
 from stored import observations
 from systemc import AT_PORTS, END, by_hand, parts
 
@@ -25,11 +26,7 @@ Case = Tuple[str, Optional[str]]
 
 def bench(folder: Path, *files: Path) -> Path:
     """A testbench, in a folder of its own."""
-    room = Path(tempfile.mkdtemp(dir=folder))
-    words = ["verilator", "--cc", "--exe", "--main", "--timing", "-Wno-fatal", "--top-module", "testbench", "-Mdir", str(room), "-o", "bench"]
-    built([*words, *map(str, files)], room, files[-1].name)
-    built(["make", "-s", "-f", "Vtestbench.mk", *UNOPTIMIZED], room, files[-1].name)
-    return room / "bench"
+    return by_verilator(Path(tempfile.mkdtemp(dir=folder)), "testbench", files)
 
 
 def played(program: Path, setup: str, lines: str, *words: str) -> str:

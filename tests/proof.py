@@ -15,6 +15,7 @@ from pathlib import Path
 from typing import Dict, Iterator, List, Optional, Tuple
 
 from ends import asked, is_there, told
+from simulators import by_icarus
 from waves import command
 
 TOP = Path(__file__).resolve().parent.parent
@@ -97,10 +98,9 @@ def of_words(folder: Path) -> Iterator[Case]:
 
 def seen_of(folder: Path, words: List[str], files: List[Path]) -> str:
     """What the monitor prints of a run of the testbench with these files."""
-    bench, seen = folder / "bench.vvp", folder / "seen.lines"
-    made = ["iverilog", "-g2012", f"-I{RTL}", *words, "-s", "testbench", "-o", str(bench), *map(str, files)]
-    subprocess.run(made, check=True, timeout=120)
-    subprocess.run(["vvp", "-n", str(bench), "+seed=5", f"+observed={seen}"], check=True, timeout=120, stdout=subprocess.DEVNULL)
+    seen = folder / "seen.lines"
+    runs = by_icarus(folder / "bench.vvp", "testbench", files, f"-I{RTL}", *words)
+    subprocess.run([*runs, "+seed=5", f"+observed={seen}"], check=True, timeout=120, stdout=subprocess.DEVNULL)
     return seen.read_text()
 
 

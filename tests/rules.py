@@ -24,6 +24,7 @@ from beats import Beats
 from ends import asked, is_there, started, told
 from model import INTENT, ABeat, beats_of
 from port_models import AXI_RULES, NUMBERS, AxiPort, Port, crosses
+from simulators import by_icarus, by_verilator
 
 TOP = Path(__file__).resolve().parent.parent
 RULES, RTL = TOP / "interfaces/systemverilog/zuldegei_rules.sv", TOP / "examples/testbench/rtl"
@@ -402,21 +403,13 @@ class Simulator(NamedTuple):
         """The words that run it for ports of a shape."""
         names = {it.upper(): value for it, value in shape._asdict().items()}
         program = self.folder / f"{self.name}-{'-'.join(map(str, names.values()))}"
-        files = [str(RULES), str(TOP / "tests/rules.sv")]
+        files = (RULES, TOP / "tests/rules.sv")
         if self.name == "iverilog":
             given = [f"-Ptestbench.{name}={value}" for name, value in names.items()]
-            words, runs = ["iverilog", "-g2012", "-s", "testbench", *given, "-o", str(program), *files], ["vvp", "-n", str(program)]
-        else:
-            given = [f"-G{name}={value}" for name, value in names.items()]
-            fast = ["-MAKEFLAGS", "OPT_FAST=-O0 OPT_SLOW=-O0 OPT_GLOBAL=-O0"]  # it is made in less time than it would save
-            words = ["verilator", "--binary", "--timing", "--assert", *fast, *given, "--top-module", "testbench", "-Mdir", str(program), "-o", "bench"]
-            words, runs = [*words, *files], [str(program / "bench"), "+verilator+error+limit+1000000"]
-        if program.exists():
-            return runs
-        done = subprocess.run(words, capture_output=True, text=True, timeout=600, check=False)
-        if done.returncode:
-            raise SystemExit(f"{self.name} ended with status {done.returncode}: {(done.stdout + done.stderr)[-2000:]}")
-        return runs
+            return ["vvp", "-n", str(program)] if program.exists() else by_icarus(program, "testbench", files, *given)
+        given = [f"-G{name}={value}" for name, value in names.items()]
+        bench = program / "bench" if program.exists() else by_verilator(program, "testbench", files, "--assert", *given, is_strict=True)
+        return [str(bench), "+verilator+error+limit+1000000"]
 
     def played(self, shape: Shape, clocks: List[Clock]) -> List[Tuple[int, str, str]]:
         """What the assertions tell, in order: the clock, the label, and what they say is broken."""
@@ -479,7 +472,7 @@ def of_lots(rng: random.Random, score: str, simulator: Simulator, many: int, rou
             yield compared(f"{simulator.name}, round {number}, {shape}", clocks, due, simulator.played(shape, clocks))
 
 
-def by_verilator(given: argparse.Namespace, folder: Path) -> Iterator[Case]:
+def in_verilator(given: argparse.Namespace, folder: Path) -> Iterator[Case]:
     """Lots by one shape, which is compiled anew: that takes longer than to play them. Bound to the testbench, the rules are only read."""
     files = [*sorted(RTL.glob("*.sv")), RULES, RULES.with_name("example_rules.sv")]
     words = ["verilator", "--lint-only", "--timing", "--assert", "-Wno-fatal", f"-I{RTL}", "--top-module", "testbench", *map(str, files)]
@@ -542,12 +535,11 @@ BENCHES = ("-DBRIDGE=streaming_bridge", "-DBUG=NONE", "-DBUG=OTHER_SOURCE", "-DB
 def of_benches(score: str, folder: Path) -> Iterator[Case]:
     """The assertions beside the testbench of examples/testbench/rtl by plain lots, as examples/proof/README.md shows them: all that they tell, with its
     time, is what tlscore finds wrong of the lines that the monitor prints."""
-    seen, bench = folder / "seen.lines", str(folder / "bench.vvp")
+    seen = folder / "seen.lines"
     files = [*sorted(RTL.glob("*.sv")), RULES, RULES.with_name("example_rules.sv")]
     for given in BENCHES:
-        made = ["iverilog", "-g2012", given, f"-I{RTL}", "-s", "testbench", "-s", "example_rules", "-o", bench, *map(str, files)]
-        subprocess.run(made, check=True, timeout=120)
-        text = subprocess.run(["vvp", "-n", bench, "+seed=3", "+corners=0", f"+observed={seen}"], capture_output=True, text=True, timeout=120, check=True).stdout
+        words = by_icarus(folder / "bench.vvp", "testbench", files, given, f"-I{RTL}", "-s", "example_rules")
+        text = subprocess.run([*words, "+seed=3", "+corners=0", f"+observed={seen}"], capture_output=True, text=True, timeout=120, check=True).stdout
         found = sorted((int(at), f"{port} {number} {name}") for port, number, name, at, _ in TOLD.findall(text))
         lines = (RTL / "setup.lines").read_text().replace("axi strict\n", "profile tilelink\nerrors any\n") + seen.read_text()
         said = started([score], lines.encode()).text.decode()
@@ -650,7 +642,7 @@ def cases(given: argparse.Namespace) -> Iterator[Case]:
             yield from of_unknown(simulator)
             yield from of_benches(given.score, Path(folder))
         if is_there("the assertions by Verilator", "verilator"):
-            yield from by_verilator(given, Path(folder))
+            yield from in_verilator(given, Path(folder))
     if is_there("the assertions by yosys", "yosys"):
         yield from by_yosys()
 

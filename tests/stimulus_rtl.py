@@ -16,7 +16,7 @@ from pathlib import Path
 from typing import Iterator, List, NamedTuple, Optional, Tuple
 
 from ends import asked, is_there, told
-from in_process_rtl import UNOPTIMIZED, built
+from simulators import by_verilator
 from waves import RTL
 
 sys.path.append(str(RTL))
@@ -126,10 +126,8 @@ def clocks_kept(program: List[object], folder: Path) -> Iterator[Case]:
 def alike(program: List[object], folder: Path) -> Iterator[Case]:
     """Both simulators show the same beats."""
     bench = run.Bench("bridge", run.Asked(), is_played=True)
-    words = ["verilator", "--cc", "--exe", "--main", "--timing", "-Wno-fatal", *bench.defines, "--top-module", "testbench", "-Mdir", str(folder)]
-    built([*words, "-o", "bench", *map(str, bench.files)], run.HERE, "played")
-    built(["make", "-s", "-f", "Vtestbench.mk", *UNOPTIMIZED], folder, "played")
-    both = [played(it, folder, lines_of(3)) for it in (program, [folder / "bench"])]
+    made = by_verilator(folder, "testbench", bench.files, *bench.defines)
+    both = [played(it, folder, lines_of(3)) for it in (program, [made])]
     is_well = both[0].seen == both[1].seen and both[0].seen.count("\n") > REQUESTS
     is_well = is_well and sorted(both[0].played.splitlines()) == sorted(both[1].played.splitlines())
     yield "Icarus and Verilator", None if is_well else f"{len(both[0].seen)} and {len(both[1].seen)} bytes were seen; {both[1].text[-300:]}"

@@ -15,7 +15,7 @@ from pathlib import Path
 from typing import Iterator, List, Optional, Tuple
 
 from ends import asked, is_there, told
-from in_process_rtl import SYSTEMVERILOG, UNOPTIMIZED, built
+from simulators import SYSTEMVERILOG, built, by_verilator
 from waves import RTL, TOP
 
 FILES = (SYSTEMVERILOG / "zuldegei_pkg.sv", TOP / "tests/uvm_pkg.sv", SYSTEMVERILOG / "zuldegei_uvm.sv", TOP / "tests/uvm.sv")
@@ -26,10 +26,7 @@ Case = Tuple[str, Optional[str]]
 
 def made(folder: Path, library: Path) -> Path:
     """The recorder with its stand-ins, over a library."""
-    words = ["verilator", "--cc", "--exe", "--main", "--timing", "-Wno-fatal", f"-I{TOP / 'tests'}", "--top-module", "uvm", "-Mdir", str(folder)]
-    built([*words, "-o", "bench", *map(str, FILES), str(library)], TOP, "the recorder")
-    built(["make", "-s", "-f", "Vuvm.mk", *UNOPTIMIZED], folder, "the recorder")
-    return folder / "bench"
+    return by_verilator(folder, "uvm", (*FILES, library), f"-I{TOP / 'tests'}")
 
 
 def recorded(bench: Path, words: List[str], wrong: str = "") -> str:

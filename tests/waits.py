@@ -17,7 +17,8 @@ from pathlib import Path
 from typing import Iterator, List, Optional, Tuple
 
 from ends import asked, is_there, told, unlike
-from in_process_rtl import ABORTED, NO_LIMIT, SYSTEMVERILOG, TOLD, TOP, UNOPTIMIZED, Simulated, built, run, started
+from in_process_rtl import ABORTED, NO_LIMIT, TOLD, TOP
+from simulators import SYSTEMVERILOG, Simulated, by_icarus, by_verilator, run, started
 from waves import command
 
 MONITOR, WIRES = TOP / "examples/testbench/rtl/monitor.sv", TOP / "tests/waits.sv"
@@ -66,18 +67,12 @@ def by_icarus() -> Iterator[Case]:
     if not is_there("waits by Icarus", "iverilog"):
         return
     with tempfile.TemporaryDirectory() as room:
-        program = f"{room}/bench.vvp"
-        run.simulated(["iverilog", "-g2012", "-s", "testbench", "-o", program, str(WIRES), str(MONITOR)])
-        yield from by_print("Icarus", ["vvp", "-n", program], Path(room))
+        yield from by_print("Icarus", by_icarus(Path(room, "bench.vvp"), "testbench", (WIRES, MONITOR)), Path(room))
 
 
 def bench(folder: Path, library: Path) -> Path:
     """The wires with both monitors under Verilator."""
-    words = ["verilator", "--cc", "--exe", "--main", "--timing", "--trace", "-Wno-fatal", "-DJUDGES", "--top-module", "testbench"]
-    words += ["-Mdir", str(folder), "-o", "bench", *map(str, (*JUDGES, MONITOR, WIRES)), str(library / "libzuldegei.a")]
-    built(words, folder, "waits")
-    built(["make", "-s", "-f", "Vtestbench.mk", *UNOPTIMIZED], folder, "waits")
-    return folder / "bench"
+    return by_verilator(folder, "testbench", (*JUDGES, MONITOR, WIRES, library / "libzuldegei.a"), "--trace", "-DJUDGES")
 
 
 def written(program: Path, *words: str) -> Tuple[Simulated, str]:

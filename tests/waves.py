@@ -25,19 +25,14 @@ from pathlib import Path
 from typing import Dict, Iterator, List, NamedTuple, Optional, Tuple
 
 import stored
-from ends import asked, is_there, told_in_a_folder
+from ends import TOP, asked, is_there, told_in_a_folder
+from simulators import by_icarus, by_verilator, run
+from zuldegei.command import Fault
+from zuldegei.signal_map import Reader
+from zuldegei.vcd import Dump
+from zuldegei.waves import observe
 
-TOP = Path(__file__).resolve().parent.parent
 RTL, DUMPS = TOP / "examples/testbench/rtl", TOP / "tests/dumps"
-sys.path += [str(RTL), str(TOP / "python")]
-sys.dont_write_bytecode = True
-
-import run  # noqa: E402
-from zuldegei.command import Fault  # noqa: E402
-from zuldegei.signal_map import Reader  # noqa: E402
-from zuldegei.vcd import Dump  # noqa: E402
-from zuldegei.waves import observe  # noqa: E402
-
 MAP = (RTL / "ports.map").read_text()
 ONE_CLIENT = "".join(line for line in MAP.splitlines(True) if not line.startswith(("client 1", "a 1", "d 1")))
 LINES = MAP.count("\n")
@@ -65,15 +60,10 @@ def style(top: str) -> Bench:
 def made(bench: Bench, simulator: str, folder: Path, tracing: Tuple[str, ...] = ("--trace",)) -> List[str]:
     """Makes a testbench with a simulator; gives the words that run it."""
     folder.mkdir(exist_ok=True)
-    program, searched = str(folder / bench.top), [f"-I{RTL}", f"-I{DUMPS}", *bench.defines]
+    searched = [f"-I{RTL}", f"-I{DUMPS}", *bench.defines]
     if simulator == "iverilog":
-        words, runs = ["iverilog", "-g2012", *searched, "-s", bench.top, "-o", program, *bench.files], ["vvp", "-n", program]
-    else:
-        fast = ["-MAKEFLAGS", "OPT_FAST=-O0 OPT_SLOW=-O0 OPT_GLOBAL=-O0"]  # it is made in less time than it would save
-        words = ["verilator", "--binary", "--timing", "-Wno-fatal", *fast, *tracing, *searched, "--top-module", bench.top]
-        words, runs = [*words, "-Mdir", str(folder), "-o", bench.top, *bench.files], [program]
-    run.simulated(words)
-    return runs
+        return by_icarus(folder / bench.top, bench.top, bench.files, *searched)
+    return [str(by_verilator(folder, bench.top, bench.files, *tracing, *searched))]
 
 
 def simulated(runs: List[str], folder: Path, dump: str, *more: str) -> Tuple[str, str]:
@@ -596,8 +586,7 @@ def images(folder: Path, score: str) -> Iterator[Case]:
     """The fill lines of each kind of image."""
     shutil.copytree(TOP / "tests/images", folder, dirs_exist_ok=True)
     if shutil.which("iverilog"):
-        run.simulated(["iverilog", "-g2012", "-o", str(folder / "reads"), str(folder / "reads.sv")])
-        ran = subprocess.run(["vvp", "-n", str(folder / "reads")], capture_output=True, text=True, cwd=folder)
+        ran = subprocess.run(by_icarus(folder / "reads", "top", [folder / "reads.sv"]), capture_output=True, text=True, cwd=folder)
         wanted = {0x10000 + int(line.split()[0], 16): int(line.split()[1], 16) for line in ran.stdout.splitlines() if " " in line[4:5]}
         got = filled(command("fill", folder / "words.hex", "--at", "10000"))
         yield "what $readmemh reads, as Icarus does", None if got == wanted and len(got) > 40 else f"{got}, not {wanted}"
