@@ -63,7 +63,7 @@ def by_print(name: str, words: List[str], folder: Path) -> Iterator[Case]:
         yield f"a dump by {name}, {said}", unlike((ran.returncode, ran.stdout), (0, due))
 
 
-def by_icarus() -> Iterator[Case]:
+def in_icarus() -> Iterator[Case]:
     if not is_there("waits by Icarus", "iverilog"):
         return
     with tempfile.TemporaryDirectory() as room:
@@ -83,7 +83,7 @@ def written(program: Path, *words: str) -> Tuple[Simulated, str]:
     return ran, seen.read_text()
 
 
-def by_verilator(score: Path, library: Path) -> Iterator[Case]:
+def in_verilator(score: Path, library: Path) -> Iterator[Case]:
     if not is_there("waits by Verilator", "verilator"):
         return
     with tempfile.TemporaryDirectory() as room:
@@ -149,8 +149,8 @@ def by_command(score: Path) -> Iterator[Case]:
 
 def cases(score: Path, library: Path) -> Iterator[Case]:
     yield from by_command(score)
-    yield from by_icarus()
-    yield from by_verilator(score, library)
+    yield from in_icarus()
+    yield from in_verilator(score, library)
 
 
 if __name__ == "__main__":
