@@ -24,10 +24,10 @@ from html.parser import HTMLParser
 from pathlib import Path
 from typing import Dict, Iterator, List, Optional, Tuple
 
-from ends import is_there, told
+from ends import TOP, is_there, told
+from package import RTL, command
 from pictures import BROWSERS
 from score_cases import all_cases
-from waves import RTL, TOP, command
 from zuldegei.command import Fault
 from zuldegei.cover_bins import CORNERS, GROUPS, bins_of
 from zuldegei.cover_read import Reader

@@ -16,8 +16,8 @@ from pathlib import Path
 from typing import Dict, Iterator, List, Optional, Tuple
 
 from cover import CASES, RUNS, WIDE, read
-from ends import is_there, told
-from waves import RTL, TOP, command
+from ends import TOP, is_there, told
+from package import RTL, command
 from zuldegei.cover_bins import GROUPS, bins_of
 from zuldegei.cover_groups import Covergroups, identifier
 from zuldegei.cover_report import Count, Cover, First, Shown, cover_of, cover_of_json

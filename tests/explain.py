@@ -20,10 +20,10 @@ from collections import Counter
 from pathlib import Path
 from typing import Callable, Dict, Iterator, List, Optional, Tuple
 
-from ends import is_there, told_in_a_folder
+from ends import TOP, is_there, told_in_a_folder
+from package import RTL, command, one_line
 from pictures import BROWSERS, pictured
 from stored import observations
-from waves import RTL, TOP, command, one_line
 from zuldegei.causes import Explainer
 from zuldegei.history import History
 from zuldegei.observation import Observation, verdict_of

@@ -31,8 +31,9 @@ from pathlib import Path
 from typing import Dict, Iterator, List, NamedTuple, Optional, Sequence, Tuple
 from xml.etree import ElementTree
 
-from ends import told
-from waves import HAND, MAP, RTL, TOP, UNKNOWN, a_beat, command, hand
+from ends import TOP, told
+from package import RTL, command
+from waves import HAND, MAP, UNKNOWN, a_beat, hand
 from zuldegei import vcd
 from zuldegei.command import Fault, Status
 from zuldegei.cover_read import Reader

@@ -18,11 +18,11 @@ import sys
 from pathlib import Path
 from typing import Dict, Iterator, List, Optional, Sequence, Tuple
 
-from ends import told_in_a_folder
+from ends import TOP, told_in_a_folder
 from fuzz_commands import called
-from regress import KNOWN, begun, stopped, taken
+from package import RTL, begun, command
+from regress import KNOWN, stopped, taken
 from stored import blocks
-from waves import RTL, TOP, command
 from zuldegei import regress
 from zuldegei.parts import merged
 from zuldegei.reports import Asked, Part
@@ -234,7 +234,7 @@ def ended_early(folder: Path, score: str) -> Iterator[Case]:
     words = ["--command", text, "--seeds", "1-5", "-j", 1, "--score", score, "--cover", "night.cover"]
     for by, left, why in ((signal.SIGTERM, 2, "of its 3 runs 2 weren't judged"), (signal.SIGKILL, 3, "missing")):
         (folder / "again").unlink(missing_ok=True)
-        with begun(folder, *words, "--part", "1/2", "--json", "part-1.json", stdout=subprocess.DEVNULL) as program:
+        with begun(folder, "regress", *words, "--part", "1/2", "--json", "part-1.json", stdout=subprocess.DEVNULL) as program:
             stopped(folder, program, by)
         (folder / "again").touch()
         part(folder, 2, 2, words)

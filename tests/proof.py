@@ -15,8 +15,8 @@ from pathlib import Path
 from typing import Dict, Iterator, List, Optional, Tuple
 
 from ends import asked, is_there, told
+from package import command
 from simulators import by_icarus
-from waves import command
 
 TOP = Path(__file__).resolve().parent.parent
 PROOF, RTL, RULES = TOP / "examples/proof", TOP / "examples/testbench/rtl", TOP / "interfaces/systemverilog/zuldegei_rules.sv"

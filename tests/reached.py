@@ -17,12 +17,12 @@ from pathlib import Path
 from typing import Callable, Iterator, List, NamedTuple, Optional, Tuple
 
 from ends import asked, told
+from package import RTL
 from pictures import BROWSERS, pictured
-from waves import RTL
+from simulators import run
 
 sys.path.append(str(RTL.parent))
 import random_bench  # noqa: E402
-import run  # noqa: E402
 from zuldegei.client import Interactive  # noqa: E402
 from zuldegei.cover_read import Reader  # noqa: E402
 from zuldegei.cover_report import Cover, Shown, cover_of, withouts_of  # noqa: E402

@@ -9,7 +9,6 @@ that can't count are named; junitparser reads how much it was, where that is ins
 
 import json
 import os
-import pty
 import random
 import re
 import resource
@@ -22,9 +21,9 @@ from pathlib import Path
 from typing import Iterator, List, Optional, Tuple
 from xml.etree import ElementTree
 
-from ends import told_in_a_folder
+from ends import TOP, told_in_a_folder
+from package import RTL, begun, command, on_a_terminal
 from stored import blocks
-from waves import RTL, TOP, command
 from zuldegei.beside import Beside, Helpers, Request
 from zuldegei.regress import Runner
 from zuldegei.reports import Job, Outcome, State
@@ -100,14 +99,6 @@ def states(folder: Path, score: str) -> Iterator[Case]:
     yield "seeds without a place", ended(Made(folder, score, "--command", "true", "--seeds", "1-3"), 6, "{seed}")
 
 
-def begun(folder: Path, *words: object, **more: object) -> subprocess.Popen:
-    """A call that goes on in the background."""
-    environment = {**os.environ, "PYTHONPATH": str(TOP / "python"), "PYTHONDONTWRITEBYTECODE": "1"}
-    words = [sys.executable, "-m", "zuldegei.regress", *map(str, words)]
-    signal.signal(signal.SIGINT, signal.default_int_handler)  # a shell has a command in the background ignore it, and what that starts
-    return subprocess.Popen(words, cwd=folder, env=environment, stderr=subprocess.PIPE, text=True, **more)
-
-
 def stopped(folder: Path, program: subprocess.Popen, by: int) -> Tuple[str, str]:
     """What a call prints that gets a signal once a command of it has begun, which makes a file `began`."""
     while program.poll() is None and not (folder / "began").exists():
@@ -120,7 +111,7 @@ def stopped(folder: Path, program: subprocess.Popen, by: int) -> Tuple[str, str]
 def interrupted(folder: Path, score: str) -> Optional[str]:
     """Whether a call that is interrupted ends, with its command."""
     words = ["--command", "touch began; sleep 60; touch ended", "--score", score]
-    with begun(folder, *words, stdout=subprocess.DEVNULL) as program:
+    with begun(folder, "regress", *words, stdout=subprocess.DEVNULL) as program:
         _, said = stopped(folder, program, signal.SIGINT)
     return None if program.returncode == 130 and said.strip().endswith("interrupted") else f"status {program.returncode}, {said!r}"
 
@@ -218,7 +209,7 @@ def full(folder: Path, score: str) -> Iterator[Case]:
         yield f"{word} on a full disc", None if is_well else f"status {ran.returncode}, {ran.stderr[-300:]!r}, {ran.stdout[-300:]}"
     with open("/dev/full", "w") as nowhere:
         words = [RUNS[0], "--json", "other", "--score", score]
-        with begun(folder, *words, stdout=nowhere) as program:
+        with begun(folder, "regress", *words, stdout=nowhere) as program:
             _, said = program.communicate(timeout=60)
     is_well = program.returncode == 3 and "standard output: No space left" in said and '"wrong"' in taken(folder / "other")
     yield "the table on a full disc", None if is_well else f"status {program.returncode}, {said[-300:]!r}"
@@ -259,7 +250,7 @@ def halfway(folder: Path, score: str) -> Iterator[Case]:
     for by in (signal.SIGINT, signal.SIGTERM):
         for name in files.values():
             (folder / name).unlink(missing_ok=True)
-        with begun(folder, *words, stdout=subprocess.PIPE) as program:
+        with begun(folder, "regress", *words, stdout=subprocess.PIPE) as program:
             printed, said = stopped(folder, program, by)
         yield f"{by.name} in mid-run", lacking(folder, program.returncode, printed, said)
 
@@ -497,14 +488,8 @@ def setup_of(folder: Path) -> Path:
 
 def progress(folder: Path, score: str) -> Optional[str]:
     """Whether a terminal is told how many runs have ended."""
-    parent, child = pty.openpty()
-    environment = {**os.environ, "PYTHONPATH": str(TOP / "python"), "PYTHONDONTWRITEBYTECODE": "1"}
-    words = [sys.executable, "-m", "zuldegei.regress", str(RIGHT), str(RUNS[0]), "--score", score, "-j", "1"]
-    ran = subprocess.run(words, stdout=subprocess.DEVNULL, stderr=child, env=environment, cwd=folder, timeout=60)
-    os.close(child)
-    said = os.read(parent, 4096)
-    os.close(parent)
-    return None if re.search(rb"2 of 2, 1 not right", said) and ran.returncode == 1 else repr(said)
+    status, said = on_a_terminal("regress", RIGHT, RUNS[0], "--score", score, "-j", 1, cwd=folder)
+    return None if b"2 of 2, 1 not right" in said and status == 1 else repr(said)
 
 
 def cases(folder: Path, score: str) -> Iterator[Case]:

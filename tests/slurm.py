@@ -19,9 +19,9 @@ from pathlib import Path
 from typing import Dict, Iterator, List, Optional, Tuple
 
 from ends import TOP, asked, told_in_a_folder
+from package import RTL, begun, command
 from parts import Made, apart
-from regress import begun, stopped
-from waves import RTL, command
+from regress import stopped
 
 PROGRAMS = ("munged", "slurmctld", "slurmd", "sbatch", "scancel", "squeue", "sinfo")
 SECONDS, MOST = 60, 600  # in which the daemons are there, or have ended; and in which all has, but for 2 for each seed
@@ -137,7 +137,7 @@ def interrupted(folder: Path, score: str, cluster: Cluster) -> Iterator[Case]:
     began = "touch came.{seed}; [ -e came.3 ] && [ -e came.4 ] && touch began; sleep 300"
     text = f"case {{seed}} in [12]) cat '{RUNS[0]}';; *) {began};; esac"
     words = ["--command", text, "--seeds", "1-6", "--score", score, "--slurm", 2, "--parts", "parts", "--json", "runs.json"]
-    with begun(folder, *words, stdout=subprocess.PIPE) as program:
+    with begun(folder, "regress", *words, stdout=subprocess.PIPE) as program:
         printed, said = stopped(folder, program, signal.SIGINT)
     states = [it["status"] for it in json.loads((folder / "runs.json").read_text())["runs"]]
     is_well = program.returncode == 130 and states == ["wrong"] * 2 + ["unjudged"] * 4 and said.strip().endswith("interrupted")

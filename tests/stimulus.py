@@ -16,9 +16,10 @@ from collections import Counter
 from pathlib import Path
 from typing import Iterator, List, NamedTuple, Optional, Sequence, Set, Tuple
 
-from ends import asked, told
+from ends import TOP, asked, told
+import package
+from package import RTL
 from stored import blocks
-from waves import RTL, TOP
 
 sys.path[:0] = [str(RTL.parent), str(TOP / "python")]
 import random_bench  # noqa: E402
@@ -32,7 +33,6 @@ from zuldegei.player import Player, Port  # noqa: E402
 from zuldegei.stimulus import Stimulus, Wanted  # noqa: E402
 from zuldegei.stimulus_cards import CARDS, Cards  # noqa: E402
 
-COMMAND = [sys.executable, "-m", "zuldegei.stimulus"]
 EXAMPLE = (RTL / "setup.lines").read_text()
 WIDE = """config 3 4 4 4 16 7 lhh
 region 0 4 10 gpah
@@ -217,8 +217,7 @@ def refusals(trace: str) -> List[str]:
 
 
 def called(folder: Path, *words: object) -> "subprocess.CompletedProcess[str]":
-    environment = {**os.environ, "PYTHONPATH": str(TOP / "python"), "COLUMNS": "100"}
-    return subprocess.run([*COMMAND, *map(str, words)], cwd=folder, env=environment, capture_output=True, text=True, timeout=120, check=False)
+    return package.command("stimulus", *words, cwd=folder, environment={"COLUMNS": "100"})
 
 
 def deals(printed: str) -> List[str]:

@@ -16,8 +16,8 @@ from pathlib import Path
 from typing import Iterator, List, NamedTuple, Optional, Tuple
 
 from ends import asked, is_there, told
+from package import RTL
 from simulators import by_verilator
-from waves import RTL
 
 sys.path.append(str(RTL))
 import cards  # noqa: E402

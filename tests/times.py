@@ -15,9 +15,9 @@ from collections import Counter
 from pathlib import Path
 from typing import Dict, Iterator, List, NamedTuple, Optional, Sequence, Tuple
 
-from ends import asked, told_in_a_folder
+from ends import TOP, asked, told_in_a_folder
+from package import RTL, command
 from stored import observations
-from waves import RTL, TOP, command
 
 SETUP = "config 2 4 16 2 16 12 hh\nregion 0 4 10 gpah\npage 10 4 good\n"
 ZEROS = "0000000000000000"

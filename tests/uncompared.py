@@ -15,11 +15,11 @@ from collections import Counter
 from pathlib import Path
 from typing import Iterator, List, Optional, Tuple
 
-from ends import asked, told
+from ends import TOP, asked, told
+from package import RTL, command
 from races import History as Races
 from score_cases import all_cases
 from stored import observations
-from waves import RTL, TOP, command
 from zuldegei.command import Fault
 from zuldegei.compared import Comparison, Why
 from zuldegei.history import History

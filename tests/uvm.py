@@ -14,9 +14,9 @@ import tempfile
 from pathlib import Path
 from typing import Iterator, List, Optional, Tuple
 
-from ends import asked, is_there, told
+from ends import TOP, asked, is_there, told
+from package import RTL
 from simulators import SYSTEMVERILOG, built, by_verilator
-from waves import RTL, TOP
 
 FILES = (SYSTEMVERILOG / "zuldegei_pkg.sv", TOP / "tests/uvm_pkg.sv", SYSTEMVERILOG / "zuldegei_uvm.sv", TOP / "tests/uvm.sv")
 RUNS = ("answered-early", "cut-short", "page-crossed")

@@ -18,8 +18,8 @@ from typing import Iterator, List, Optional, Tuple
 
 from ends import asked, is_there, told, unlike
 from in_process_rtl import ABORTED, NO_LIMIT, TOLD, TOP
+from package import command
 from simulators import SYSTEMVERILOG, Simulated, by_icarus, by_verilator, run, started
-from waves import command
 
 MONITOR, WIRES = TOP / "examples/testbench/rtl/monitor.sv", TOP / "tests/waits.sv"
 JUDGES = [SYSTEMVERILOG / f"zuldegei_{it}.sv" for it in ("pkg", "monitor")]

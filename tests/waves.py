@@ -11,7 +11,6 @@ import gzip
 import io
 import itertools
 import os
-import pty
 import random
 import re
 import resource
@@ -26,13 +25,14 @@ from typing import Dict, Iterator, List, NamedTuple, Optional, Tuple
 
 import stored
 from ends import TOP, asked, is_there, told_in_a_folder
+from package import RTL, command, on_a_terminal, one_line
 from simulators import by_icarus, by_verilator, run
 from zuldegei.command import Fault
 from zuldegei.signal_map import Reader
 from zuldegei.vcd import Dump
 from zuldegei.waves import observe
 
-RTL, DUMPS = TOP / "examples/testbench/rtl", TOP / "tests/dumps"
+DUMPS = TOP / "tests/dumps"
 MAP = (RTL / "ports.map").read_text()
 ONE_CLIENT = "".join(line for line in MAP.splitlines(True) if not line.startswith(("client 1", "a 1", "d 1")))
 LINES = MAP.count("\n")
@@ -72,14 +72,6 @@ def simulated(runs: List[str], folder: Path, dump: str, *more: str) -> Tuple[str
     words = [*runs, *(["-fst"] if dump.endswith(".fst") and runs[0] == "vvp" else []), *more, "+seed=3"]
     ran = subprocess.run([*words, f"+observed={seen}", f"+dump={folder / dump}"], capture_output=True, text=True, cwd=folder)
     return seen.read_text(), ran.stdout + ran.stderr
-
-
-def command(module: str, *words: object, seconds: int = 120, **more: object) -> subprocess.CompletedProcess:
-    """Runs a command of the package from this checkout."""
-    environment = {**os.environ, "PYTHONPATH": str(TOP / "python"), "PYTHONDONTWRITEBYTECODE": "1"}
-    environment.update(more.pop("environment", {}))
-    words = [sys.executable, "-m", f"zuldegei.{module}", *map(str, words)]
-    return subprocess.run(words, capture_output=True, text=True, timeout=seconds, env=environment, **more)
 
 
 def read(folder: Path, the_map: str, dump: str) -> subprocess.CompletedProcess:
@@ -200,15 +192,6 @@ def verilator(folder: Path, faults: Tuple[str, ...]) -> Iterator[Case]:
         yield f"{bug} by Verilator, VCD", same(read(folder, MAP, "run.vcd"), lines)
 
 
-def one_line(ran: subprocess.CompletedProcess, lines: str = "", named: Tuple[str, ...] = (), status: int = 2) -> Optional[str]:
-    """How a run of a command didn't end in one line that has these words, a status, and the first of these lines."""
-    if ran.returncode != status:
-        return f"status {ran.returncode}, not {status}; it said {ran.stderr.strip()[-300:]!r}"
-    if ran.stderr.count("\n") != 1 or not all(it in ran.stderr for it in named):
-        return f"it said {ran.stderr[-300:]!r}, without {named}"
-    return None if lines.startswith(ran.stdout) else "it printed lines that weren't observed"
-
-
 def in_process(the_map: str, dump: bytes) -> Tuple[str, str]:
     """The lines of a dump, and the fault that ended them or nothing."""
     text: List[str] = []
@@ -309,24 +292,11 @@ def progress(folder: Path) -> Optional[str]:
     """Whether a terminal is told how far a dump is read, that comes through a pipe with a rest in between."""
     pipe = folder / "pipe.vcd"
     os.mkfifo(pipe)
-    data = (folder / "run.vcd").read_bytes()
-    parent, child = pty.openpty()
-    words = [sys.executable, "-m", "zuldegei.waves", str(folder / "ports.map"), str(pipe)]
-    environment = {**os.environ, "PYTHONPATH": str(TOP / "python"), "PYTHONDONTWRITEBYTECODE": "1"}
-    with subprocess.Popen(words, stdout=subprocess.DEVNULL, stderr=child, env=environment) as ran:
-        os.close(child)
-        feeder = threading.Thread(target=fed, args=(pipe, data))
-        feeder.start()
-        said = b""
-        try:
-            while True:
-                said += os.read(parent, 4096)
-        except OSError:
-            pass  # a terminal that nobody writes to any more
-        feeder.join()
-        ran.wait()
-    os.close(parent)
-    return None if re.search(rb"\d MB, [\d.]+ MB/s, [\d,]+ beats", said) and ran.returncode == 0 else repr(said[-200:])
+    feeder = threading.Thread(target=fed, args=(pipe, (folder / "run.vcd").read_bytes()))
+    feeder.start()
+    status, said = on_a_terminal("waves", folder / "ports.map", pipe)
+    feeder.join()
+    return None if re.search(rb"\d MB, [\d.]+ MB/s, [\d,]+ beats", said) and status == 0 else repr(said[-200:])
 
 
 def fed(pipe: Path, data: bytes) -> None:
