@@ -21,7 +21,7 @@ from pathlib import Path
 from typing import Iterator, List, NamedTuple, Optional, Tuple
 
 import stored
-from ends import asked, is_there, told
+from ends import Case, asked, is_there, told
 from in_process_rtl import TOP, failed_wrong, long_setup
 from simulators import SYSTEMVERILOG, Simulated, by_icarus, by_verilator, run, started
 
@@ -36,7 +36,6 @@ TOLD = re.compile(r"(?m)^\[(\d+)\] %Error: .*zuldegei: (.*)$")
 ENDED = re.compile(r"(?m)^zuldegei: = predicted (\d+) wrong (\d+)$")
 REPLY = re.compile(r"(?m)^= wrong \d+ reply (?!9 ).* at (\d+)$")
 MANY = "+verilator+error+limit+1000000"
-Case = Tuple[str, Optional[str]]
 
 
 class Bench(NamedTuple):

@@ -24,7 +24,7 @@ from html.parser import HTMLParser
 from pathlib import Path
 from typing import Dict, Iterator, List, Optional, Tuple
 
-from ends import TOP, is_there, told
+from ends import TOP, Case, is_there, told
 from package import RTL, command
 from pictures import BROWSERS
 from score_cases import all_cases
@@ -45,7 +45,6 @@ MERGES = 40
 WIDE = (COMMAND / "wide.lines").read_text()
 # Beats that break a rule each, behind which nothing of a request is reached.
 BROKEN = (COMMAND / "broken.beats").read_text()
-Case = Tuple[str, Optional[str]]
 
 
 def read(text: str) -> Reader:

@@ -16,7 +16,7 @@ from pathlib import Path
 from typing import Dict, Iterator, List, Optional, Tuple
 
 from cover import CASES, RUNS, WIDE, read
-from ends import TOP, is_there, told
+from ends import TOP, Case, is_there, told
 from package import RTL, command
 from zuldegei.cover_bins import GROUPS, bins_of
 from zuldegei.cover_groups import Covergroups, identifier
@@ -41,7 +41,6 @@ print map { $_->name . "\\n" } $netlist->modules_sorted();
 BENCH = "module testbench;\n    initial #10 $finish;\nendmodule\nbind testbench zuldegei_cover covered ();\n"
 COUNTED = re.compile(r"(?m)^([a-z-]+/\S+) (\d+)$")
 MOST = 1000  # samples of a bin
-Case = Tuple[str, Optional[str]]
 
 
 def module(cover: Cover) -> str:

@@ -20,7 +20,7 @@ from collections import Counter
 from pathlib import Path
 from typing import Callable, Dict, Iterator, List, Optional, Tuple
 
-from ends import TOP, is_there, told_in_a_folder
+from ends import TOP, Case, is_there, told_in_a_folder
 from package import RTL, command, one_line
 from pictures import BROWSERS, pictured
 from stored import observations
@@ -60,7 +60,6 @@ PUT, GET, DONE = "A 0 0 0 3 5 00000008 ff 1122334455667788 0", "A 1 4 0 3 7 0000
 AW, W, B = "AW 0 00010008 0 3 1", "W 1122334455667788 ff 1", "B 0 OKAY"
 READ_ZEROS = (GET, "AR 3 00010008 0 3 1", "R 3 0000000000000000 OKAY 1", "D 1 1 0 3 7 0 0000000000000000 0")
 COLOURS = ("cfe3ff", "d8f5d0", "9fc4f5", "aee3a0", "dd0000")  # of Puts, Gets, writes, reads and what is wrong
-Case = Tuple[str, Optional[str]]
 
 
 def run_of(name: str) -> Tuple[Path, Path]:

@@ -31,7 +31,7 @@ from pathlib import Path
 from typing import Dict, Iterator, List, NamedTuple, Optional, Sequence, Tuple
 from xml.etree import ElementTree
 
-from ends import TOP, told
+from ends import TOP, Case, told
 from package import RTL, command
 from waves import HAND, MAP, UNKNOWN, a_beat, hand
 from zuldegei import vcd
@@ -58,7 +58,6 @@ NUMBERS = (0, 1, 2, 31, 32, 56, 0x7F, 0xFF, 0xFFFF, 0x7FFF_FFFF, 0x8000_0000, 0x
 # The status and what JUnit has of a run in each state; of all others these are 2 and an error.
 ENDS = {"right": (0, "system-out"), "waived": (0, "skipped"), "wrong": (1, "failure"), "slow": (1, "failure")}
 WAIVERS = b"# known\nreply PAYLOAD client 1 the old DMA\nreply UNANSWERED pages 0 8 lost\naxi CROSS_4K pages 10010 4 pages\naxi WLAST pages 0 99 w\n"
-Case = Tuple[str, Optional[str]]
 
 
 class Call(NamedTuple):

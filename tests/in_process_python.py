@@ -8,10 +8,10 @@ import sys
 import threading
 import types
 from pathlib import Path
-from typing import Callable, Iterator, List, Optional, Tuple
+from typing import Callable, Iterator, List
 
 import stored
-from ends import TOP, unlike
+from ends import TOP, Case, unlike
 
 sys.path.insert(0, str(TOP / "python"))
 
@@ -19,7 +19,6 @@ import zuldegei  # noqa: E402
 from zuldegei import Channel, Error, Judged, Response, Scoreboard, ScoreboardError, scoreboard  # noqa: E402
 from zuldegei.client import Interactive  # noqa: E402
 
-Case = Tuple[str, Optional[str]]
 SETUP = "config 2 4 16 2 16 12 hh\nregion 0 4 10 gpah\npage 10 4 good\n"
 DATA, PUT = 0x1122334455667788, {"opcode": 0, "size": 3, "source": 5, "address": 8, "mask": 0xFF}
 GET = {"opcode": 4, "size": 3, "source": 7, "address": 8, "mask": 0xFF}

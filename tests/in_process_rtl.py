@@ -24,7 +24,7 @@ from pathlib import Path
 from typing import Iterator, Optional, Tuple
 
 import stored
-from ends import TOP, asked, is_there, told
+from ends import TOP, Case, asked, is_there, told
 
 from simulators import QUICK, SYSTEMVERILOG, Simulated, built, run, started
 from zuldegei.latency import End, Latencies
@@ -40,7 +40,6 @@ LONG_LINES = ("# a line of a set-up\n", "fill 10000 00 00 00 00\n")
 ABORTED = -signal.SIGABRT  # as which Verilator ends a run, and a shell says 134
 LINES, SECONDS = 200_000, 10  # of a long set-up; in how many it is read on a busy machine, by a testbench that isn't optimized
 PIPED = (run.RIGHT, "REPLY_TWICE", "UNKNOWN_READ")
-Case = Tuple[str, Optional[str]]
 
 
 def made(bug: str, library: Path, folder: Path, runtime: Optional[Path]) -> Path:

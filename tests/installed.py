@@ -19,10 +19,9 @@ from pathlib import Path
 from typing import Dict, Iterator, List, Optional, Set, Tuple
 
 import stored
-from ends import is_there, told
+from ends import TOP, Case, is_there, told
 from page_commands import BLOCK, SHOWN
 
-TOP = Path(__file__).resolve().parent.parent
 VERSION = (TOP / "VERSION").read_text().strip()
 PROOF = (TOP / "examples/proof/README.md").read_text()
 PAGE = (TOP / "docs/INSTALL.md").read_text().replace("VERSION", VERSION).replace(f"/{VERSION}`", "/VERSION`")
@@ -36,7 +35,6 @@ CRATES = "tlbridge:\ntlscore:\nzuldegei staticlib:\n"
 # What is said in Python of an answer that no write asked for.
 SETUP = "config 1 4 16 2 16 12 h\npage 10 4 good\n"
 SCOREBOARD = f"from zuldegei.scoreboard import Scoreboard; print(Scoreboard({SETUP!r}).b(id=0).text)"
-Case = Tuple[str, Optional[str]]
 
 
 def ran(words: List[str], cwd: Path = TOP, env: Optional[Dict[str, str]] = None, umask: int = -1) -> subprocess.CompletedProcess:

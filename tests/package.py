@@ -6,14 +6,18 @@ import signal
 import subprocess
 import sys
 from pathlib import Path
-from typing import List, Optional, Tuple
+from typing import Dict, List, Optional, Tuple
 
 from ends import TOP
 
 RTL = TOP / "examples/testbench/rtl"
 sys.dont_write_bytecode = True
 sys.path.append(str(TOP / "python"))
-ENVIRONMENT = {**os.environ, "PYTHONPATH": str(TOP / "python"), "PYTHONDONTWRITEBYTECODE": "1"}
+
+
+def environment(**more: str) -> Dict[str, str]:
+    """That of this process as it is now, in which the package is found, and more."""
+    return {**os.environ, "PYTHONPATH": str(TOP / "python"), "PYTHONDONTWRITEBYTECODE": "1", **more}
 
 
 def words_of(module: str, *words: object) -> List[str]:
@@ -22,20 +26,20 @@ def words_of(module: str, *words: object) -> List[str]:
 
 def command(module: str, *words: object, seconds: int = 120, **more: object) -> "subprocess.CompletedProcess[str]":
     """Runs a command."""
-    environment = {**ENVIRONMENT, **more.pop("environment", {})}
-    return subprocess.run(words_of(module, *words), capture_output=True, text=True, timeout=seconds, env=environment, **more)
+    its_own = environment(**more.pop("environment", {}))
+    return subprocess.run(words_of(module, *words), capture_output=True, text=True, timeout=seconds, env=its_own, **more)
 
 
 def begun(folder: Path, module: str, *words: object, **more: object) -> "subprocess.Popen[str]":
     """A command that goes on in the background."""
     signal.signal(signal.SIGINT, signal.default_int_handler)  # a shell has a command in the background ignore it, and what that starts
-    return subprocess.Popen(words_of(module, *words), cwd=folder, env=ENVIRONMENT, stderr=subprocess.PIPE, text=True, **more)
+    return subprocess.Popen(words_of(module, *words), cwd=folder, env=environment(), stderr=subprocess.PIPE, text=True, **more)
 
 
 def on_a_terminal(module: str, *words: object, **more: object) -> Tuple[int, bytes]:
     """The status of a command, and what a terminal is told as its standard error."""
     parent, child = pty.openpty()
-    with subprocess.Popen(words_of(module, *words), stdout=subprocess.DEVNULL, stderr=child, env=ENVIRONMENT, **more) as ran:
+    with subprocess.Popen(words_of(module, *words), stdout=subprocess.DEVNULL, stderr=child, env=environment(), **more) as ran:
         os.close(child)
         said = b""
         try:

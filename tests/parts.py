@@ -18,7 +18,7 @@ import sys
 from pathlib import Path
 from typing import Dict, Iterator, List, Optional, Sequence, Tuple
 
-from ends import TOP, told_in_a_folder
+from ends import TOP, Case, told_in_a_folder
 from fuzz_commands import called
 from package import RTL, begun, command
 from regress import KNOWN, stopped, taken
@@ -43,7 +43,6 @@ OTHERS = {
     "a clock": (["--clock", "7"], "--clock"),
 }
 CUTS = 40
-Case = Tuple[str, Optional[str]]
 
 
 def here(folder: Path, *words: object) -> subprocess.CompletedProcess:

@@ -10,9 +10,9 @@ import re
 import sys
 import tempfile
 from pathlib import Path
-from typing import Iterator, Optional, Tuple
+from typing import Iterator, Optional
 
-from ends import asked, is_there, told
+from ends import Case, asked, is_there, told
 from in_process_rtl import NO_LIMIT, TOLD, TOP
 from simulators import SYSTEMVERILOG, by_verilator, run, started
 from stored import observations
@@ -21,7 +21,6 @@ from systemc import AT_PORTS, END, by_hand, parts
 FILES = [SYSTEMVERILOG / f"zuldegei_{it}.sv" for it in ("pkg", "reply_pkg", "monitor", "predictor")]
 PREDICTED = re.compile(r"%Error: .*zuldegei: (.*)$|^zuldegei: (= predicted .*)$", re.M)
 ENDLESS = AT_PORTS / "predictor/a-get.lines"
-Case = Tuple[str, Optional[str]]
 
 
 def bench(folder: Path, *files: Path) -> Path:

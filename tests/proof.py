@@ -12,13 +12,12 @@ import sys
 import tempfile
 from concurrent.futures import ThreadPoolExecutor
 from pathlib import Path
-from typing import Dict, Iterator, List, Optional, Tuple
+from typing import Dict, Iterator, List, Optional
 
-from ends import asked, is_there, told
+from ends import TOP, Case, asked, is_there, told
 from package import command
 from simulators import by_icarus
 
-TOP = Path(__file__).resolve().parent.parent
 PROOF, RTL, RULES = TOP / "examples/proof", TOP / "examples/testbench/rtl", TOP / "interfaces/systemverilog/zuldegei_rules.sv"
 FILES = [PROOF / "small_bridge.sv", PROOF / "word.sv", PROOF / "small_proof.sv", RULES]
 # The faults of the small bridge, and the assertion that fails first: of a reply that nobody waits for it may be another of channel D, since the
@@ -37,7 +36,6 @@ FAULTS = {
     "AW_WITHDRAWN": r"port\.AW_STAYS",
 }
 CLOCK = 10  # how long a clock is in the dump
-Case = Tuple[str, Optional[str]]
 
 
 def proved(*words: object, environment: Optional[Dict[str, str]] = None) -> subprocess.CompletedProcess:

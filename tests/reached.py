@@ -14,9 +14,9 @@ import subprocess
 import sys
 import tempfile
 from pathlib import Path
-from typing import Callable, Iterator, List, NamedTuple, Optional, Tuple
+from typing import Callable, Iterator, List, NamedTuple
 
-from ends import asked, told
+from ends import Case, asked, told
 from package import RTL
 from pictures import BROWSERS, pictured
 from simulators import run
@@ -31,7 +31,6 @@ RESETS, STEPS = 3, 5_000  # of a run of the RTL; of one of random_bench.py
 WHOLE, OF_THE_WHOLE = 20, 97  # runs, and how many per cent they have to reach
 MOST_WITHOUT = 45
 COLOURS = ("c00020", "e8a33d", "2f9e6b")  # of bins that were never, seldom and often reached
-Case = Tuple[str, Optional[str]]
 
 
 class Testbench(NamedTuple):

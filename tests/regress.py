@@ -21,7 +21,7 @@ from pathlib import Path
 from typing import Iterator, List, Optional, Tuple
 from xml.etree import ElementTree
 
-from ends import TOP, told_in_a_folder
+from ends import TOP, Case, told_in_a_folder
 from package import RTL, begun, command, on_a_terminal
 from stored import blocks
 from zuldegei.beside import Beside, Helpers, Request
@@ -35,7 +35,6 @@ for suite in junitparser.JUnitXml.fromfile(sys.argv[1]):
     print(*(f"{it.name}: {it.value}" for it in suite.properties()), *(it.system_out for it in suite), sep="\\n")
 """
 RUNS = sorted((RTL / "runs").glob("*.lines"))
-Case = Tuple[str, Optional[str]]
 
 
 class Made:
@@ -299,8 +298,6 @@ def lists(folder: Path, score: str) -> Iterator[Case]:
         ran = command("regress", *words, cwd=folder, preexec_fn=bounded)
         is_well = ran.returncode == 6 and "--seeds" in ran.stderr and ran.stderr.count("\n") == 1 and not (folder / "listed").exists()
         yield f"the seeds {text!r}", None if is_well else f"status {ran.returncode}, {ran.stderr[-300:]!r}"
-
-
 
 
 # Two clients, each of which gets a reply with other bytes than those that it put (lines 9 and 16), and a burst over the end of a page (18).

@@ -21,12 +21,11 @@ from pathlib import Path
 from typing import Deque, Dict, Iterator, List, NamedTuple, Optional, Tuple
 
 from beats import Beats
-from ends import asked, is_there, started, told
+from ends import TOP, Case, asked, is_there, started, told
 from model import INTENT, ABeat, beats_of
 from port_models import AXI_RULES, NUMBERS, AxiPort, Port, crosses
 from simulators import by_icarus, by_verilator
 
-TOP = Path(__file__).resolve().parent.parent
 RULES, RTL = TOP / "interfaces/systemverilog/zuldegei_rules.sv", TOP / "examples/testbench/rtl"
 LEAST = 50
 REPLY_RULES = ("UNASKED", "INTERLEAVED", "OPCODE", "SIZE", "DENIED", "CORRUPT")
@@ -48,7 +47,6 @@ TOLD = re.compile(r"zuldegei: (\w+) (?:(\d+) )?(\w+) at (\d+) \(\S*?(\w+)\)")
 # Which channel a label is of, where it doesn't begin with its name.
 CHANNELS = {"W_WITHOUT_AW": "W", "STROBE": "W", "WLAST": "W", "EARLY_STROBE": "AW", "EARLY_WLAST": "AW", "B_WITHOUT_WRITE": "B",
             "R_WITHOUT_READ": "R", "RLAST": "R"}  # fmt: skip
-Case = Tuple[str, Optional[str]]
 Wires = Tuple[int, ...]  # a beat's fields, in the order of FIELDS
 
 

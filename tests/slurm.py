@@ -16,9 +16,9 @@ import subprocess
 import sys
 import time
 from pathlib import Path
-from typing import Dict, Iterator, List, Optional, Tuple
+from typing import Dict, Iterator, List, Optional
 
-from ends import TOP, asked, told_in_a_folder
+from ends import TOP, Case, asked, told_in_a_folder
 from package import RTL, begun, command
 from parts import Made, apart
 from regress import stopped
@@ -29,7 +29,6 @@ CONFIG = (TOP / "tests/slurm.conf").read_text()
 PATH = f"{os.environ['PATH']}:/usr/sbin:/sbin"  # where the daemons may be
 USER = pwd.getpwuid(os.getuid()).pw_name
 RUNS = sorted((RTL / "runs").glob("*.lines"))
-Case = Tuple[str, Optional[str]]
 
 
 class Cluster:

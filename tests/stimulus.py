@@ -16,7 +16,7 @@ from collections import Counter
 from pathlib import Path
 from typing import Iterator, List, NamedTuple, Optional, Sequence, Set, Tuple
 
-from ends import TOP, asked, told
+from ends import TOP, Case, asked, told
 import package
 from package import RTL
 from stored import blocks
@@ -50,7 +50,6 @@ errors any
 BY_CLIENTS = {it: 1 for it in ("request", "param", "lane", "mask", "edge", "standing", "corrupt", "bad-word")}
 BY_CLIENTS.update({"conflict": 12, "after-ack": 12, "flight": 12, "source": 12, "order": 60})
 MOST_CLOCKS, SOURCES, BY_LOT = 20_000, 16, 60
-Case = Tuple[str, Optional[str]]
 
 
 # ---- a bridge that answers in any order

@@ -13,9 +13,9 @@ import subprocess
 import sys
 import tempfile
 from pathlib import Path
-from typing import Iterator, List, NamedTuple, Optional, Tuple
+from typing import Iterator, List, NamedTuple
 
-from ends import asked, is_there, told
+from ends import Case, asked, is_there, told
 from package import RTL
 from simulators import by_verilator
 
@@ -28,7 +28,6 @@ REQUESTS, TENTH = 150, 2  # of a run; runs of a night
 LEAST, TOLD_IN_CORNERS = 92, 3  # per cent of the bins behind such a night, and faults in corners that one run of each has to tell
 JUDGED = re.compile(r"(?m)^= judged \d+ wrong 0 outstanding 0 open 0 ")
 GET = "a {} 4 0 3 * 8 ff 0 0\n"
-Case = Tuple[str, Optional[str]]
 
 
 class Played(NamedTuple):

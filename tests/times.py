@@ -15,7 +15,7 @@ from collections import Counter
 from pathlib import Path
 from typing import Dict, Iterator, List, NamedTuple, Optional, Sequence, Tuple
 
-from ends import TOP, asked, told_in_a_folder
+from ends import TOP, Case, asked, told_in_a_folder
 from package import RTL, command
 from stored import observations
 
@@ -23,7 +23,6 @@ SETUP = "config 2 4 16 2 16 12 hh\nregion 0 4 10 gpah\npage 10 4 good\n"
 ZEROS = "0000000000000000"
 BEATS_OF_A_RUN = ("A", "D", "AW", "AR", "B", "R")
 BEATS_A_SECOND, BEATS, ROOM = 30_000, 200_000, 3 << 20  # bytes that a run ten times as long may take more
-Case = Tuple[str, Optional[str]]
 
 # A Put of 100 to 130 and an atomic of 120 to 180 by client 0, a Get of 110 to 180 and an Intent of 190 to 200 by client 1, a write of 110
 # to 130 and a read of 120 to 160: 11 clocks of 10.

@@ -15,7 +15,7 @@ from collections import Counter
 from pathlib import Path
 from typing import Iterator, List, Optional, Tuple
 
-from ends import TOP, asked, told
+from ends import TOP, Case, asked, told
 from package import RTL, command
 from races import History as Races
 from score_cases import all_cases
@@ -25,8 +25,6 @@ from zuldegei.compared import Comparison, Why
 from zuldegei.history import History
 from zuldegei.observation import Observation, verdict_of
 from zuldegei.uncompared import uncompared
-
-Case = Tuple[str, Optional[str]]
 
 
 def listed(score: str, folder: Path) -> Iterator[Case]:

@@ -12,16 +12,15 @@ import subprocess
 import sys
 import tempfile
 from pathlib import Path
-from typing import Iterator, List, Optional, Tuple
+from typing import Iterator, List, Tuple
 
-from ends import TOP, asked, is_there, told
+from ends import TOP, Case, asked, is_there, told
 from package import RTL
 from simulators import SYSTEMVERILOG, built, by_verilator
 
 FILES = (SYSTEMVERILOG / "zuldegei_pkg.sv", TOP / "tests/uvm_pkg.sv", SYSTEMVERILOG / "zuldegei_uvm.sv", TOP / "tests/uvm.sv")
 RUNS = ("answered-early", "cut-short", "page-crossed")
 SETUP = ("config", "region", "page", "bad", "profile", "errors", "axi", "x", "fill")
-Case = Tuple[str, Optional[str]]
 
 
 def made(folder: Path, library: Path) -> Path:

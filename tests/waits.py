@@ -14,9 +14,9 @@ import subprocess
 import sys
 import tempfile
 from pathlib import Path
-from typing import Iterator, List, Optional, Tuple
+from typing import Iterator, List, Tuple
 
-from ends import asked, is_there, told, unlike
+from ends import Case, asked, is_there, told, unlike
 from in_process_rtl import ABORTED, NO_LIMIT, TOLD, TOP
 from package import command
 from simulators import SYSTEMVERILOG, Simulated, by_icarus, by_verilator, run, started
@@ -38,7 +38,6 @@ BINS = ("A0/0 1 30", "A0/2-7 1 7", "A1/1 1 10", "AW/1 1 13", "W/1 1 16", "AR/0 1
 COMMANDS = {"explain": ("lines", "told"), "wave_of": ("lines", "told", "vcd")}
 # What zuldegei-times has of them.
 WAITED = (TOP / "tests/waits.tables").read_text()
-Case = Tuple[str, Optional[str]]
 
 
 def judged(score: Path, text: str) -> List[str]:

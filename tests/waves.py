@@ -24,7 +24,7 @@ from pathlib import Path
 from typing import Dict, Iterator, List, NamedTuple, Optional, Tuple
 
 import stored
-from ends import TOP, asked, is_there, told_in_a_folder
+from ends import TOP, Case, asked, is_there, told_in_a_folder
 from package import RTL, command, on_a_terminal, one_line
 from simulators import by_icarus, by_verilator, run
 from zuldegei.command import Fault
@@ -37,7 +37,6 @@ MAP = (RTL / "ports.map").read_text()
 ONE_CLIENT = "".join(line for line in MAP.splitlines(True) if not line.startswith(("client 1", "a 1", "d 1")))
 LINES = MAP.count("\n")
 DESIGN = [str(RTL / name) for name in ("bridge.sv", "client.sv", "fifo.sv", "memory.sv", "monitor.sv", "streaming_bridge.sv")]
-Case = Tuple[str, Optional[str]]
 
 
 class Bench(NamedTuple):
