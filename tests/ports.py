@@ -1,4 +1,5 @@
-"""AXI4 ports of many IDs or of great depth: beats by lot, most of them right, beside the plain model of `port_models.py`. Bursts are opened until the port is nearly full, then they are answered in any order until few are left, and so on.
+"""AXI4 ports of many IDs or of great depth: beats by lot, most of them right, beside the plain model of `port_models.py`. Bursts are
+opened until the port is nearly full, then they are answered in any order until few are left, and so on.
 
     python3 tests/ports.py TLSCORE [BEATS] [--seed WORD]
 """

@@ -4,6 +4,9 @@ NAME.lines is an observation, of which tlscore says NAME.told; NAME.script is a 
 with that word, and else by `run`, with NAME.trace. NAME.fault is the line on standard error, where there is one. NAME.ends has ends of an
 input, each a block of lines: comments, which say what it is, lines that are given behind those of NAME.lines or NAME.script, if that is
 there, and behind arrows what is printed, the line on standard error last.
+
+A file of `words`, `calls` or `commands` has cases by such blocks too: behind `#` what a case is, what is given, and behind an arrow what
+has to come of it (the README.md of its folder says what each of them is).
 """
 
 import re
