@@ -31,7 +31,7 @@ from pathlib import Path
 from typing import Dict, Iterator, List, NamedTuple, Optional, Sequence, Tuple
 from xml.etree import ElementTree
 
-from ends import TOP, Case, told
+from ends import TOP, Case, asked, told
 from package import RTL, command
 from waves import HAND, MAP, UNKNOWN, a_beat, hand
 from zuldegei import vcd
@@ -573,16 +573,8 @@ def by_hand(inputs: Inputs) -> Iterator[Case]:
         vcd.SILENT, os.environ["PATH"] = kept, path
 
 
-def main() -> int:
-    asked = argparse.ArgumentParser(description=__doc__, formatter_class=argparse.RawDescriptionHelpFormatter)
-    asked.add_argument("tlscore")
-    asked.add_argument("--count", type=int, default=COUNT, help="how many cases of each command")
-    asked.add_argument("--seed", type=int, default=SEED)
-    asked.add_argument("--only", choices=COMMANDS)
-    asked.add_argument("--case", type=int, help="one case alone, of the command that --only names")
-    asked.add_argument("--keep", default="out/fuzz", help="the folder in which its files stay")
-    given = asked.parse_args()
-    inputs = Inputs(str(Path(given.tlscore).resolve()))
+def main(given: argparse.Namespace) -> int:
+    inputs = Inputs(str(given.tlscore))
     if given.case is not None:
         Path(given.keep).mkdir(parents=True, exist_ok=True)
         os.chdir(given.keep)
@@ -594,4 +586,10 @@ def main() -> int:
 
 
 if __name__ == "__main__":
-    sys.exit(main())
+    words = asked(__doc__, "tlscore")
+    words.add_argument("--count", type=int, default=COUNT, help="how many cases of each command")
+    words.add_argument("--seed", type=int, default=SEED)
+    words.add_argument("--only", choices=COMMANDS)
+    words.add_argument("--case", type=int, help="one case alone, of the command that --only names")
+    words.add_argument("--keep", default="out/fuzz", help="the folder in which its files stay")
+    sys.exit(main(words.parse_args()))
