@@ -132,7 +132,7 @@ def blocks(file: Path) -> Iterator[Block]:
         lines = block.splitlines()
         names, due = ([it.removeprefix(mark) for it in lines if it.startswith(mark)] for mark in ("# ", "-> "))
         given = "\n".join(it for it in lines if not it.startswith(("# ", "-> ")))
-        yield Block("".join(names) or given, given, "".join(due))
+        yield Block("".join(names) or given, given, "\n".join(due))
 
 
 def scripts() -> Iterator[Case]:
