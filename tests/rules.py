@@ -381,7 +381,7 @@ def by_score(score: str, shape: Shape, clocks: List[Clock]) -> Verdicts:
     ran = started([score], ("\n".join(lines) + "\n").encode())
     found = re.findall(r"(?m)^= wrong (\d+) (\w+ \d+ \w+)", ran.text.decode())
     if ran.status not in (0, 1):
-        raise SystemExit(f"tlscore ended with status {ran.status}: {ran.fault.decode()}")
+        raise SystemExit(f"tlscore ended with status {ran.status}: {ran.line.decode()}")
     return {places[int(line)]: rule for line, rule in found}
 
 
