@@ -1,0 +1,4 @@
+pub mod Spreads
+pub mod Open
+pub mod Beside
+pub mod Turns
