@@ -2,3 +2,5 @@ pub mod Spreads
 pub mod Open
 pub mod Beside
 pub mod Turns
+pub mod Buts
+pub mod Keeps

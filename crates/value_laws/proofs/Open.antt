@@ -139,7 +139,7 @@ both_begin a some others too b there live =
     (λ last. record { one = b; there = in_append_right b some (a ∷ []) last; begun = refl; live = live }) (from_append b others (a ∷ []) there)
 
 -- a reset closes all
-closed_all : (now : ℕ) (a : Access) → (cut_short now a).ended ≡ None → ⊥
+pub closed_all : (now : ℕ) (a : Access) → (cut_short now a).ended ≡ None → ⊥
 closed_all now a live = by_test (is_none a.ended) refl live
   where
     by_test : (b : Bool) → is_none a.ended ≡ b → (if b then record a { ended = Some now; sure = false } else a).ended ≡ None → ⊥
