@@ -4,3 +4,5 @@ pub mod Beside
 pub mod Turns
 pub mod Buts
 pub mod Keeps
+pub mod Opening
+pub mod Blamed
