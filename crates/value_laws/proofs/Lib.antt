@@ -6,3 +6,4 @@ pub mod Buts
 pub mod Keeps
 pub mod Opening
 pub mod Blamed
+pub mod Failing
