@@ -7,3 +7,5 @@ pub mod Keeps
 pub mod Opening
 pub mod Blamed
 pub mod Failing
+pub mod Along
+pub mod Requests
