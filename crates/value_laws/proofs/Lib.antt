@@ -9,3 +9,4 @@ pub mod Blamed
 pub mod Failing
 pub mod Along
 pub mod Requests
+pub mod Oldest

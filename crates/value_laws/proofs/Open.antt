@@ -44,7 +44,7 @@ keeps_by now (Fails number) none = record { begun = λ a. refl; ended = λ a. re
 keeps_by now (Ends number) none = absurd none
 keeps_by now event none = record { begun = λ a. refl; ended = λ a. refl }
 
-opens_of : (number : ℕ) (f : Access → Access) → OpensNone f → OpensNone (changed_of number f)
+pub opens_of : (number : ℕ) (f : Access → Access) → OpensNone f → OpensNone (changed_of number f)
 opens_of number f is = record { begun = λ a. by_begun a (a.begun == number && is_none a.ended); live = λ a. by_live a (a.begun == number && is_none a.ended) }
   where
     by_begun : (a : Access) (b : Bool) → (if b then f a else a).begun ≡ a.begun
