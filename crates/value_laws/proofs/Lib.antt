@@ -10,3 +10,4 @@ pub mod Failing
 pub mod Along
 pub mod Requests
 pub mod Oldest
+pub mod Parts
