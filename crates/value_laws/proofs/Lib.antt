@@ -11,3 +11,4 @@ pub mod Along
 pub mod Requests
 pub mod Oldest
 pub mod Parts
+pub mod Ways

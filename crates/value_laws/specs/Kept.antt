@@ -53,6 +53,16 @@ IsPastAt errors beginning happenings x state = HasRun (byte_at_start beginning x
 abbrev pub AllArePast : Errors → Beginning → List Happening → ValueState → Type 0
 AllArePast errors beginning happenings memory = (x : ℕ) → IsPastAt errors beginning happenings x (byte_in memory x)
 
+-- while the events of one happening more come, by those to each byte that have
+abbrev pub AllAreOnWay : Errors → Beginning → List Happening → (ℕ → List Event) → ValueState → Type 0
+AllAreOnWay errors beginning happenings events memory =
+    (x : ℕ) → HasRun (byte_at_start beginning x) (work_after (work_in errors beginning happenings x) (events x)) (byte_in memory x)
+
+-- then no request in flight is older than a number
+abbrev pub NoneIsOlder : Errors → Beginning → List Happening → (ℕ → List Event) → ℕ → Type 0
+NoneIsOlder errors beginning happenings events oldest =
+    (x : ℕ) → NoneBefore oldest (work_after (work_in errors beginning happenings x) (events x)).accesses
+
 -- ---- calls, one after another
 
 -- events, and anywhere among them such that keep a list short: all that comes, and those events
