@@ -12,3 +12,4 @@ pub mod Requests
 pub mod Oldest
 pub mod Parts
 pub mod Ways
+pub mod Reaches
