@@ -13,3 +13,4 @@ pub mod Oldest
 pub mod Parts
 pub mod Ways
 pub mod Reaches
+pub mod Shows
