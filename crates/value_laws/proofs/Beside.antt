@@ -1,11 +1,11 @@
 -- Two runs of a byte beside each other, which have the same list: one goes on by what a memory is told, the other by what happened. They stay so with each event
 -- of both, with one that keeps lists short, and with one that leaves what is held as it is, on either side.
-use Rattle.std.proofs.Common.{◌≡◌, ℕ, ◌+◌, ◌≤◌, ◌<◌, Bool, true, false, List, [], ◌∷◌, map, Option, Some, None, refl, sym, ◌∙◌, ap, subst, arith}
-use Rattle.std.specs.Prelude.{⊤, option_map}
-use Rattle.byte_orders.specs.Accesses.{Access, IsOneOf}
+use Rattle.std.proofs.Common.{◌≡◌, ℕ, List, [], ◌∷◌, Option, refl, sym, ◌∙◌, ap, subst, arith}
+use Rattle.std.specs.Prelude.{option_map}
+use Rattle.byte_orders.specs.Accesses.{Access}
 use Rattle.byte_orders.specs.Holdings.{Holding, crowd, holding_of, pruned_at, with_begun, with_ended, with_failed, with_reset, with_settled, with_sure, with_value, without}
-use Rattle.byte_orders.specs.Runs.{AllMayCome, Event, MayCome, NoneBefore, Reads, Writes, Others, Tells, Gives, LeavesOut, TakesEffect, Fails, Ends, Resets, NoneOlderThan, Settles, Crowds, Run, ending, giving, reading, run_after, run_next, writing}
-use Rattle.byte_orders.proofs.QuietEvents.{IsOf, IsOpenIn, IsQuiet, IsSilent, accesses_next, change_by, may_next, now_next, oldest_next, quiet_after, same_held}
+use Rattle.byte_orders.specs.Runs.{Event, MayCome, Reads, Writes, Others, Tells, Gives, LeavesOut, TakesEffect, Fails, Ends, Resets, NoneOlderThan, Settles, Crowds, Run, giving, reading, run_next, writing}
+use Rattle.byte_orders.proofs.QuietEvents.{IsOf, IsOpenIn, IsQuiet, accesses_next, may_next, now_next, oldest_next, quiet_after, same_held}
 use Rattle.byte_orders.proofs.RunsRightly.{Holds, next_holds}
 use Rattle.value_laws.proofs.Open.{AreOpenToo, EndsNone, all_cut, both_begin, both_end, first_changes, none_too, second_changes}
 

@@ -1,6 +1,5 @@
 -- What a memory of values blames, whose bytes go along with all that happened, is blamed rightly: no request may be told such a byte, in any order.
-use Rattle.std.proofs.Common.{◌≡◌, ℕ, ◌+◌, ◌*◌, ◌/◌, ◌%◌, ◌<◌, Bool, true, false, not, ◌&&◌, List, [], ◌∷◌, ◌++◌, refl, sym, ◌∙◌, ap, subst, arith}
-use Rattle.std.proofs.lemmas.Bool.{both_ways}
+use Rattle.std.proofs.Common.{◌≡◌, ℕ, ◌+◌, ◌*◌, ◌/◌, ◌%◌, ◌<◌, Bool, true, false, List, [], ◌∷◌, ◌++◌, refl, sym, ◌∙◌, ap, arith}
 use Rattle.bus_words.specs.Lanes.{lane_byte}
 use Rattle.byte_orders.specs.Holdings.{may_be_told}
 use Rattle.setups.specs.Setups.{SetupLists}

@@ -1,16 +1,16 @@
 -- What a memory is told beside what happened, part by part: events of both; those that tell a byte; and those of a request that gives the byte nothing, or that
 -- already.
-use Rattle.std.proofs.Common.{◌≡◌, ℕ, ◌+◌, ◌<◌, ◌≤◌, ◌==◌, Bool, true, false, List, [], ◌∷◌, ◌++◌, length, Option, Some, None, inl, inr, ⊎_elim, refl, sym, ◌∙◌, ap, subst, arith, append-nil}
-use Rattle.std.specs.Prelude.{⊤, option_map}
+use Rattle.std.proofs.Common.{◌≡◌, ℕ, ◌+◌, ◌<◌, List, [], ◌∷◌, ◌++◌, Option, Some, None, ⊎_elim, refl, sym, ◌∙◌, ap, subst, arith, append-nil}
+use Rattle.std.specs.Prelude.{⊤}
 use Rattle.std.specs.List.{AllByRecursion}
-use Rattle.byte_orders.specs.Accesses.{Access, IsOneOf}
-use Rattle.byte_orders.specs.Runs.{Event, Run, Reads, Writes, Others, Tells, Gives, LeavesOut, TakesEffect, Fails, Ends, Resets, NoneOlderThan, Settles, Crowds, cut_short, reading, run_next, writing}
+use Rattle.byte_orders.specs.Accesses.{Access}
+use Rattle.byte_orders.specs.Runs.{Event, Reads, Writes, Others, Tells, Gives, LeavesOut, TakesEffect, Fails, Ends, Resets, NoneOlderThan, Settles, Crowds, cut_short, reading, run_next, writing}
 use Rattle.byte_orders.proofs.Leading.{AllOf}
 use Rattle.byte_orders.proofs.Members.{all_of, from_append, from_map}
-use Rattle.byte_orders.proofs.QuietEvents.{IsOf, IsOpenIn, IsSilent, silent_next}
+use Rattle.byte_orders.proofs.QuietEvents.{IsOf, IsSilent, silent_next}
 use Rattle.setups.specs.Setups.{SetupLists}
 use Rattle.scoreboard.specs.declared.Errors.{Errors}
-use Rattle.value_orders.specs.Bytes.{access_of, accesses_in, gives_at}
+use Rattle.value_orders.specs.Bytes.{accesses_in, gives_at}
 use Rattle.value_orders.specs.Histories.{History, all_past, begun_by}
 use Rattle.value_orders.specs.RunOrders.{past_of}
 use Rattle.value_orders.proofs.AccessOrders.{is_of}

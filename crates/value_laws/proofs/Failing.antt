@@ -1,20 +1,20 @@
 -- Error responses: in whatever order it is told which requests have failed, and of one that gives a byte nothing it needs not be told.
-use Rattle.std.proofs.Common.{◌≡◌, ℕ, ◌+◌, ◌<◌, ◌≤◌, ◌==◌, Bool, true, false, ◌&&◌, ◌||◌, List, [], ◌∷◌, ◌++◌, map, length, Option, Some, None, is_none, if◌then◌else◌, zero, suc, ◌⊎◌, inl, inr, ⊎_elim, refl, sym, ◌∙◌, ap, subst, arith, append-nil}
+use Rattle.std.proofs.Common.{◌≡◌, ℕ, ◌+◌, ◌<◌, ◌==◌, Bool, true, false, ◌&&◌, ◌||◌, List, [], ◌∷◌, ◌++◌, map, length, Option, Some, None, is_none, if◌then◌else◌, zero, suc, ◌⊎◌, inl, inr, ⊎_elim, refl, sym, ◌∙◌, ap, subst, arith, append-nil}
 use Rattle.std.specs.Prelude.{option_map}
 use Rattle.std.specs.List.{AllByRecursion, list_any}
-use Rattle.std.proofs.lemmas.Bool.{both_ways, eq-eqb, eqb-true}
+use Rattle.std.proofs.lemmas.Bool.{both_ways}
 use Rattle.byte_orders.specs.Accesses.{Access, IsOneOf}
 use Rattle.byte_orders.specs.Runs.{Event, Fails, NoneBefore, changed_of, failing}
-use Rattle.byte_orders.proofs.Members.{HasOne, any_from, any_to, in_append_left, in_append_right, from_append}
+use Rattle.byte_orders.proofs.Members.{any_from, any_to, in_append_left, in_append_right, from_append}
 use Rattle.byte_orders.proofs.QuietEvents.{IsSilent}
 use Rattle.serial_memory.specs.SerialMemory.{Memory}
 use Rattle.scoreboard.specs.FailedBursts.{Span}
 use Rattle.scoreboard.specs.RealTime.{numbered}
 use Rattle.value_memory.specs.ByteEvents.{ByteState}
-use Rattle.value_orders.specs.Events.{each_from, failed_events, fails_as, is_struck}
+use Rattle.value_orders.specs.Events.{failed_events, fails_as, is_struck}
 use Rattle.value_orders.specs.Histories.{Past, entries_of}
 use Rattle.value_laws.specs.Kept.{GoesAlong, HasRun, Work, work_after, work_next}
-use Rattle.value_laws.proofs.Buts.{but_both, but_same, silent_after, silent_needless, silent_then, then_seen, but_none}
+use Rattle.value_laws.proofs.Buts.{but_both, but_same, silent_needless, silent_then, then_seen, but_none}
 use Rattle.value_laws.proofs.Keeps.{along_kept}
 use Rattle.value_laws.proofs.Turns.{IsBut}
 

@@ -1,8 +1,7 @@
 -- A byte is kept along with all that happens: a call of a memory that is told what happened, but for needless events, leads to what is held after it; and what all
 -- that happened did to a byte goes on by the events of one happening more.
-use Rattle.std.proofs.Common.{◌≡◌, ℕ, ◌≤◌, Bool, true, false, List, [], ◌∷◌, ◌++◌, Option, refl, sym, ◌∙◌, ap, subst, arith}
-use Rattle.byte_orders.specs.Accesses.{Access}
-use Rattle.byte_orders.specs.Runs.{AllMayCome, Event, NoneBefore, Run, first_run, run_after}
+use Rattle.std.proofs.Common.{◌≡◌, ℕ, ◌≤◌, Bool, List, [], ◌∷◌, ◌++◌, Option, refl, sym, ◌∙◌, ap, subst, arith}
+use Rattle.byte_orders.specs.Runs.{Event, NoneBefore, Run, first_run, run_after}
 use Rattle.byte_orders.proofs.Leading.{after_both, both_may_come}
 use Rattle.byte_orders.proofs.QuietEvents.{holds_in}
 use Rattle.scoreboard.specs.Boards.{Beginning}
@@ -13,8 +12,7 @@ use Rattle.value_orders.specs.Events.{events_of}
 use Rattle.value_orders.specs.Histories.{Happening, History, begun_by, board_in, history_in, history_next, no_history, opening}
 use Rattle.value_orders.proofs.EventHistories.{history_last, leads_in}
 use Rattle.value_laws.specs.Kept.{GoesAlong, GoesOnAlong, HasRun, IsPastAt, IsSpread, Work, run_of, work_after, work_in, work_of}
-use Rattle.value_laws.proofs.Beside.{AreBeside}
-use Rattle.value_laws.proofs.Buts.{but_none, but_same}
+use Rattle.value_laws.proofs.Buts.{but_none}
 use Rattle.value_laws.proofs.Open.{open_itself}
 use Rattle.value_laws.proofs.Spreads.{after_work, goes_along, spread_work, work_both}
 use Rattle.value_laws.proofs.Turns.{AllFit, GoesBeside, IsBut, go_beside, seen_in}

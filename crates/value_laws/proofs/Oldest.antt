@@ -1,9 +1,9 @@
 -- Which requests are in flight while the events of one happening come: those that were, and haven't ended with one of them. So none is older than all of these.
-use Rattle.std.proofs.Common.{◌≡◌, ℕ, ◌+◌, ◌<◌, ◌≤◌, ◌==◌, Bool, true, false, ◌&&◌, not, List, [], ◌∷◌, ◌++◌, map, length, Option, Some, None, is_none, if◌then◌else◌, zero, suc, inl, inr, ⊎_elim, refl, sym, ◌∙◌, ap, subst, arith}
+use Rattle.std.proofs.Common.{◌≡◌, ℕ, ◌+◌, ◌<◌, ◌≤◌, ◌==◌, Bool, true, false, not, List, [], ◌∷◌, ◌++◌, map, length, Some, None, is_none, suc, ⊎_elim, refl, sym, ◌∙◌, ap, subst, arith}
 use Rattle.std.specs.List.{AllByRecursion}
 use Rattle.std.proofs.lemmas.Bool.{both_ways, eq-eqb}
 use Rattle.byte_orders.specs.Accesses.{Access, IsOneOf}
-use Rattle.byte_orders.specs.Runs.{Ends, Event, IsInFlight, NoneBefore, changed_of, ending, run_next}
+use Rattle.byte_orders.specs.Runs.{Ends, Event, IsInFlight, NoneBefore, changed_of, ending}
 use Rattle.byte_orders.proofs.Members.{HasOne, from_append, from_map}
 use Rattle.byte_orders.proofs.QuietEvents.{IsOf, accesses_next, change_by}
 use Rattle.setups.specs.Setups.{SetupLists}

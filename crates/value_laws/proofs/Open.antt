@@ -1,5 +1,5 @@
 -- Which accesses of a byte haven't ended, as events come.
-use Rattle.std.proofs.Common.{◌≡◌, ℕ, ◌≤◌, ◌==◌, Bool, true, false, ◌&&◌, List, [], ◌∷◌, ◌++◌, map, Option, Some, None, is_none, if◌then◌else◌, inl, inr, ⊎_elim, refl, sym, ◌∙◌, ap, subst, arith}
+use Rattle.std.proofs.Common.{◌≡◌, ℕ, ◌≤◌, ◌==◌, Bool, true, false, ◌&&◌, List, [], ◌∷◌, ◌++◌, map, Some, None, is_none, if◌then◌else◌, ⊎_elim, refl, sym, ◌∙◌, ap, subst}
 use Rattle.std.specs.Prelude.{⊤}
 use Rattle.std.specs.List.{AllByRecursion}
 use Rattle.std.proofs.lemmas.Bool.{both_ways}
@@ -7,7 +7,7 @@ use Rattle.byte_orders.specs.Accesses.{Access, IsOneOf}
 use Rattle.byte_orders.specs.Runs.{Event, IsInFlight, NoneBefore, Reads, Writes, Others, Tells, Gives, LeavesOut, TakesEffect, Fails, Ends, Resets, NoneOlderThan, Settles, Crowds, changed_of, cut_short, ending, reading, with_changed, writing}
 use Rattle.byte_orders.proofs.Members.{from_append, from_map, in_append_left, in_append_right, in_map}
 use Rattle.byte_orders.proofs.QuietEvents.{change_by}
-use Rattle.value_laws.specs.Kept.{Work, run_of, work_after, work_next, work_of}
+use Rattle.value_laws.specs.Kept.{Work, work_after, work_next}
 
 -- a change that opens none, and one that closes none either
 pub record OpensNone (f : Access → Access) : Type 0 where

@@ -1,7 +1,7 @@
 -- How a byte is kept along at first, where a tester says what the memory begins with, with a reset, and with what is no event of it.
-use Rattle.std.proofs.Common.{◌≡◌, ℕ, ◌-◌, ◌/◌, ◌≤◌, Bool, true, false, not, ◌&&◌, List, [], ◌∷◌, ◌++◌, length, Option, Some, None, if◌then◌else◌, refl, sym, ◌∙◌, ap, subst, arith}
+use Rattle.std.proofs.Common.{◌≡◌, ℕ, ◌-◌, ◌/◌, Bool, true, false, List, [], ◌∷◌, ◌++◌, length, Option, Some, None, if◌then◌else◌, refl, sym, ◌∙◌, ap, subst, arith}
 use Rattle.std.specs.Prelude.{slice_index}
-use Rattle.byte_orders.specs.Holdings.{Holding, beginning as first_holding}
+use Rattle.byte_orders.specs.Holdings.{beginning as first_holding}
 use Rattle.byte_orders.specs.Runs.{Event, NoneBefore, Resets}
 use Rattle.score_setup.specs.ScoreSetups.{RangeLists}
 use Rattle.sparse_memory.specs.Ranges.{is_unknown}

@@ -1,9 +1,8 @@
 -- What happens but for beginnings and resets is of some request, event by event: with a reply, with a message that is whole, and with an error response. So it opens
 -- no access, and lets be what gives nothing.
-use Rattle.std.proofs.Common.{◌≡◌, ℕ, ◌+◌, ◌%◌, Bool, true, false, ◌&&◌, List, [], ◌∷◌, ◌++◌, Option, Some, None, if◌then◌else◌, refl}
+use Rattle.std.proofs.Common.{ℕ, ◌+◌, ◌%◌, Bool, true, false, ◌&&◌, List, [], ◌∷◌, ◌++◌, Option, Some, None, if◌then◌else◌}
 use Rattle.std.specs.List.{AllByRecursion, list_any}
 use Rattle.bus_words.specs.Lanes.{lane_byte}
-use Rattle.byte_orders.specs.Accesses.{Access}
 use Rattle.byte_orders.specs.Runs.{Event, Tells, Gives, LeavesOut, TakesEffect, Fails, Ends}
 use Rattle.byte_orders.proofs.Leading.{AllOf, of_both}
 use Rattle.byte_orders.proofs.QuietEvents.{IsOf, IsSilent}

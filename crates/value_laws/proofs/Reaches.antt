@@ -1,28 +1,26 @@
 -- A memory on its way, told of a request by the range of bytes that this may give: to each other byte it gives nothing, so that whatever is told there of it leaves
 -- what is held as it is.
-use Rattle.std.proofs.Common.{◌≡◌, ℕ, ◌+◌, ◌/◌, ◌<◌, ◌≤◌, Bool, true, false, ◌&&◌, List, [], ◌∷◌, ◌++◌, length, Option, Some, None, if◌then◌else◌, append-nil, refl, sym, ◌∙◌, ap, subst, arith}
+use Rattle.std.proofs.Common.{◌≡◌, ℕ, ◌+◌, ◌/◌, ◌<◌, Bool, true, false, List, [], ◌∷◌, ◌++◌, Option, Some, None, if◌then◌else◌, refl, sym, ◌∙◌, subst, arith}
 use Rattle.std.specs.Prelude.{IfSome, nat_le, nat_lt}
-use Rattle.std.specs.List.{AllByRecursion}
 use Rattle.std.proofs.lemmas.Bool.{and_from, both_ways, le-leb}
 use Rattle.std.proofs.lemmas.Bool.Decides.{nat_tests}
-use Rattle.byte_orders.specs.Runs.{Ends, Event, Reads, Writes}
-use Rattle.byte_orders.proofs.Leading.{AllOf}
+use Rattle.byte_orders.specs.Runs.{Ends, Event, Reads}
 use Rattle.byte_orders.proofs.QuietEvents.{IsSilent}
 use Rattle.scoreboard.specs.Boards.{Beginning}
 use Rattle.scoreboard.specs.declared.Errors.{Errors}
-use Rattle.value_memory.specs.ValueMemory.{AllGo, IsByteRange, ValueState, begins_reading, is_in, may_give, shares_word, to_words, word_count}
+use Rattle.value_memory.specs.ValueMemory.{AllGo, IsByteRange, ValueState, begins_reading, is_in, may_give, shares_word, word_count}
 use Rattle.value_memory.specs.declared.ByteRange.{ByteRange}
 use Rattle.value_memory.proofs.RangeWords.{words_share}
-use Rattle.value_orders.specs.Bytes.{accesses_in, gives_at, may_write_at}
-use Rattle.value_orders.specs.Events.{begins_as, begun_as, known_as, told_as, whole_as}
+use Rattle.value_orders.specs.Bytes.{gives_at, may_write_at}
+use Rattle.value_orders.specs.Events.{begins_as, begun_as, whole_as}
 use Rattle.value_orders.specs.Histories.{Happening, Past, begun_by, history_in}
 use Rattle.value_orders.specs.RunOrders.{past_of}
 use Rattle.value_orders.proofs.EventFlights.{silent_at}
 use Rattle.value_orders.proofs.EventSteps.{of_whole}
-use Rattle.value_laws.specs.Kept.{AllAreOnWay, AllGoAlong, NoneIsOlder, Work, work_after, work_in}
-use Rattle.value_laws.proofs.Buts.{but_both, but_same, new_silent, silent_any, silent_then}
+use Rattle.value_laws.specs.Kept.{AllAreOnWay, AllGoAlong, NoneIsOlder, work_after, work_in}
+use Rattle.value_laws.proofs.Buts.{but_same, new_silent, silent_any, silent_then}
 use Rattle.value_laws.proofs.Parts.{AllOfSome, some_silent}
-use Rattle.value_laws.proofs.Requests.{AreOwn, begins_same, ends_but, known_but, silent_told_as, told_but}
+use Rattle.value_laws.proofs.Requests.{AreOwn, begins_same, ends_but}
 use Rattle.value_laws.proofs.Turns.{IsBut}
 use Rattle.value_laws.proofs.Ways.{way_along, way_goes, work_on}
 

@@ -1,13 +1,13 @@
 -- What a memory is told of one request beside what became of it: the same, where the byte is one that it may give; else any events of it, and its end with that. So a
 -- request begins, and is whole, with beats on channel A; and what a reply tells, makes and ends, with one on channel D.
-use Rattle.std.proofs.Common.{◌≡◌, ℕ, ◌+◌, ◌==◌, ◌%◌, Bool, true, false, ◌&&◌, List, [], ◌∷◌, ◌++◌, Option, Some, None, is_none, if◌then◌else◌, append-nil, refl, sym, ◌∙◌, ap, subst}
+use Rattle.std.proofs.Common.{◌≡◌, ℕ, ◌+◌, ◌==◌, Bool, true, false, ◌&&◌, List, [], ◌∷◌, ◌++◌, Option, Some, None, is_none, if◌then◌else◌, append-nil, refl, sym, ◌∙◌, ap, subst}
 use Rattle.std.specs.Prelude.{option_map}
 use Rattle.std.specs.List.{AllByRecursion}
-use Rattle.byte_orders.specs.Accesses.{Access, IsOneOf}
-use Rattle.byte_orders.specs.Runs.{Event, Reads, Writes, Tells, Gives, LeavesOut, Ends, changed_of, telling}
+use Rattle.byte_orders.specs.Accesses.{Access}
+use Rattle.byte_orders.specs.Runs.{Event, Reads, Writes, Tells, LeavesOut, Ends, changed_of, telling}
 use Rattle.byte_orders.proofs.Leading.{AllOf}
 use Rattle.byte_orders.proofs.Members.{from_map}
-use Rattle.byte_orders.proofs.QuietEvents.{IsOf, IsSilent}
+use Rattle.byte_orders.proofs.QuietEvents.{IsSilent}
 use Rattle.setups.specs.Setups.{SetupLists}
 use Rattle.scoreboard.specs.declared.Errors.{Errors}
 use Rattle.value_memory.specs.ValueMemory.{begins_reading, may_give}

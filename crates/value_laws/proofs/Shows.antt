@@ -1,11 +1,11 @@
 -- A memory on its way with a beat of a reply, and with an error response: what an atomic makes is told once, or was given already; and each request that is struck,
 -- by the range of bytes that it may give.
-use Rattle.std.proofs.Common.{◌≡◌, ℕ, ◌+◌, Bool, true, false, ◌⊎◌, List, [], ◌∷◌, ◌++◌, Option, Some, None, if◌then◌else◌, inl, inr, ⊎_elim, refl, sym, ◌∙◌, ap, subst}
+use Rattle.std.proofs.Common.{◌≡◌, ℕ, Bool, true, false, ◌⊎◌, List, [], ◌∷◌, ◌++◌, Option, None, if◌then◌else◌, inl, inr, ⊎_elim, refl, sym, ◌∙◌, ap, subst}
 use Rattle.std.specs.Prelude.{IfSome}
 use Rattle.std.specs.List.{AllByRecursion}
 use Rattle.std.proofs.lemmas.Bool.{both_ways}
 use Rattle.byte_orders.specs.Accesses.{IsOneOf}
-use Rattle.byte_orders.specs.Runs.{Event, Fails}
+use Rattle.byte_orders.specs.Runs.{Event}
 use Rattle.byte_orders.proofs.Leading.{AllOf}
 use Rattle.byte_orders.proofs.QuietEvents.{IsSilent}
 use Rattle.scoreboard.specs.Boards.{Beginning}
@@ -20,11 +20,10 @@ use Rattle.value_orders.proofs.EventFlights.{silent_at}
 use Rattle.value_laws.specs.Kept.{AllAreOnWay, AllGoAlong, NoneIsOlder, work_after, work_in}
 use Rattle.value_laws.proofs.Buts.{but_both, silent_any}
 use Rattle.value_laws.proofs.Failing.{EachToldOrSilent, fails_all}
-use Rattle.value_laws.proofs.Parts.{AllOfSome}
-use Rattle.value_laws.proofs.Reaches.{GivesWithin, outside, shares_reach, within_silent}
+use Rattle.value_laws.proofs.Reaches.{GivesWithin, outside, shares_reach}
 use Rattle.value_laws.proofs.Requests.{AreOwn, known_but, made_but, silent_told_as, told_but}
 use Rattle.value_laws.proofs.Turns.{IsBut}
-use Rattle.value_laws.proofs.Ways.{way_along, way_fails, work_on}
+use Rattle.value_laws.proofs.Ways.{way_along, way_fails}
 
 module _ (errors : Errors) (beginning : Beginning) (happenings : List Happening) where
   -- ---- a beat of a reply that wasn't found wrong

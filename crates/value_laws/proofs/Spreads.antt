@@ -1,6 +1,5 @@
 -- Events, and among them such that keep a list short: these do nothing to accesses. So calls that come one after another are one that has the events of all.
-use Rattle.std.proofs.Common.{◌≡◌, ℕ, ◌+◌, ◌≤◌, ◌<◌, ◌==◌, Bool, true, false, ◌&&◌, ◌||◌, List, [], ◌∷◌, ◌++◌, Some, None, is_none, if◌then◌else◌, append_assoc, append-nil, inl, inr, ⊎_elim, refl, sym, ◌∙◌, ap, subst, arith}
-use Rattle.byte_orders.specs.Accesses.{Access, IsOneOf}
+use Rattle.std.proofs.Common.{◌≡◌, ℕ, Bool, true, false, ◌||◌, List, [], ◌∷◌, ◌++◌, inl, inr, ⊎_elim, refl, sym, ◌∙◌, ap, subst}
 use Rattle.std.specs.List.{AllByRecursion}
 use Rattle.byte_orders.specs.Runs.{Event, NoneBefore, Reads, Writes, Others, Tells, Gives, LeavesOut, TakesEffect, Fails, Ends, Resets, NoneOlderThan, Settles, Crowds, Run, run_after, run_next}
 use Rattle.byte_orders.proofs.Leading.{after_both, both_may_come}

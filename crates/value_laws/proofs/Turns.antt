@@ -1,12 +1,11 @@
 -- What a memory is told beside what happened: events of both, one after another, and such that leave what is held as it is, which are of one alone. Where a run goes
 -- on by the first, it does by the second, to the same list.
-use Rattle.std.proofs.Common.{◌≡◌, ℕ, Bool, true, false, List, [], ◌∷◌, ◌++◌, Option, append_assoc, inl, inr, ⊎_elim, refl, sym, ◌∙◌, ap, subst}
+use Rattle.std.proofs.Common.{◌≡◌, ℕ, Bool, List, [], ◌∷◌, Option, inl, inr, ⊎_elim, refl, sym, subst}
 use Rattle.std.specs.Prelude.{⊤}
 use Rattle.byte_orders.specs.Runs.{AllMayCome, Event, MayCome, Run, run_after, run_next}
-use Rattle.byte_orders.proofs.QuietSwap.{IsIdle}
 use Rattle.byte_orders.proofs.RunsRightly.{Holds}
 use Rattle.value_memory.specs.ByteEvents.{KeepsShort}
-use Rattle.value_laws.specs.Kept.{IsSpread, Work, work_after, work_next, work_of}
+use Rattle.value_laws.specs.Kept.{IsSpread, Work, work_next, work_of}
 use Rattle.value_laws.proofs.Beside.{AreBeside, IsNeedless, both_may, both_next, first_next, holds_next, second_may, second_next}
 use Rattle.value_laws.proofs.Open.{EndsNone}
 use Rattle.value_laws.proofs.Spreads.{next_work, short_work}

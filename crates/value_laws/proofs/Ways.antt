@@ -1,6 +1,5 @@
 -- A memory on its way through one happening, call by call: at first no event of it has come, then those that each call is told, but for needless ones, and at last all.
-use Rattle.std.proofs.Common.{◌≡◌, ℕ, ◌+◌, ◌<◌, ◌≤◌, Bool, true, false, List, [], ◌∷◌, ◌++◌, length, Option, Some, None, append-nil, append_assoc, refl, sym, ◌∙◌, ap, subst, arith}
-use Rattle.std.specs.List.{AllByRecursion}
+use Rattle.std.proofs.Common.{◌≡◌, ℕ, ◌+◌, ◌<◌, ◌≤◌, Bool, false, List, [], ◌∷◌, ◌++◌, length, append-nil, sym, subst, arith}
 use Rattle.byte_orders.specs.Accesses.{IsOneOf}
 use Rattle.byte_orders.specs.Runs.{Ends, Event, NoneBefore}
 use Rattle.scoreboard.specs.Boards.{Beginning}
@@ -8,8 +7,8 @@ use Rattle.scoreboard.specs.Orders.{has_ended}
 use Rattle.scoreboard.specs.RealTime.{numbered}
 use Rattle.scoreboard.specs.declared.Errors.{Errors}
 use Rattle.value_memory.specs.ValueMemory.{AllGo, KeepsCounts, ValueState, byte_in, held_in, to_all}
-use Rattle.value_orders.specs.Bytes.{accesses_in, byte_at_start}
-use Rattle.value_orders.specs.Histories.{Happening, History, begun_by, entries_of, history_in}
+use Rattle.value_orders.specs.Bytes.{byte_at_start}
+use Rattle.value_orders.specs.Histories.{Happening, entries_of, history_in}
 use Rattle.value_orders.proofs.EventHistories.{known_in}
 use Rattle.value_laws.specs.Kept.{AllAreOnWay, AllArePast, AllGoAlong, HasRun, NoneIsOlder, Work, work_after, work_in}
 use Rattle.value_laws.proofs.Along.{all_goes}

@@ -1,5 +1,5 @@
 -- One byte, along all that happens: what a memory of values holds of it, and what each request did to it. Some run, which may come, leads to both.
-use Rattle.std.specs.Prelude.{ℕ, ◌≡◌, ◌≤◌, ◌⊎◌, Bool, List, [], ◌∷◌, Option}
+use Rattle.std.specs.Prelude.{ℕ, ◌≡◌, ◌⊎◌, Bool, List, [], ◌∷◌, Option}
 use Rattle.byte_orders.specs.Accesses.{Access}
 use Rattle.byte_orders.specs.Runs.{AllMayCome, Event, NoneBefore, Run, first_run, run_after, run_next}
 use Rattle.scoreboard.specs.Boards.{Beginning}
