@@ -14,3 +14,4 @@ pub mod Parts
 pub mod Ways
 pub mod Reaches
 pub mod Shows
+pub mod Nexts
