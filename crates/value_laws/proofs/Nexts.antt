@@ -1,6 +1,7 @@
 -- Which events to a byte one happening more is: with a beat on channel A, by what a client's port has begun; with one on channel D; with one on the AXI4 port.
-use Rattle.std.proofs.Common.{◌≡◌, ℕ, ◌+◌, Bool, true, false, List, [], length, Option, Some, None, ◌∙◌, ap}
+use Rattle.std.proofs.Common.{◌≡◌, ℕ, ◌+◌, Bool, true, false, List, [], length, Option, Some, None, ◌∙◌, ap, ◌++◌, append_assoc, sym}
 use Rattle.std.specs.Prelude.{Result, Ok, slice_get}
+use Rattle.std.specs.List.{list_any}
 use Rattle.byte_orders.specs.Runs.{Event}
 use Rattle.axi_checker.specs.declared.AxiBeat.{AxiBeat}
 use Rattle.tl_checker.specs.Ports.{joined}
@@ -12,14 +13,15 @@ use Rattle.tl_messages.specs.declared.ABeat.{ABeat}
 use Rattle.tl_messages.specs.declared.DBeat.{DBeat}
 use Rattle.scoreboard.specs.Boards.{Beginning, Board, ClientBoard, answer_to}
 use Rattle.scoreboard.specs.FailedBursts.{failed_span}
+use Rattle.scoreboard.specs.Orders.{begun_to, cut_short, is_over}
 use Rattle.scoreboard.specs.RealTime.{entry_of}
 use Rattle.scoreboard.specs.Unknown.{unknown_given}
 use Rattle.scoreboard.specs.declared.Errors.{Errors}
 use Rattle.scoreboard.specs.declared.ObservedBeat.TheVariants.{A, D, Axi as OnAxi}
 use Rattle.scoreboard.specs.declared.Policy.TheVariants.{RealTime}
 use Rattle.scoreboard.specs.declared.Wrong.{Wrong}
-use Rattle.value_orders.specs.Events.{answer_events, begun_as, completed_as, each_from, failed_events, progress_events, reply_events, request_events}
-use Rattle.value_orders.specs.Histories.{Happening, History, Past, Seen, begun_by, board_in, first_seen, history_in}
+use Rattle.value_orders.specs.Events.{answer_events, begun_as, completed_as, each_from, cut_as, counted_as, failed_events, progress_events, reply_events, request_events, shown_events}
+use Rattle.value_orders.specs.Histories.{Happening, History, Past, Seen, begun_by, board_in, entries_of, first_seen, history_in}
 use Rattle.value_orders.proofs.WellHistories.{kept_in}
 use Rattle.value_laws.proofs.Keeps.{events_next}
 
@@ -42,6 +44,21 @@ module _ (errors : Errors) (beginning : Beginning) (happenings : List Happening)
       → events_next errors beginning happenings (Seen (D client beat) lanes said) x
       ≡ reply_events beginning.lists errors x client beat lanes said first (history_in errors beginning happenings).since
   reply_next client beat lanes said x = ap (λ (e : Errors). reply_events beginning.lists e x client beat lanes said first history.since) errors_are
+
+  -- by what is shown of it, what is cut short, and what ends with it
+  pub reply_parts : (client : ℕ) (beat : DBeat) (lanes : ℕ) (said : Option Wrong) (x : ℕ) (shown cut last : List Event)
+      → shown_events beginning.lists errors x client beat lanes said first (history_in errors beginning happenings).since ≡ shown
+      → each_from (cut_as (is_over (entries_of (history_in errors beginning happenings).since) client beat.source) client) first
+      (history_in errors beginning happenings).since ≡ cut
+      → each_from (counted_as (is_over (entries_of (history_in errors beginning happenings).since) client beat.source)
+      (list_any (begun_to client) (cut_short (entries_of (history_in errors beginning happenings).since) client beat.source)) client beat.source) first
+      (history_in errors beginning happenings).since ≡ last
+      → events_next errors beginning happenings (Seen (D client beat) lanes said) x ≡ (shown ++ cut) ++ last
+  reply_parts client beat lanes said x shown cut last shows cuts ends =
+      reply_next client beat lanes said x ∙ both shows (both cuts ends) ∙ sym (append_assoc shown cut last)
+    where
+      both : {some same others alike : List Event} → some ≡ same → others ≡ alike → some ++ others ≡ same ++ alike
+      both one other = cc (one, other)
 
   pub failed_next : (beat : AxiBeat) (lanes : ℕ) (said : Option Wrong) (x : ℕ)
       → events_next errors beginning happenings (Seen (OnAxi beat) lanes said) x

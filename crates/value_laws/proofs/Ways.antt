@@ -1,5 +1,5 @@
 -- A memory on its way through one happening, call by call: at first no event of it has come, then those that each call is told, but for needless ones, and at last all.
-use Rattle.std.proofs.Common.{◌≡◌, ℕ, ◌+◌, ◌<◌, ◌≤◌, Bool, false, List, [], ◌∷◌, ◌++◌, length, append-nil, sym, subst, arith}
+use Rattle.std.proofs.Common.{◌≡◌, ℕ, ◌+◌, ◌<◌, ◌≤◌, Bool, true, false, List, [], ◌∷◌, ◌++◌, length, append-nil, sym, subst, arith}
 use Rattle.byte_orders.specs.Accesses.{IsOneOf}
 use Rattle.byte_orders.specs.Runs.{Ends, Event, NoneBefore}
 use Rattle.scoreboard.specs.Boards.{Beginning}
@@ -8,10 +8,11 @@ use Rattle.scoreboard.specs.RealTime.{numbered}
 use Rattle.scoreboard.specs.declared.Errors.{Errors}
 use Rattle.value_memory.specs.ValueMemory.{AllGo, KeepsCounts, ValueState, byte_in, held_in, to_all}
 use Rattle.value_orders.specs.Bytes.{byte_at_start}
-use Rattle.value_orders.specs.Histories.{Happening, entries_of, history_in}
+use Rattle.value_orders.specs.Events.{begins_as}
+use Rattle.value_orders.specs.Histories.{begun_by, Happening, entries_of, history_in}
 use Rattle.value_orders.proofs.EventHistories.{known_in}
 use Rattle.value_laws.specs.Kept.{AllAreOnWay, AllArePast, AllGoAlong, HasRun, NoneIsOlder, Work, work_after, work_in}
-use Rattle.value_laws.proofs.Along.{all_goes}
+use Rattle.value_laws.proofs.Along.{AllFrom, all_goes}
 use Rattle.value_laws.proofs.Buts.{but_none}
 use Rattle.value_laws.proofs.Failing.{EachToldOrSilent, fails_all, fails_kept}
 use Rattle.value_laws.proofs.Keeps.{along_kept, events_next, kept_both, past_next, same_kept}
@@ -84,12 +85,28 @@ module _ (errors : Errors) (beginning : Beginning) (happenings : List Happening)
 
   -- ---- the oldest in flight
 
-  -- what isn't older stays so, as events of requests come
+  -- what isn't older stays so, where none begins that is
+  pub older_more : (events more : ℕ → List Event) (oldest : ℕ) → ((x : ℕ) → AllFrom oldest (more x)) → NoneIsOlder errors beginning happenings events oldest
+      → NoneIsOlder errors beginning happenings (λ x. events x ++ more x) oldest
+  older_more events more oldest from none x =
+      subst (λ (w : Work). NoneBefore oldest w.accesses) (sym (work_both (work_in errors beginning happenings x) (events x) (more x)))
+      (none_after oldest (work_on events x) (more x) (from x) (none x))
+
+  -- as with events of requests that had begun
   pub older_stays : (events more : ℕ → List Event) (oldest : ℕ) → ((x : ℕ) → AllOfSome (more x)) → NoneIsOlder errors beginning happenings events oldest
       → NoneIsOlder errors beginning happenings (λ x. events x ++ more x) oldest
-  older_stays events more oldest some none x =
-      subst (λ (w : Work). NoneBefore oldest w.accesses) (sym (work_both (work_in errors beginning happenings x) (events x) (more x)))
-      (none_after oldest (work_on events x) (more x) (some_from oldest (more x) (some x)) (none x))
+  older_stays events more oldest some none = older_more events more oldest (λ x. some_from oldest (more x) (some x)) none
+
+  -- the next one is no older than any number up to it
+  pub older_begins : (may : ℕ → Bool) (oldest : ℕ) → oldest ≤ begun_by (history_in errors beginning happenings) + 1
+      → NoneIsOlder errors beginning happenings (λ x. []) oldest
+      → NoneIsOlder errors beginning happenings (λ x. begins_as (begun_by (history_in errors beginning happenings) + 1) (may x)) oldest
+  older_begins may oldest later none =
+      older_more (λ x. []) (λ x. begins_as (begun_by (history_in errors beginning happenings) + 1) (may x)) oldest (λ x. by_may (may x)) none
+    where
+      by_may : (b : Bool) → AllFrom oldest (begins_as (begun_by (history_in errors beginning happenings) + 1) b)
+      by_may true = (later, tt)
+      by_may false = (later, tt)
 
   -- and none is older than all that were in flight, and end with none of them
   pub older_then : (events : ℕ → List Event) (oldest : ℕ) → ((x : ℕ) → AllOfSome (events x))
