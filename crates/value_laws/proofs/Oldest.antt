@@ -1,10 +1,10 @@
 -- Which requests are in flight while the events of one happening come: those that were, and haven't ended with one of them. So none is older than all of these.
-use Rattle.std.proofs.Common.{◌≡◌, ℕ, ◌+◌, ◌<◌, ◌≤◌, ◌==◌, Bool, true, false, not, List, [], ◌∷◌, ◌++◌, map, length, Some, None, is_none, suc, ⊎_elim, refl, sym, ◌∙◌, ap, subst, arith}
+use Rattle.std.proofs.Common.{◌≡◌, ℕ, ◌+◌, ◌<◌, ◌≤◌, ◌==◌, Bool, true, false, not, List, [], ◌∷◌, ◌++◌, map, length, Some, None, is_none, suc, inl, ⊎_elim, refl, sym, ◌∙◌, ap, subst, arith}
 use Rattle.std.specs.List.{AllByRecursion}
 use Rattle.std.proofs.lemmas.Bool.{both_ways, eq-eqb}
 use Rattle.byte_orders.specs.Accesses.{Access, IsOneOf}
 use Rattle.byte_orders.specs.Runs.{Ends, Event, IsInFlight, NoneBefore, changed_of, ending}
-use Rattle.byte_orders.proofs.Members.{HasOne, from_append, from_map}
+use Rattle.byte_orders.proofs.Members.{HasOne, from_append, from_map, in_append_left, in_append_right}
 use Rattle.byte_orders.proofs.QuietEvents.{IsOf, accesses_next, change_by}
 use Rattle.setups.specs.Setups.{SetupLists}
 use Rattle.scoreboard.specs.Orders.{has_ended}
@@ -156,3 +156,12 @@ module _ (setup : SetupLists) (errors : Errors) (x : ℕ) where
       let place = live_at history a.begun ends was.flight in
       let older = least place.place place.small place.live (λ its. was.goes_on (subst (λ n. IsOneOf (Ends n) events) (sym place.number_is) its)) in
       subst (λ n. oldest ≤ n) (sym place.number_is) older
+
+-- one that ends with none of some events and another's end isn't that other one
+pub goes_on_both : (number other : ℕ) (some : List Event) → (IsOneOf (Ends number) (some ++ Ends other ∷ []) → ⊥)
+    → (IsOneOf (Ends number) some → ⊥) × (number ≡ other → ⊥)
+goes_on_both number other some goes =
+    (
+      λ at. goes (in_append_left (Ends number) some (Ends other ∷ []) at),
+      λ same. goes (in_append_right (Ends number) some (Ends other ∷ []) (inl (ap (λ n. Ends n) same))),
+    )

@@ -1,6 +1,6 @@
 -- A memory on its way, told of a request by the range of bytes that this may give: to each other byte it gives nothing, so that whatever is told there of it leaves
 -- what is held as it is.
-use Rattle.std.proofs.Common.{◌≡◌, ℕ, ◌+◌, ◌/◌, ◌<◌, Bool, true, false, List, [], ◌∷◌, ◌++◌, Option, Some, None, if◌then◌else◌, refl, sym, ◌∙◌, subst, arith}
+use Rattle.std.proofs.Common.{◌≡◌, ℕ, ◌+◌, ◌/◌, ◌<◌, Bool, true, false, List, [], ◌∷◌, ◌++◌, Option, Some, None, if◌then◌else◌, refl, sym, ◌∙◌, subst, arith, append-nil}
 use Rattle.std.specs.Prelude.{IfSome, nat_le, nat_lt}
 use Rattle.std.proofs.lemmas.Bool.{and_from, both_ways, le-leb}
 use Rattle.std.proofs.lemmas.Bool.Decides.{nat_tests}
@@ -8,11 +8,11 @@ use Rattle.byte_orders.specs.Runs.{Ends, Event, Reads}
 use Rattle.byte_orders.proofs.QuietEvents.{IsSilent}
 use Rattle.scoreboard.specs.Boards.{Beginning}
 use Rattle.scoreboard.specs.declared.Errors.{Errors}
-use Rattle.value_memory.specs.ValueMemory.{AllGo, IsByteRange, ValueState, begins_reading, is_in, may_give, shares_word, word_count}
+use Rattle.value_memory.specs.ValueMemory.{AllGo, IsByteRange, ValueState, begins_reading, is_in, may_give, shares_word, to_all, word_count}
 use Rattle.value_memory.specs.declared.ByteRange.{ByteRange}
 use Rattle.value_memory.proofs.RangeWords.{words_share}
 use Rattle.value_orders.specs.Bytes.{gives_at, may_write_at}
-use Rattle.value_orders.specs.Events.{begins_as, begun_as, whole_as}
+use Rattle.value_orders.specs.Events.{begins_as, begun_as, ends_as, whole_as}
 use Rattle.value_orders.specs.Histories.{Happening, Past, begun_by, history_in}
 use Rattle.value_orders.specs.RunOrders.{past_of}
 use Rattle.value_orders.proofs.EventFlights.{silent_at}
@@ -22,7 +22,7 @@ use Rattle.value_laws.proofs.Buts.{but_same, new_silent, silent_any, silent_then
 use Rattle.value_laws.proofs.Parts.{AllOfSome, some_silent}
 use Rattle.value_laws.proofs.Requests.{AreOwn, begins_same, ends_but}
 use Rattle.value_laws.proofs.Turns.{IsBut}
-use Rattle.value_laws.proofs.Ways.{way_along, way_goes, work_on}
+use Rattle.value_laws.proofs.Ways.{way_along, way_as, way_goes, way_still, work_on}
 
 -- whether a byte is in a word of those that a request may give
 abbrev pub shares_reach : Option ByteRange → ℕ → Bool
@@ -77,6 +77,25 @@ module _ (errors : Errors) (beginning : Beginning) (happenings : List Happening)
       way_goes errors beginning happenings events oldest false old new (ends_told number reach) (λ x. Ends number ∷ []) way goes none
       (λ x. ends_but number (work_on errors beginning happenings events x) (shares_reach reach x)
       (λ outside_it. within_silent number reach events x within (some x) (outside reach x is outside_it)))
+
+  -- and then the oldest one in flight is known
+  pub way_over : (events : ℕ → List Event) (number before oldest : ℕ) (reach : Option ByteRange) (old between new : ValueState)
+      → AllAreOnWay errors beginning happenings events old → AllGo before false old between (ends_told number reach) → NoneIsOlder errors beginning happenings events before
+      → ((x : ℕ) → AllOfSome (events x)) → GivesWithin number reach → IfSome reach IsByteRange
+      → AllGo oldest false between new (to_all []) → NoneIsOlder errors beginning happenings (λ x. events x ++ Ends number ∷ []) oldest
+      → AllAreOnWay errors beginning happenings (λ x. events x ++ Ends number ∷ []) new
+  way_over events number before oldest reach old between new way goes none some within is knows older =
+      way_still errors beginning happenings (λ x. events x ++ Ends number ∷ []) oldest false between new
+      (way_ends events number before reach old between way goes none some within is) knows older
+
+  -- if it ends: else the memory is what it was
+  pub way_over_if : (ends : Bool) (events : ℕ → List Event) (number : ℕ) (old new : ValueState) → AllAreOnWay errors beginning happenings events old
+      → (ends ≡ true → AllAreOnWay errors beginning happenings (λ x. events x ++ Ends number ∷ []) new) → (ends ≡ false → new ≡ old)
+      → AllAreOnWay errors beginning happenings (λ x. events x ++ ends_as number ends) new
+  way_over_if true events number old new way over same = over refl
+  way_over_if false events number old new way over same =
+      way_as errors beginning happenings events (λ x. events x ++ []) new (λ x. sym (append-nil (events x)))
+      (subst (λ (memory : ValueState). AllAreOnWay errors beginning happenings events memory) (sym (same refl)) way)
 
   -- ---- one that had begun is whole
 
