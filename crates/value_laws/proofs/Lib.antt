@@ -15,3 +15,4 @@ pub mod Ways
 pub mod Reaches
 pub mod Shows
 pub mod Nexts
+pub mod Told
