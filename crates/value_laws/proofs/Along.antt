@@ -1,5 +1,5 @@
 -- Calls of a memory, one after another, as one that has the events of all: to each byte, word by word of a range, and where only pages get room.
-use Rattle.std.proofs.Common.{◌≡◌, ℕ, ◌/◌, ◌%◌, ◌<◌, ◌≤◌, ◌==◌, Bool, true, false, ◌||◌, List, [], ◌∷◌, ◌++◌, Option, if◌then◌else◌, zero, suc, append-nil, refl, sym, ◌∙◌, ap, subst, arith}
+use Rattle.std.proofs.Common.{◌≡◌, ℕ, ◌/◌, ◌%◌, ◌<◌, ◌≤◌, ◌==◌, Bool, true, false, ◌||◌, List, [], ◌∷◌, ◌++◌, Option, if◌then◌else◌, zero, suc, append-nil, refl, sym, ◌∙◌, ap, subst, arith, ◌+◌}
 use Rattle.std.specs.List.{AllByRecursion}
 use Rattle.std.proofs.lemmas.Bool.{both_ways, eq-eqb, eqb-true}
 use Rattle.bus_words.specs.Lanes.{has_lane}
@@ -119,3 +119,12 @@ one_there events (suc count) k x small none = by_last (count == k) refl (λ belo
         let other : count ≡ k → ⊥ = λ same. both_ways (count == k) is (eq-eqb count k same) in
         ap (λ (es : List Event). es ++ events count x) (earlier (omega (arith, small, other)))
         ∙ ap (λ (es : List Event). events k x ++ es) (none count (omega arith) other) ∙ append-nil (events k x)
+
+-- one place more
+pub all_places_more : (oldest : ℕ) (old between new : ValueState) (events : ℕ → ℕ → List Event) (k : ℕ) → ((j x : ℕ) → AllFrom oldest (events j x))
+    → AllGoAlong oldest false old between (each_place events k) → AllGo oldest false between new (events k) → AllGoAlong oldest false old new (each_place events (k + 1))
+all_places_more oldest old between new events k from first next =
+    let same : suc k ≡ k + 1 = omega arith in
+    subst (λ n. AllGoAlong oldest false old new (each_place events n)) same
+    (all_then oldest false false old between new (each_place events k) (events k) (λ x. from_places oldest events k x (λ j. from j x)) first
+    (all_goes oldest false between new (events k) next))

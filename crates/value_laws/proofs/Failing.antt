@@ -180,7 +180,7 @@ all_needless work (number ∷ numbers) silent =
     then_seen work (Fails number) [] (fails_all numbers) (silent_needless number work.accesses (Fails number) silent.0 refl)
     (all_needless (work_next work (Fails number)) numbers (all_silent_next work number numbers silent.1))
 
-map_append : (some others : List ℕ) → fails_all (some ++ others) ≡ fails_all some ++ fails_all others
+pub map_append : (some others : List ℕ) → fails_all (some ++ others) ≡ fails_all some ++ fails_all others
 map_append [] others = refl
 map_append (number ∷ some) others = ap (λ (es : List Event). Fails number ∷ es) (map_append some others)
 

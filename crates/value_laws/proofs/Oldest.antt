@@ -160,8 +160,7 @@ module _ (setup : SetupLists) (errors : Errors) (x : ℕ) where
 -- one that ends with none of some events and another's end isn't that other one
 pub goes_on_both : (number other : ℕ) (some : List Event) → (IsOneOf (Ends number) (some ++ Ends other ∷ []) → ⊥)
     → (IsOneOf (Ends number) some → ⊥) × (number ≡ other → ⊥)
-goes_on_both number other some goes =
-    (
-      λ at. goes (in_append_left (Ends number) some (Ends other ∷ []) at),
-      λ same. goes (in_append_right (Ends number) some (Ends other ∷ []) (inl (ap (λ n. Ends n) same))),
-    )
+goes_on_both number other some goes = (
+  λ at. goes (in_append_left (Ends number) some (Ends other ∷ []) at),
+  λ same. goes (in_append_right (Ends number) some (Ends other ∷ []) (inl (ap (λ n. Ends n) same))),
+)

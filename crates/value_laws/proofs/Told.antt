@@ -1,12 +1,12 @@
 -- What is told of one request, word by word of the range of bytes that it may give: to each byte of a word once what it gives there, and whether it takes effect.
-use Rattle.std.proofs.Common.{◌≡◌, ℕ, ◌+◌, ◌-◌, ◌*◌, ◌/◌, ◌%◌, ◌<◌, ◌≤◌, ◌==◌, Bool, true, false, ◌&&◌, List, [], ◌∷◌, ◌++◌, Option, Some, None, if◌then◌else◌, refl, sym, ◌∙◌, ap, subst, arith}
+use Rattle.std.proofs.Common.{◌≡◌, ℕ, ◌+◌, ◌-◌, ◌*◌, ◌/◌, ◌%◌, ◌<◌, ◌≤◌, ◌==◌, Bool, true, false, ◌&&◌, List, [], ◌∷◌, ◌++◌, Option, Some, None, if◌then◌else◌, refl, sym, ◌∙◌, subst, arith}
 use Rattle.std.specs.Prelude.{nat_le, nat_lt, option_map}
 use Rattle.std.specs.List.{AllByRecursion}
 use Rattle.std.proofs.lemmas.Bool.{and_parts, both_ways, eq-eqb, ne_eqb}
 use Rattle.std.proofs.lemmas.Bool.Decides.{nat_tests}
 use Rattle.bus_words.specs.Lanes.{has_lane}
 use Rattle.byte_orders.specs.Runs.{Event, Gives, LeavesOut, TakesEffect}
-use Rattle.byte_orders.proofs.Leading.{AllOf, of_both}
+use Rattle.byte_orders.proofs.Leading.{of_both}
 use Rattle.byte_values.specs.Words.{known_byte}
 use Rattle.byte_values.specs.declared.known.KnownBytes.{KnownBytes}
 use Rattle.setups.specs.Setups.{SetupLists}
@@ -16,7 +16,7 @@ use Rattle.scoreboard.specs.Boards.{Beginning}
 use Rattle.scoreboard.specs.declared.Errors.{Errors}
 use Rattle.value_memory.specs.ValueMemory.{gives_at as gives_to, given_to, may_give, shares_word, to_words, word_count}
 use Rattle.value_memory.specs.declared.ByteRange.{ByteRange}
-use Rattle.value_orders.specs.Bytes.{gives_at, may_write_at}
+use Rattle.value_orders.specs.Bytes.{may_write_at}
 use Rattle.value_orders.specs.Events.{effects_as, known_as}
 use Rattle.value_orders.specs.Histories.{Happening, Past, history_in}
 use Rattle.value_orders.specs.Places.{acts_at, acts_on, covers_from}
