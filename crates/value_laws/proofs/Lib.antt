@@ -16,3 +16,5 @@ pub mod Reaches
 pub mod Shows
 pub mod Nexts
 pub mod Told
+pub mod Replies
+pub mod Messages
