@@ -18,3 +18,4 @@ pub mod Nexts
 pub mod Told
 pub mod Replies
 pub mod Messages
+pub mod Bursts

@@ -1,7 +1,6 @@
 -- A beat on channel A that was taken, to a whole memory: a request begins, goes on or is whole, and then all bytes go along with one happening more.
-use Rattle.std.proofs.Common.{◌≡◌, ℕ, ◌+◌, List, [], ◌∷◌, ◌++◌, length, Option, Some, None, sym, ◌∙◌}
-use Rattle.std.specs.Prelude.{Result, Ok, slice_get}
-use Rattle.byte_orders.specs.Runs.{Event}
+use Rattle.std.proofs.Common.{◌≡◌, ℕ, ◌+◌, true, false, List, [], ◌∷◌, ◌++◌, length, Option, Some, None, sym, ◌∙◌}
+use Rattle.std.specs.Prelude.{Ok, slice_get}
 use Rattle.tl_checker.specs.Ports.{joined}
 use Rattle.tl_checker.specs.declared.Progress.TheVariants.{More, Whole}
 use Rattle.tl_messages.specs.Requests.{HeldMessage, WholeRequest, request_of}

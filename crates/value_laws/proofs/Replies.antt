@@ -1,6 +1,6 @@
 -- A beat of a reply, to a whole memory: what is shown, the reply that is over with it, and the end of its request are told one after another, and then all bytes go
 -- along with one happening more.
-use Rattle.std.proofs.Common.{◌≡◌, ℕ, ◌+◌, ◌%◌, Bool, true, false, List, [], ◌∷◌, ◌++◌, length, Some, None, refl, sym, ◌∙◌, ap, subst}
+use Rattle.std.proofs.Common.{◌≡◌, ℕ, ◌+◌, ◌%◌, Bool, true, false, List, [], ◌∷◌, ◌++◌, length, Some, None, refl, sym, ◌∙◌, ap}
 use Rattle.std.specs.List.{list_any}
 use Rattle.bus_words.specs.Lanes.{lane_byte}
 use Rattle.byte_orders.specs.Runs.{Event, Resets}
