@@ -30,7 +30,8 @@ use Rattle.bridge_calls.specs.Bridges.{AfterDrain, AfterStep, BridgeState, openi
 use Rattle.bridge_calls.specs.CallKinds.{call_by, call_of, kind_of, step_by, step_in, words_wanted}
 use Rattle.bridge_calls.specs.HandleRuns.{HasRun, IsARun, IsNew, first_enabled, last_reply, step_and, steps_at, steps_by, steps_of}
 use Rattle.bridge_calls.specs.Handles.{Called, DoneBy, HeldBridge, OtherDone, bridge_session}
-use Rattle.bridge_calls.specs.SetUps.{SetUpState, SetUpTold, no_line, set_up_kind, stage_in}
+use Rattle.bridge_calls.specs.SetUps.{BridgeSetUp, SetUpTold, set_up_kind, stage_in}
+use Rattle.call_words.specs.SetUps.{no_line}
 use Rattle.bridge_calls.specs.declared.kinds.CallKind.{CallKind}
 use Rattle.bridge_calls.specs.declared.kinds.CallKind.TheVariants as kind
 use Rattle.bridge_calls.proofs.Choosing.{all_at, is_own, own_enabled}
@@ -93,11 +94,8 @@ hands_over state step old =
 -- one of its steps takes no reply
 own_hands_none : (step : Step) (answer : Answer) (beats : List DBeat) → is_own step ≡ true → handed_at step answer beats ≡ None
 own_hands_none (Offer client beat) answer beats own = absurd (cc (own))
-own_hands_none Pump answer beats own = refl
-own_hands_none (Perform serial beat) answer beats own = refl
-own_hands_none (AnswerB id) answer beats own = refl
-own_hands_none (AnswerR id) answer beats own = refl
 own_hands_none (Take client) answer beats own = absurd (cc (own))
+own_hands_none step answer beats own = refl
 
 -- where steps lead from one world to another, these are the first that are enabled, and they hand out nothing
 record IsLed (old new : WorldState) (steps : List Step) : Type 0 where
@@ -188,7 +186,7 @@ drain_steps old new made did =
 -- ---- what a call leaves
 
 abbrev Held : Type 0
-Held = Stage SetUpState BridgeState
+Held = Stage BridgeSetUp BridgeState
 
 -- of a stage: the world of a model that runs keeps its laws, and a set-up has no world
 abbrev IsGood : Held → Type 0
@@ -197,7 +195,7 @@ IsGood (SettingUp set_up) = IsEarly (stage_in set_up)
 IsGood (Running bridge) = IsSoundWorld bridge.world
 
 -- a set-up was begun: what it said is a set-up, and its opening world keeps the laws
-record IsBegun (set_up : SetUpState) (bridge : BridgeState) : Type 0 where
+record IsBegun (set_up : BridgeSetUp) (bridge : BridgeState) : Type 0 where
   pub setup : SetupLists
   pub said : stage_in set_up ≡ SaidSetUp setup tt
   pub opens : bridge ≡ opening_bridge setup
@@ -225,14 +223,13 @@ module _ (makes : WorldState → List Step) where
 
   fits_shut : (old : Held) → Fits old Closed
   fits_shut Closed = tt
-  fits_shut (SettingUp set_up) = tt
-  fits_shut (Running bridge) = tt
+  fits_shut old = tt
 
   fits_closed : (old new : Held) → new ≡ Closed → Fits old new
   fits_closed old new closed = subst (λ (s : Held). Fits old s) (sym closed) (fits_shut old)
 
   -- a set-up that stays
-  fits_early : (set_up : SetUpState) (new : Held) → IsEarly (stage_in set_up) → new ≡ SettingUp set_up → Fits (SettingUp set_up) new
+  fits_early : (set_up : BridgeSetUp) (new : Held) → IsEarly (stage_in set_up) → new ≡ SettingUp set_up → Fits (SettingUp set_up) new
   fits_early set_up new early same = subst (λ (s : Held). Fits (SettingUp set_up) s) (sym same) early
 
 -- what says no step, and is no drain, makes none
@@ -240,21 +237,21 @@ abbrev makes_none : WorldState → List Step
 makes_none world = []
 
 -- a line
-line_leaves : (set_up after : SetUpState) (line : List ℕ) (new : Held) (answer : ℕ) (told : Result (Unit {0}) ScriptFault) → IsEarly (stage_in set_up) → SetUpTold set_up line after told
+line_leaves : (set_up after : BridgeSetUp) (line : List ℕ) (new : Held) (answer : ℕ) (told : Result (Unit {0}) ScriptFault) → IsEarly (stage_in set_up) → SetUpTold set_up line after told
     → SetUpLeft after told new answer → Fits makes_none (SettingUp set_up) new
 line_leaves set_up after line new answer (Ok done) early took left =
     subst (λ (s : Held). Fits makes_none (SettingUp set_up) s) (sym left.0) (early_line set_up after line early took.0)
 line_leaves set_up after line new answer (Err fault) early took left = fits_closed makes_none (SettingUp set_up) new left.0
 
 -- the beginning
-begun_from : (set_up : SetUpState) (bridge : BridgeState) (number : ℕ) (stage : Stages SetupLists (Unit {0}) BridgeState) → stage_in set_up ≡ stage → IsEarly stage
+begun_from : (set_up : BridgeSetUp) (bridge : BridgeState) (number : ℕ) (stage : Stages SetupLists (Unit {0}) BridgeState) → stage_in set_up ≡ stage → IsEarly stage
     → world_at set_up_kind stage number ≡ Ok bridge → IsSoundWorld bridge.world → IsBegun set_up bridge
 begun_from set_up bridge number Opening is early opened sound = absurd (cc (opened))
 begun_from set_up bridge number (SaidSetUp setup own) is early opened sound =
     record { setup = setup; said = is; opens = sym (opening_is (opening_bridge setup) bridge (setup_fault setup) opened); sound = sound }
 begun_from set_up bridge number (RunningStage other) is early opened sound = absurd early
 
-begin_leaves : (set_up : SetUpState) (new : Held) (answer number : ℕ) (given : Result BridgeState ScriptFault) → IsEarly (stage_in set_up)
+begin_leaves : (set_up : BridgeSetUp) (new : Held) (answer number : ℕ) (given : Result BridgeState ScriptFault) → IsEarly (stage_in set_up)
     → GivesWorld (λ (bridge : BridgeState). bridge) (world_at set_up_kind (stage_in set_up) number) given → IfOk given (λ (bridge : BridgeState). IsSoundWorld bridge.world)
     → BegunLeft given new answer → Fits makes_none (SettingUp set_up) new
 begin_leaves set_up new answer number (Ok bridge) early made laws left =
@@ -368,7 +365,7 @@ runs_on (call ∷ calls) setup before handle new old bridge here ran takes there
         (subst (λ (steps : List Step). HasRun setup steps bridge) (append_assoc before made (steps_of (after old.world made) now (words_in calls))) there_too)
 
 -- a set-up is begun at one of the words
-begins_run : (calls : List (ℕ × ℕ)) (handle new : HeldBridge) (set_up : SetUpState) (bridge : BridgeState) → handle.stage ≡ SettingUp set_up → IsEarly (stage_in set_up)
+begins_run : (calls : List (ℕ × ℕ)) (handle new : HeldBridge) (set_up : BridgeSetUp) (bridge : BridgeState) → handle.stage ≡ SettingUp set_up → IsEarly (stage_in set_up)
     → TakesWords Called handle calls new → new.stage ≡ Running bridge → IsARun handle calls bridge
 begins_run [] handle new set_up bridge here early takes there =
     absurd (let both : SettingUp set_up ≡ Running bridge = sym here ∙ sym (ap (λ (h : HeldBridge). h.stage) takes) ∙ there in cc)
@@ -377,7 +374,7 @@ begins_run (call ∷ calls) handle new set_up bridge here early takes there =
     (λ more is still. begins_run calls takes.next new more bridge is still takes.behind there)
   where
     by_stage : (stage : Held) → takes.next.stage ≡ stage → Fits (λ world. steps_at world takes.next.call) (SettingUp set_up) stage
-        → ((more : SetUpState) → takes.next.stage ≡ SettingUp more → IsEarly (stage_in more) → IsARun takes.next calls bridge) → IsARun handle (call ∷ calls) bridge
+        → ((more : BridgeSetUp) → takes.next.stage ≡ SettingUp more → IsEarly (stage_in more) → IsARun takes.next calls bridge) → IsARun handle (call ∷ calls) bridge
     by_stage Closed is fits later = absurd (never_closed bridge new there (stays_closed calls takes.next new is takes.behind))
     by_stage (SettingUp more) is still later =
         let run = later more is still in

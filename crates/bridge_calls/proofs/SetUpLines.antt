@@ -1,6 +1,6 @@
 -- What a line of a set-up does: none writes text, and none asks for memory.
 use Rattle.std.proofs.Common.{◌≡◌, ◌+◌, ◌++◌, inl, inr, ℕ, List, [], Bool, true, false, Option, None, Some, Result, Ok, Err, refl, sym, subst, ap, ap₂, ◌∙◌, nat_lt}
-use Rattle.std.specs.Prelude.{not, ◌||◌, if◌then◌else◌, ⊤}
+use Rattle.std.specs.Prelude.{IfOk, not, ◌||◌, if◌then◌else◌, ⊤}
 use Rattle.std.specs.Str.Lines.{strip_carriage_return}
 use Rattle.line_text.specs.Words.{is_plain_line, is_skipped, word_at, words_of}
 use Rattle.setups.specs.Setups.{SetupLists, setup_fault}
@@ -8,15 +8,17 @@ use Rattle.setups.specs.declared.SetupFault.{SetupFault}
 use Rattle.script_text.specs.Forms.{form_of, told_as}
 use Rattle.script_text.specs.Scripts.{LineStep, line_step}
 use Rattle.script_text.specs.Stages.{GivesWorld, Opening, Running, SettingUp, Stage, added_step, ending_of, form_step, is_misplaced, is_setup_form, nothing_written, other_step, set_up_as, set_up_with, setup_step, stage_ending, stage_step, unless_refused, with_setup_line, world_at}
-use Rattle.script_text.specs.Steps.{Goes, TakesStep}
 use Rattle.script_text.specs.declared.faults.ScriptFault.{ScriptFault}
 use Rattle.script_text.specs.declared.faults.ScriptFault.TheVariants.{Script, Setup, Read, Write, NoMemory}
 use Rattle.script_text.specs.declared.keywords.Form.{Form}
 use Rattle.script_text.specs.declared.keywords.Form.TheVariants as form
 use Rattle.world_run.proofs.OrderOpens.{keeps_opening}
+use Rattle.world.specs.Laws.{IsSoundWorld}
 use Rattle.world_run.specs.InOrder.{KeepsOrder}
 use Rattle.bridge_calls.specs.Bridges.{BridgeState, opening_bridge}
-use Rattle.bridge_calls.specs.SetUps.{OpensInOrder, SetUpState, line_done, set_up_kind, set_up_reading, stage_in}
+use Rattle.bridge_calls.specs.Handles.{GivesBridge}
+use Rattle.bridge_calls.specs.SetUps.{BridgeSetUp, OpensInOrder, SetUpTold, said_set_up, set_up_kind, set_up_reading, stage_in}
+use Rattle.call_words.specs.SetUps.{LineTaken, line_done}
 
 abbrev Stages : Type 0
 Stages = Stage SetupLists (Unit {0}) BridgeState
@@ -106,7 +108,7 @@ left_quiet stage next number line text is = subst (IsQuiet stage) is (quiet_line
 text_none : (stage next : Stages) (number : ℕ) (line text : List ℕ) → line_step set_up_reading stage number line ≡ Ok (text, next) → text ≡ []
 text_none stage next number line text is = (left_quiet stage next number line text is).0
 
-pub early_line : (old after : SetUpState) (line : List ℕ) → IsEarly (stage_in old) → line_done old line ≡ Ok ([], stage_in after) → IsEarly (stage_in after)
+pub early_line : (old after : BridgeSetUp) (line : List ℕ) → IsEarly (stage_in old) → line_done set_up_kind (said_set_up old) line ≡ Ok ([], stage_in after) → IsEarly (stage_in after)
 early_line old after line early is = (left_quiet (stage_in old) (stage_in after) (old.number + 1) (strip_carriage_return line) [] is).1 early
 
 -- nor has the end text
@@ -119,34 +121,16 @@ ending_none stage number = ended_none (world_at set_up_kind stage number)
 
 -- ---- a line
 
-line_is : (old : SetUpState) (line : List ℕ) (number : ℕ) (stage : Stages) (told : LineStep Stages) → stage ≡ stage_in old → number ≡ old.number + 1
-    → line_step set_up_reading stage number (strip_carriage_return line) ≡ told → line_done old line ≡ told
-line_is old line number stage told there is done =
-    ap₂ (λ (s : Stages) (n : ℕ). line_step set_up_reading s n (strip_carriage_return line)) (sym there) (sym is) ∙ done
-
-pub line_goes : (old : SetUpState) (line : List ℕ) (number : ℕ) (stage after : Stages) (before behind : Option (List ℕ)) (wrote : Bool) → stage ≡ stage_in old → number ≡ old.number + 1
-    → Goes set_up_reading (line_step set_up_reading stage number (strip_carriage_return line)) nothing_written stage after before behind wrote → line_done old line ≡ Ok ([], after)
-line_goes old line number stage after before behind wrote there is goes =
-    line_is old line number stage _ there is
-    (goes.step_is ∙ ap (λ (text : List ℕ). Ok (text, after)) (text_none stage after number (strip_carriage_return line) goes.text goes.step_is))
-
-line_stops : (old : SetUpState) (line : List ℕ) (number : ℕ) (stage after : Stages) (fault : ScriptFault) (before behind : Option (List ℕ)) → stage ≡ stage_in old → number ≡ old.number + 1
-    → TakesStep set_up_reading false (line_step set_up_reading stage number (strip_carriage_return line)) nothing_written stage after before behind (Err fault) → line_done old line ≡ Err fault
-line_stops old line number stage after (Script at word) before behind there is step = line_is old line number stage _ there is step.0
-line_stops old line number stage after (Setup fault) before behind there is step = line_is old line number stage _ there is step.0
-line_stops old line number stage after Read before behind there is step = absurd step
-line_stops old line number stage after Write before behind there is (stands, some) = absurd (some (text_none stage stands.next number (strip_carriage_return line) stands.text stands.step_is))
-line_stops old line number stage after NoMemory before behind there is (inl (silent, (stands, some)), kept) =
-    absurd (some 0 (ap₂ (λ (text ending : List ℕ). text ++ ending) (text_none stage stands.next number (strip_carriage_return line) stands.text stands.step_is) (ending_none stands.next 0)))
-line_stops old line number stage after NoMemory before behind there is (inr (grows, stands), kept) = absurd (cc (grows))
-
--- where the line's step ended so
-pub line_ends : (old : SetUpState) (line : List ℕ) (number : ℕ) (stage after : Stages) (told : Result Bool ScriptFault) (fault : ScriptFault) (before behind : Option (List ℕ)) → stage ≡ stage_in old → number ≡ old.number + 1
-    → told ≡ Err fault
-    → TakesStep set_up_reading false (line_step set_up_reading stage number (strip_carriage_return line)) nothing_written stage after before behind told → line_done old line ≡ Err fault
-line_ends old line number stage after told fault before behind there is ended step =
-    line_stops old line number stage after fault before behind there is
-    (subst (λ (t : Result Bool ScriptFault). TakesStep set_up_reading false (line_step set_up_reading stage number (strip_carriage_return line)) nothing_written stage after before behind t) ended step)
+pub told_exactly : (old new : BridgeSetUp) (line : List ℕ) (told : Result (Unit {0}) ScriptFault) → LineTaken set_up_kind false (said_set_up old) line (said_set_up new) told → SetUpTold old line new told
+told_exactly old new line (Ok done) took = took
+told_exactly old new line (Err (Script at word)) (inl is) = is
+told_exactly old new line (Err (Script at word)) (inr ((stands, some), told)) = absurd (some (text_none (stage_in old) stands.next _ _ stands.text stands.step_is))
+told_exactly old new line (Err (Setup fault)) is = is
+told_exactly old new line (Err Read) never = absurd never
+told_exactly old new line (Err Write) (stands, some) = absurd (some (text_none (stage_in old) stands.next _ _ stands.text stands.step_is))
+told_exactly old new line (Err NoMemory) (inl (stands, some)) =
+    absurd (some 0 (ap₂ (λ (text ending : List ℕ). text ++ ending) (text_none (stage_in old) stands.next _ _ stands.text stands.step_is) (ending_none stands.next 0)))
+told_exactly old new line (Err NoMemory) (inr (grows, stands)) = absurd (cc (grows))
 
 -- ---- the world of the set-up
 
@@ -158,9 +142,13 @@ pub opening_is : (opening bridge : BridgeState) (fault : Option SetupFault) → 
 opening_is opening bridge None is = ap (bridge_in opening) is
 opening_is opening bridge (Some fault) is = absurd (cc (is))
 
-pub opens_in_order : (stage : Stages) (number : ℕ) (given : Result BridgeState ScriptFault) → GivesWorld (λ (bridge : BridgeState). bridge) (world_at set_up_kind stage number) given → OpensInOrder stage given
+opens_in_order : (stage : Stages) (number : ℕ) (given : Result BridgeState ScriptFault) → GivesWorld (λ (bridge : BridgeState). bridge) (world_at set_up_kind stage number) given → OpensInOrder stage given
 opens_in_order Opening number given made = tt
 opens_in_order (SettingUp setup own) number (Ok bridge) made =
     λ order faults regions. subst (λ (b : BridgeState). KeepsOrder order b.world) (opening_is (opening_bridge setup) bridge (setup_fault setup) made) (keeps_opening order setup faults regions)
 opens_in_order (SettingUp setup own) number (Err fault) made = tt
 opens_in_order (Running bridge) number given made = tt
+
+pub gives_bridge : (old : BridgeSetUp) (given : Result BridgeState ScriptFault) → GivesWorld (λ (bridge : BridgeState). bridge) (world_at set_up_kind (stage_in old) (old.number + 1)) given
+    → IfOk given (λ (bridge : BridgeState). IsSoundWorld bridge.world) → GivesBridge old given
+gives_bridge old given made laws = record { made = made; order = opens_in_order (stage_in old) (old.number + 1) given made; laws = laws }

@@ -16,7 +16,8 @@ use Rattle.call_words.specs.declared.handle.Stage.TheVariants.{Running, SettingU
 use Rattle.bridge_calls.specs.Bridges.{BridgeState}
 use Rattle.bridge_calls.specs.CallKinds.{kind_of, step_in, words_wanted}
 use Rattle.bridge_calls.specs.Handles.{Called, HeldBridge}
-use Rattle.bridge_calls.specs.SetUps.{SetUpState, no_line, stage_in}
+use Rattle.bridge_calls.specs.SetUps.{BridgeSetUp, stage_in}
+use Rattle.call_words.specs.SetUps.{no_line}
 use Rattle.bridge_calls.specs.declared.kinds.CallKind.{CallKind}
 use Rattle.bridge_calls.specs.declared.kinds.CallKind.TheVariants as kind
 
@@ -83,7 +84,7 @@ pub record IsARun (handle : HeldBridge) (calls : List (ℕ × ℕ)) (bridge : Br
   pub all : calls ≡ first ++ rest
   -- what was said up to the word by which it began
   pub before : HeldBridge
-  pub set_up : SetUpState
+  pub set_up : BridgeSetUp
   pub setup : SetupLists
   pub lines : TakesWords Called handle first before
   pub stage : before.stage ≡ SettingUp set_up

@@ -9,12 +9,13 @@ use Rattle.call_words.specs.Handles.{CalledOf, HandleState, Session}
 use Rattle.bridge_calls.specs.Answers.{code_of}
 use Rattle.bridge_calls.specs.Bridges.{AfterDrain, AfterStep, BridgeState, asked_of}
 use Rattle.bridge_calls.specs.CallKinds.{call_of, kind_of, step_in, words_wanted}
-use Rattle.bridge_calls.specs.SetUps.{OpensInOrder, SetUpState, SetUpTold, no_line, set_up_kind, stage_in}
+use Rattle.bridge_calls.specs.SetUps.{BridgeSetUp, OpensInOrder, SetUpTold, set_up_kind, stage_in}
+use Rattle.call_words.specs.SetUps.{no_line}
 use Rattle.bridge_calls.specs.declared.kinds.CallKind.{CallKind}
 use Rattle.bridge_calls.specs.declared.kinds.CallKind.TheVariants as kind
 
 -- a set-up is begun: its world is made, or why it isn't; it is in order, and bridge and memory agree there
-pub record GivesBridge (old : SetUpState) (given : Result BridgeState ScriptFault) : Type 0 where
+pub record GivesBridge (old : BridgeSetUp) (given : Result BridgeState ScriptFault) : Type 0 where
   pub made : GivesWorld (λ (bridge : BridgeState). bridge) (world_at set_up_kind (stage_in old) (old.number + 1)) given
   pub order : OpensInOrder (stage_in old) given
   pub laws : IfOk given (λ (bridge : BridgeState). IsSoundWorld bridge.world)
@@ -33,7 +34,7 @@ DoneBy None head old new answer = OtherDone (kind_of head) head old new answer
 
 -- ---- the handle
 
-abbrev pub bridge_session : Session SetUpState BridgeState
+abbrev pub bridge_session : Session BridgeSetUp BridgeState
 bridge_session =
     record {
       call_of = call_of;
@@ -47,7 +48,7 @@ bridge_session =
     }
 
 abbrev pub HeldBridge : Type 0
-HeldBridge = HandleState SetUpState BridgeState
+HeldBridge = HandleState BridgeSetUp BridgeState
 
 -- what a word does there, and answers
 abbrev pub Called : HeldBridge → ℕ → HeldBridge → ℕ → Type 0

@@ -4,7 +4,7 @@ ghost use Rattle.call_words.specs.PendingCalls.{no_call};
 ghost use Rattle.call_words.specs.declared.handle.Stage.TheVariants.{SettingUp};
 ghost use Rattle.bridge_calls.specs.HandleRuns.{OnlyRuns};
 ghost use Rattle.bridge_calls.specs.Handles.{Called};
-ghost use Rattle.bridge_calls.specs.SetUps.{no_line};
+ghost use Rattle.call_words.specs.SetUps.{no_line};
 
 use crate::session::BridgeSession;
 use call_words::Handle;

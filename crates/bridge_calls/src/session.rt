@@ -2,8 +2,8 @@
 use crate::answers::code_of;
 use crate::bridge::Bridge;
 use crate::kinds::{CallKind, kind_of, step_in};
-use crate::set_up::SetUp;
-use call_words::{HandleCall, Session, WRONG_CALL, byte_in, low_in, words_of};
+use crate::set_up::SetUpAlone;
+use call_words::{HandleCall, Session, SetUp, WRONG_CALL, byte_in, low_in, words_of};
 use script_text::ScriptFault;
 use std::alloc::Global;
 
@@ -13,7 +13,7 @@ pub(crate) struct BridgeSession;
 impl Session for BridgeSession {
     ghost use Rattle.bridge_calls.specs.Handles.{bridge_session};
 
-    type SetUp = SetUp;
+    type SetUp = SetUp<SetUpAlone>;
 
     type Run = Bridge;
 
@@ -39,16 +39,26 @@ impl Session for BridgeSession {
         }
     }
 
-    fn no_line() -> SetUp {
-        SetUp::new()
+    fn no_line() -> SetUp<SetUpAlone> {
+        SetUp::new(SetUpAlone)
     }
 
-    fn line(set_up: &mut SetUp, alloc: Global, line: &[u8]) -> Result<(), ScriptFault> {
+    fn line(
+        set_up: &mut SetUp<SetUpAlone>,
+        alloc: Global,
+        line: &[u8],
+    ) -> Result<(), ScriptFault> {
         set_up.line(alloc, line)
     }
 
-    fn begin(set_up: SetUp, alloc: Global) -> Result<Bridge, ScriptFault> {
-        set_up.begin(alloc)
+    fn begin(set_up: SetUp<SetUpAlone>, alloc: Global) -> Result<Bridge, ScriptFault> {
+        match set_up.begin(alloc) {
+            Ok(bridge) => {
+                bridge.agrees();
+                Ok(bridge)
+            }
+            Err(fault) => Err(fault),
+        }
     }
 
     fn call(

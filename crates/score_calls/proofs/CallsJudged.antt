@@ -39,7 +39,7 @@ use Rattle.scoreboard.specs.declared.Wrong.{Wrong}
 use Rattle.scoreboard.specs.declared.Wrong.TheVariants.{NoClient, Request, Reply, Axi, Place, UnknownAxi, UnknownRequest}
 use Rattle.scoreboard.proofs.acceptance_order.Reached.{right_exactly}
 use Rattle.scoreboard.proofs.held.AllKnown.{FitsBeat, known-after, known-wrong}
-use Rattle.score_script.specs.Observations.{CallTold, Observing, ObservationState, SetUpState, after_call, finding_code, first_code, observing_code, observing_of, next_number, stage_in, wrong_code}
+use Rattle.score_script.specs.Observations.{CallTold, Observing, ObservationState, after_call, finding_code, first_code, observing_code, observing_of, next_number, wrong_code}
 use Rattle.score_script.specs.ScoreStates.{score_of}
 use Rattle.score_script.specs.Profiles.{errors_of, policy_of, wrong_in}
 use Rattle.score_script.specs.Scores.{Finds, Score, called_score, finds_at_once, found, judged_behind, line_at, misplaced_in, opening_score, score_after, score_kind, settling, settling_held, verdict_on, without_data, wrong_command}
@@ -58,7 +58,7 @@ use Rattle.score_calls.specs.Answers.{answer_of}
 use Rattle.score_calls.specs.CallCommands.{command_by, command_in}
 use Rattle.score_calls.specs.CallWords.{call_by, call_of, kind_of, wanted_by, words_wanted}
 use Rattle.score_calls.specs.HandleRuns.{AllWentWell, Begins, HasHeard, Heard, Hears, IsExact, TakesBeat, WentWell, heard_nothing, heard_after, heard_at, heard_by, heard_with, is_plain, is_asking}
-use Rattle.score_calls.specs.Handles.{Called, Commanded, DoneBy, OtherDone, ScoreHandle, score_session}
+use Rattle.score_calls.specs.Handles.{Called, Commanded, DoneBy, OtherDone, ScoreHandle, ScoreSetUp, said_set_up, score_session}
 use Rattle.score_calls.specs.declared.words.CallKind.{CallKind}
 use Rattle.score_calls.specs.declared.words.CallKind.TheVariants as kind
 
@@ -67,20 +67,12 @@ use Rattle.score_calls.specs.declared.words.CallKind.TheVariants as kind
 -- what is wrong has a number above 0
 wrong_above : (wrong : Wrong) → 0 < wrong_code wrong
 wrong_above NoClient = omega arith
-wrong_above (Request rule) = omega arith
-wrong_above (Reply rule due) = omega arith
-wrong_above (Axi rule) = omega arith
-wrong_above UnknownRequest = omega arith
-wrong_above UnknownAxi = omega arith
-wrong_above Place = omega arith
+wrong_above wrong = omega arith
 
 -- and a fault one of 33 bits and more
 fault_above : (fault : ScriptFault) → 4294967296 ≤ fault_answer fault
 fault_above (Script line word) = omega arith
-fault_above (Setup fault) = omega arith
-fault_above Read = omega arith
-fault_above Write = omega arith
-fault_above NoMemory = omega arith
+fault_above fault = omega arith
 
 -- the number of what was found of a beat, by the verdict
 abbrev code_of_verdict : Line → ObservedBeat → Option Wrong → ℕ
@@ -156,14 +148,9 @@ option_or-None (Some x) = refl
 -- what the board says of one of which all is known
 known_verdict : (x_data : Bool) (verdict : Option Wrong) → IsOfBoard verdict → without_data x_data verdict ≡ verdict
 known_verdict false verdict of = refl
-known_verdict true None of = refl
-known_verdict true (Some NoClient) of = refl
-known_verdict true (Some (Request rule)) of = refl
-known_verdict true (Some (Reply rule due)) of = refl
-known_verdict true (Some (Axi rule)) of = refl
-known_verdict true (Some Place) of = refl
 known_verdict true (Some UnknownRequest) of = absurd of
 known_verdict true (Some UnknownAxi) of = absurd of
+known_verdict true verdict of = refl
 
 module _ (errors : Errors) (heard : Heard) (score : Score) (has : HasHeard errors heard score) where
   settles : settling score ≡ (None, score)
@@ -275,13 +262,7 @@ module _ (errors : Errors) (heard : Heard) (old : ObservationState) (has : HasHe
           (hears_beat errors heard score has seen fits known (none_wrong (line_at score number) seen.beat (verdict_on score seen) (sym (code_is seen fits known) ∙ none)))
       by_command (command.Fill address bytes) fits plain may none = hears_filling errors heard score has number address bytes may
       by_command (command.Time time) fits plain may none = hears_time errors heard score has number time
-      by_command (command.Unknown port client) fits plain may none = absurd (cc (plain))
-      by_command (command.Byte address) fits plain may none = absurd (cc (plain))
-      by_command command.Withdrawal fits plain may none = absurd (cc (plain))
-      by_command command.Answer fits plain may none = absurd (cc (plain))
-      by_command command.Waited fits plain may none = absurd (cc (plain))
-      by_command command.Reset fits plain may none = absurd (cc (plain))
-      by_command command.End fits plain may none = absurd (cc (plain))
+      by_command given fits plain may none = absurd (cc (plain))
 
   hears_said : (said : Command) (after : ObservationState) (answer : ℕ) → FitsSaid said → is_plain said ≡ true → answer ≡ 0 → Commanded old said after answer
       → HasHeard errors (heard_with heard said) (score_of after.score)
@@ -359,7 +340,7 @@ hears_own errors heard old after None head answer words has fits well did = hear
 hears_own errors heard old after (Some said) head answer words has fits well did = hears_said errors heard old has said after answer fits well.0 well.1 did
 
 -- a call behind the set-up is the observation's own; or it says no command, and leaves the observation as it is or closes all
-module _ (old : ObservationState) (new : Stage SetUpState ObservationState) (call : CallState) (text next : List ℕ) (answer : ℕ) where
+module _ (old : ObservationState) (new : Stage ScoreSetUp ObservationState) (call : CallState) (text next : List ℕ) (answer : ℕ) where
   abbrev IsOwnOrQuiet : Type 0
   IsOwnOrQuiet =
       OwnMade score_session call old new answer
@@ -379,7 +360,7 @@ module _ (old : ObservationState) (new : Stage SetUpState ObservationState) (cal
       by_kind kind.Close is did = inr (none kind.Close is refl, inr is)
       by_kind called is did = inl did.0
 
-hears_call : (errors : Errors) (heard : Heard) (stage new : Stage SetUpState ObservationState) (call : CallState) (text next : List ℕ) (answer : ℕ) → Hears errors heard stage
+hears_call : (errors : Errors) (heard : Heard) (stage new : Stage ScoreSetUp ObservationState) (call : CallState) (text next : List ℕ) (answer : ℕ) → Hears errors heard stage
     → FitsIfSaid (command_in call.head call.words) → WentWell (command_in call.head call.words) (kind_of call.head) answer
     → Done score_session (call_of call.head) call stage text new next answer → Hears errors (heard_by heard (command_in call.head call.words)) new
 hears_call errors heard (SettingUp set_up) new call text next answer has fits well did = absurd has
@@ -425,7 +406,7 @@ hears_words (call ∷ calls) errors heard handle new hears fit all takes well =
     (subst (λ (c : CallState). Hears errors (heard_after (heard_at heard c) c (words_in calls)) new.stage) is later.0, later.1)
 
 -- a beat's last word
-exact_word : (errors : Errors) (heard : Heard) (stage : Stage SetUpState ObservationState) (old new : ScoreHandle) (word answer : ℕ) (beat : ObservedBeat) → old.stage ≡ stage
+exact_word : (errors : Errors) (heard : Heard) (stage : Stage ScoreSetUp ObservationState) (old new : ScoreHandle) (word answer : ℕ) (beat : ObservedBeat) → old.stage ≡ stage
     → Hears errors heard stage → AreWords new.call.words → Called old word new answer → is_whole new.call ≡ true
     → command_in new.call.head new.call.words ≡ Some (command.Observed (record { beat = beat; unknown = 0 })) → IsExact heard beat answer
 exact_word errors heard Closed old new word answer beat there hears fit did whole said = absurd hears
@@ -433,7 +414,7 @@ exact_word errors heard (SettingUp set_up) old new word answer beat there hears 
 exact_word errors heard (Running seen) old new word answer beat there hears fit did whole said =
     let done : Done score_session (call_of new.call.head) new.call old.stage old.text new.stage new.text answer = subst (λ (b : Bool). CalledBy score_session b old new answer) whole did.told in
     by_own (own_or_quiet seen new.stage new.call old.text new.text answer
-    (subst (λ (s : Stage SetUpState ObservationState). Done score_session (call_of new.call.head) new.call s old.text new.stage new.text answer) there done))
+    (subst (λ (s : Stage ScoreSetUp ObservationState). Done score_session (call_of new.call.head) new.call s old.text new.stage new.text answer) there done))
   where
     by_own : IsOwnOrQuiet seen new.stage new.call old.text new.text answer → IsExact heard beat answer
     by_own (inl made) =
@@ -469,9 +450,9 @@ opened_score opening None score is = ap (score_or opening) is
     score_or other (Err fault) = other
 opened_score opening (Some fault) score is = absurd (cc (is))
 
-hears_begun : (setup : RangeLists) (asked : Asked) (set_up : SetUpState) (new : Stage SetUpState ObservationState) (number : ℕ) (given : Result ObservationState ScriptFault) → stage_in set_up ≡ SaidSetUp setup asked
+hears_begun : (setup : RangeLists) (asked : Asked) (set_up : ScoreSetUp) (new : Stage ScoreSetUp ObservationState) (number : ℕ) (given : Result ObservationState ScriptFault) → (said_set_up set_up).stage ≡ SaidSetUp setup asked
     → policy_of asked.policy ≡ AcceptanceOrder → asked.strict ≡ false
-    → GivesWorld (λ (seen : ObservationState). score_of seen.score) (world_at score_kind (stage_in set_up) number) given → BegunLeft given new 0
+    → GivesWorld (λ (seen : ObservationState). score_of seen.score) (world_at score_kind (said_set_up set_up).stage number) given → BegunLeft given new 0
     → Hears (errors_of asked.errors) (heard_nothing setup) new
 hears_begun setup asked set_up new number (Err fault) said policy strict made left = absurd (omega (arith, left.1, fault_above fault))
 hears_begun setup asked set_up new number (Ok seen) said policy strict made left =
@@ -496,7 +477,7 @@ begun_hears setup asked begun begins = (hears_begun setup asked begins.set_up be
         let done : CalledBy score_session true begins.before begun 0 = subst (λ (c : CallState). CalledBy score_session (is_whole c) begins.before begun 0) call_is begins.called.told in
         let by_call = subst (λ (c : CallState). Done score_session (call_of c.head) c begins.before.stage begins.before.text begun.stage begun.text 0) call_is done in
         let by_kind = subst (λ (called : HandleCall). Done score_session called (call_begun begins.word 0) begins.before.stage begins.before.text begun.stage begun.text 0) (ap call_by begins.begin) by_call in
-        subst (λ (s : Stage SetUpState ObservationState). BeginDone score_session s begun.stage 0) begins.stage by_kind.0
+        subst (λ (s : Stage ScoreSetUp ObservationState). BeginDone score_session s begun.stage 0) begins.stage by_kind.0
 
 -- whatever calls a handle took since its set-up was begun that went well: the next answer to a beat is 0 exactly where what was observed with that beat
 -- is right

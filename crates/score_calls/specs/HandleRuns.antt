@@ -14,7 +14,7 @@ use Rattle.scoreboard.specs.Unknown.{some_begun}
 use Rattle.scoreboard.specs.declared.Errors.{Errors}
 use Rattle.scoreboard.specs.declared.ObservedBeat.{ObservedBeat}
 use Rattle.scoreboard.specs.declared.Policy.TheVariants.{AcceptanceOrder}
-use Rattle.score_script.specs.Observations.{ObservationState, SetUpState, stage_in}
+use Rattle.score_script.specs.Observations.{ObservationState}
 use Rattle.score_script.specs.Profiles.{policy_of}
 use Rattle.score_script.specs.ScoreStates.{score_of}
 use Rattle.score_script.specs.Scores.{Score}
@@ -24,7 +24,8 @@ use Rattle.score_script.specs.declared.score.Command.TheVariants as command
 use Rattle.score_setup.specs.ScoreSetups.{RangeLists}
 use Rattle.score_calls.specs.CallCommands.{command_in}
 use Rattle.score_calls.specs.CallWords.{kind_of, words_wanted}
-use Rattle.score_calls.specs.Handles.{Called, ScoreHandle, no_line}
+use Rattle.score_calls.specs.Handles.{Called, ScoreHandle, ScoreSetUp, said_set_up}
+use Rattle.call_words.specs.SetUps.{no_line}
 use Rattle.score_calls.specs.declared.words.CallKind.{CallKind}
 use Rattle.score_calls.specs.declared.words.CallKind.TheVariants as kind
 
@@ -100,7 +101,7 @@ pub record HasHeard (errors : Errors) (heard : Heard) (score : Score) : Type 0 w
   pub begins : score.begins ≡ true → heard.seen ≡ []
 
 -- a handle on which one is judged
-abbrev pub Hears : Errors → Heard → Stage SetUpState ObservationState → Type 0
+abbrev pub Hears : Errors → Heard → Stage ScoreSetUp ObservationState → Type 0
 Hears errors heard (Running seen) = HasHeard errors heard (score_of seen.score)
 Hears errors heard (SettingUp set_up) = ⊥
 Hears errors heard Closed = ⊥
@@ -112,10 +113,10 @@ IsExact heard beat answer = answer < 2 ^ 32 → (answer ≡ 0) ↔ IsRight heard
 -- a set-up was begun by a word, by profile `bridge` and without `axi strict`
 pub record Begins (setup : RangeLists) (asked : Asked) (begun : ScoreHandle) : Type 0 where
   pub before : ScoreHandle
-  pub set_up : SetUpState
+  pub set_up : ScoreSetUp
   pub word : ℕ
   pub stage : before.stage ≡ SettingUp set_up
-  pub said : stage_in set_up ≡ SaidSetUp setup asked
+  pub said : (said_set_up set_up).stage ≡ SaidSetUp setup asked
   pub policy : policy_of asked.policy ≡ AcceptanceOrder
   pub strict : asked.strict ≡ false
   pub no_pending : is_whole before.call ≡ true

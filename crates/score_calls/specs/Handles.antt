@@ -1,5 +1,5 @@
 -- What lies behind a scoreboard's handle, and what a call does there (this project's profile).
-use Rattle.std.specs.Prelude.{ℕ, ◌≡◌, ◌⊎◌, ◌/◌, List, length, Option, Some, None, Result}
+use Rattle.std.specs.Prelude.{ℕ, ◌≡◌, ◌⊎◌, ◌+◌, ◌/◌, true, List, length, Option, Some, None, Result}
 use Rattle.call_words.specs.Answers.{byte_answer}
 use Rattle.call_words.specs.CallWords.{byte_in, bytes_of, low_in}
 use Rattle.call_words.specs.Handles.{CalledOf, HandleState, Session}
@@ -8,22 +8,31 @@ use Rattle.score_calls.specs.CallCommands.{command_in}
 use Rattle.score_calls.specs.CallWords.{call_of, kind_of, words_wanted}
 use Rattle.score_calls.specs.declared.words.CallKind.{CallKind}
 use Rattle.score_calls.specs.declared.words.CallKind.TheVariants as kind
-use Rattle.score_script.specs.Observations.{CallTold, LineTold, ObservationState, Observing, SetUpState, SetUpTold, next_number, observing_of, observing_text, stage_in}
+use Rattle.call_words.specs.SetUps.{LineTaken, SetUpState, no_line, set_up_said}
+use Rattle.score_script.specs.Observations.{CallTold, LineTold, ObservationState, Observing, observing_of, observing_text}
 use Rattle.score_script.specs.Profiles.{bursts_open, replies_open}
 use Rattle.score_script.specs.Profiles.{byte_in as byte_in_memory}
 use Rattle.score_script.specs.ScoreStates.{score_of}
-use Rattle.score_script.specs.Scores.{score_kind}
+use Rattle.score_script.specs.Scores.{Score, score_kind}
+use Rattle.score_script.specs.declared.profiles.Asked.{Asked}
 use Rattle.score_script.specs.declared.score.Command.{Command}
-use Rattle.script_text.specs.Stages.{GivesWorld, Opening, world_at}
+use Rattle.score_script.specs.declared.score.Score.{Score as HeldScore}
+use Rattle.score_setup.specs.ScoreSetups.{RangeLists, ranges_of}
+use Rattle.score_setup.specs.declared.ScoreSetup.{ScoreSetup}
+use Rattle.script_text.specs.Stages.{GivesWorld, world_at}
 use Rattle.script_text.specs.declared.faults.ScriptFault.{ScriptFault}
 
--- a set-up of no line
-abbrev pub no_line : SetUpState
-no_line = record { stage = Opening; number = 0 }
+-- what a contract sees of a set-up, and as it is said
+abbrev pub ScoreSetUp : Type 0
+ScoreSetUp = SetUpState ScoreSetup Asked HeldScore
+
+abbrev pub said_set_up : ScoreSetUp → SetUpState RangeLists Asked Score
+said_set_up held = set_up_said ranges_of score_of held
 
 -- it is begun: its observation is made, or why it isn't
-abbrev pub GivesObservation : SetUpState → Result ObservationState ScriptFault → Type 0
-GivesObservation old given = GivesWorld (λ (seen : ObservationState). score_of seen.score) (world_at score_kind (stage_in old) (next_number old.number)) given
+abbrev pub GivesObservation : ScoreSetUp → Result ObservationState ScriptFault → Type 0
+GivesObservation old given =
+    GivesWorld (λ (seen : ObservationState). score_of seen.score) (world_at score_kind (said_set_up old).stage (old.number + 1)) given
 
 -- ---- calls of an observation
 
@@ -65,20 +74,20 @@ TextMade seen text answer = ((text ≡ observing_text (observing_of seen)) × (a
 
 -- ---- the handle
 
-abbrev pub score_session : Session SetUpState ObservationState
+abbrev pub score_session : Session ScoreSetUp ObservationState
 score_session =
     record {
       call_of = call_of;
       wanted = words_wanted;
       no_line = no_line;
-      line = SetUpTold;
+      line = λ old line new told. LineTaken score_kind true (said_set_up old) line (said_set_up new) told;
       begun = GivesObservation;
       own = λ head words. DoneBy (command_in head words) head words;
       text = TextMade;
     }
 
 abbrev pub ScoreHandle : Type 0
-ScoreHandle = HandleState SetUpState ObservationState
+ScoreHandle = HandleState ScoreSetUp ObservationState
 
 -- what a word does there, and answers
 abbrev pub Called : ScoreHandle → ℕ → ScoreHandle → ℕ → Type 0

@@ -3,7 +3,8 @@ ghost use Rattle.std.specs.Prelude.{◌≡◌, []};
 ghost use Rattle.call_words.specs.PendingCalls.{no_call};
 ghost use Rattle.call_words.specs.declared.handle.Stage.TheVariants.{SettingUp};
 ghost use Rattle.score_calls.specs.HandleRuns.{OnlyExact};
-ghost use Rattle.score_calls.specs.Handles.{Called, no_line};
+ghost use Rattle.call_words.specs.SetUps.{no_line};
+ghost use Rattle.score_calls.specs.Handles.{Called};
 
 use crate::session::ScoreSession;
 use std::alloc::Global;

@@ -8,9 +8,10 @@ ghost use Rattle.score_calls.specs.Handles.{asked_of};
 use crate::calls::command_in;
 use crate::words::{CallKind, kind_of};
 use call_words::{
-    HandleCall, Session, WRONG_CALL, byte_answer, byte_in, bytes_of, fault_answer, low_in, words_of,
+    HandleCall, Session, SetUp, WRONG_CALL, byte_answer, byte_in, bytes_of, fault_answer, low_in,
+    words_of,
 };
-use score_script::{Observation, SetUp};
+use score_script::{Observation, ScoreScript};
 use script_text::ScriptFault;
 use std::alloc::Global;
 
@@ -48,7 +49,7 @@ pub(crate) struct ScoreSession;
 impl Session for ScoreSession {
     ghost use Rattle.score_calls.specs.Handles.{score_session};
 
-    type SetUp = SetUp;
+    type SetUp = SetUp<ScoreScript>;
 
     type Run = Observation;
 
@@ -80,16 +81,24 @@ impl Session for ScoreSession {
         }
     }
 
-    fn no_line() -> SetUp {
-        SetUp::new()
+    fn no_line() -> SetUp<ScoreScript> {
+        SetUp::new(ScoreScript)
     }
 
-    fn line(set_up: &mut SetUp, alloc: Global, line: &[u8]) -> Result<(), ScriptFault> {
+    fn line(
+        set_up: &mut SetUp<ScoreScript>,
+        alloc: Global,
+        line: &[u8],
+    ) -> Result<(), ScriptFault> {
         set_up.line(alloc, line)
     }
 
-    fn begin(set_up: SetUp, alloc: Global) -> Result<Observation, ScriptFault> {
-        set_up.begin(alloc)
+    fn begin(set_up: SetUp<ScoreScript>, alloc: Global) -> Result<Observation, ScriptFault> {
+        let number = set_up.lines();
+        match set_up.begin(alloc) {
+            Ok(score) => Ok(Observation::new(score, number)),
+            Err(fault) => Err(fault),
+        }
     }
 
     fn call(

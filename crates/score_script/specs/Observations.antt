@@ -1,5 +1,5 @@
 -- An observation that is judged call by call (this project's profile).
-use Rattle.std.specs.Prelude.{ℕ, ◌≡◌, ◌⊎◌, ◌+◌, ◌<◌, Bool, true, false, List, [], ◌++◌, min, Option, Some, None, Result, Ok, Err, IsOk, if◌then◌else◌, nat_lt}
+use Rattle.std.specs.Prelude.{ℕ, ◌≡◌, ◌⊎◌, ◌+◌, Bool, true, false, List, min, Option, Some, None, Result, Ok, Err, IsOk, if◌then◌else◌, nat_lt}
 use Rattle.std.specs.Str.Lines.{strip_carriage_return}
 use Rattle.axi_checker.specs.Names.{rule_number}
 use Rattle.score_script.specs.Profiles.{PolicyBoard}
@@ -12,16 +12,14 @@ use Rattle.score_script.specs.declared.findings.Findings.{Findings}
 use Rattle.score_script.specs.declared.profiles.Asked.{Asked}
 use Rattle.score_script.specs.declared.score.Command.{Command}
 use Rattle.score_script.specs.declared.score.Score.{Score as HeldScore}
-use Rattle.score_setup.specs.ScoreSetups.{RangeLists, ranges_of}
-use Rattle.score_setup.specs.declared.ScoreSetup.{ScoreSetup}
+use Rattle.score_setup.specs.ScoreSetups.{RangeLists}
 use Rattle.scoreboard.specs.Names.{reply_rule_number}
 use Rattle.scoreboard.specs.declared.Wrong.{Wrong}
 use Rattle.scoreboard.specs.declared.Wrong.TheVariants.{NoClient, Request, Reply, Axi, Place, UnknownAxi, UnknownRequest}
 use Rattle.script_text.specs.Scripts.{LineStep, line_step}
-use Rattle.script_text.specs.Stages.{Running, Stage, stage_as}
-use Rattle.script_text.specs.Steps.{Speaks}
+use Rattle.script_text.specs.Stages.{Running, Stage}
 use Rattle.script_text.specs.declared.faults.ScriptFault.{ScriptFault}
-use Rattle.script_text.specs.declared.faults.ScriptFault.TheVariants.{Script, Setup, Read, Write, NoMemory}
+use Rattle.script_text.specs.declared.faults.ScriptFault.TheVariants.{NoMemory, Script}
 use Rattle.tl_checker.specs.Names.{number_of}
 
 -- ---- what was found, as a number
@@ -136,29 +134,3 @@ CallLeft None old new = (new ≡ old) ⊎ (new ≡ after_held old)
 abbrev pub CallTold : Observing → Command → Observing → Result ℕ ScriptFault → Type 0
 CallTold old said new (Ok code) = (wrong_command old.score said ≡ None) × (new ≡ after_call old said) × (code ≡ observing_code new)
 CallTold old said new (Err fault) = FailsBy (next_number old.number) (wrong_command old.score said) fault × CallLeft (wrong_command old.score said) old new
-
--- ---- a line of the set-up
-
--- what a contract sees of a set-up: how far it has come, and how many lines it has
-pub record SetUpState : Type 0 where
-  pub stage : Stage ScoreSetup Asked HeldScore
-  pub number : ℕ
-
--- how far it has come, as it is said
-abbrev pub stage_in : SetUpState → Stage RangeLists Asked Score
-stage_in held = stage_as ranges_of score_of held.stage
-
--- what a line does, as it does where a whole text is read
-abbrev pub setup_line_done : SetUpState → List ℕ → LineStep (Stage RangeLists Asked Score)
-setup_line_done held line = line_step score_reading (stage_in held) (held.number + 1) (strip_carriage_return line)
-
--- it went well and has no text, or has a fault; a line that has text is none of a set-up, and refused for its word 1, and so is one more than there may be
-abbrev pub SetUpTold : SetUpState → List ℕ → SetUpState → Result (Unit {0}) ScriptFault → Type 0
-SetUpTold old line new (Ok done) = (setup_line_done old line ≡ Ok ([], stage_in new)) × (new.number ≡ old.number + 1)
-SetUpTold old line new (Err (Script at word)) =
-    (setup_line_done old line ≡ Err (Script at word))
-    ⊎ ((Speaks score_reading (setup_line_done old line) ⊎ (4294967293 < old.number)) × (at ≡ next_number old.number) × (word ≡ 1))
-SetUpTold old line new (Err (Setup fault)) = setup_line_done old line ≡ Err (Setup fault)
-SetUpTold old line new (Err Read) = ⊥
-SetUpTold old line new (Err Write) = Speaks score_reading (setup_line_done old line)
-SetUpTold old line new (Err NoMemory) = IsOk (setup_line_done old line)

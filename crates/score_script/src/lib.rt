@@ -15,7 +15,7 @@ mod waits;
 
 pub use fills::FillBytes;
 pub use lines::{Channel, SeenBeat};
-pub use observation::{Observation, SetUp};
+pub use observation::Observation;
 pub use reasons::{FaultReason, fault_reason};
-pub use score::{Command, Counts};
-pub use script::{score_text, score_text_with};
+pub use score::{Command, Counts, Score};
+pub use script::{ScoreScript, score_text, score_text_with};

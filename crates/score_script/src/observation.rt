@@ -1,21 +1,18 @@
 //! An observation that is judged call by call: by lines, or by commands that are called, and not read.
-ghost use Rattle.std.specs.Prelude.{◌≡◌, IfOk, None, OnOk, false};
+ghost use Rattle.std.specs.Prelude.{◌≡◌, OnOk};
 ghost use Rattle.std.specs.Io.KnownBytes.{Appends};
-ghost use Rattle.script_text.specs.Stages.{GivesWorld, Opening, world_at};
-ghost use Rattle.score_script.specs.Observations.{CallTold, LineTold, SetUpTold, TakeTold, finding_code, first_code, found_left, next_number, observing_code, observing_of, observing_text, stage_in, wrong_code};
+ghost use Rattle.score_script.specs.Observations.{CallTold, LineTold, TakeTold, finding_code, first_code, found_left, next_number, observing_code, observing_of, observing_text, wrong_code};
 ghost use Rattle.score_script.specs.Profiles.{byte_in};
 ghost use Rattle.score_script.specs.ScoreStates.{score_of};
-ghost use Rattle.score_script.specs.Scores.{counts_of, finds_nothing, score_kind, told_of};
+ghost use Rattle.score_script.specs.Scores.{counts_of, finds_nothing, told_of};
 
 use crate::findings::{Finding, Findings};
 use crate::lines::command_of;
 use crate::score::{Command, Counts, Score};
-use crate::script::ScoreScript;
 use line_text::{Words, WriteFault, may_stand};
 use scoreboard::Wrong;
-use script_text::{ScriptFault, StagedScript, take_line, without_return};
-use std::alloc::Global;
-use std::io::{Write, sink};
+use script_text::{ScriptFault, without_return};
+use std::io::Write;
 use std::marker::Model;
 
 /// The most lines, and the number of the last line or call.
@@ -67,64 +64,6 @@ fn next_number(number: u32) -> u32
     MOST
 }
 
-/// The lines of a set-up, up to the first beat.
-#[derive(Drop)]
-pub struct SetUp {
-    script: StagedScript<ScoreScript>,
-    number: u32,
-}
-
-impl Model for SetUp {
-    ghost use Rattle.score_script.specs.Observations.{SetUpState};
-
-    ghost Value = { SetUpState };
-
-    ghost view = { λ s. record { stage = s.script; number = s.number } };
-}
-
-impl SetUp {
-    /// No line yet.
-    pub fn new() -> SetUp
-        ensures stage { result.stage ≡ Opening }
-        ensures number { result.number ≡ 0 }
-    {
-        SetUp {
-            script: StagedScript::new(ScoreScript),
-            number: 0,
-        }
-    }
-
-    /// Takes a line without its line feed. Behind a fault nothing is promised of it.
-    pub fn line(&mut self, alloc: Global, line: &[u8]) -> Result<(), ScriptFault>
-        ensures { SetUpTold self.old line.now self.new result }
-    {
-        let at = next_number(self.number);
-        let fault = ScriptFault::Script { line: at, word: 1 };
-        if self.number >= MOST {
-            return Err(fault);
-        }
-        if take_line(&mut self.script, alloc, at, line, &mut sink())? {
-            return Err(fault);
-        }
-        self.number = at;
-        Ok(())
-    }
-
-    /// The observation of this set-up.
-    pub fn begin(self, alloc: Global) -> Result<Observation, ScriptFault>
-        ensures score { GivesWorld (λ seen. score_of seen.score) (world_at score_kind (stage_in self) (next_number self.number)) result }
-        ensures begun { IfOk result (λ seen. (seen.number ≡ self.number) × (seen.found ≡ told_of (finds_nothing (score_of seen.score)))) }
-    {
-        let SetUp { script, number } = self;
-        let score = script.into_world(alloc, next_number(number))?;
-        Ok(Observation {
-            score,
-            number,
-            found: Findings::none(),
-        })
-    }
-}
-
 /// An observation: what was judged, the number of the last line or call that had no fault, and what that found.
 #[derive(Drop)]
 pub struct Observation {
@@ -142,6 +81,19 @@ impl Model for Observation {
 }
 
 impl Observation {
+    /// One of this score, behind so many lines of a set-up: nothing was found yet.
+    pub fn new(score: Score, number: u32) -> Observation
+        ensures score { result.score ≡ score }
+        ensures number { result.number ≡ number }
+        ensures found { result.found ≡ told_of (finds_nothing (score_of score)) }
+    {
+        Observation {
+            score,
+            number,
+            found: Findings::none(),
+        }
+    }
+
     /// Notes what a line or call of this number found.
     fn note(&mut self, number: u32, findings: Findings) -> u32
         ensures score { self.new.score ≡ self.old.score }

@@ -94,7 +94,7 @@ pub struct Counts {
 /// The board, the places of bursts where they are judged, whether nobody need know data but those of replies, whether nothing but
 /// fillings was said yet, the time of what is observed, whether the observation is over, the beat that is held, how many beats were
 /// judged, how much was found wrong, and how many bytes replies told, and were compared.
-pub(crate) struct Score {
+pub struct Score {
     board: Scoreboard,
     places: Option<AxiPlaces>,
     x_data: bool,

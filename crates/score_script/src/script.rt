@@ -18,7 +18,7 @@ use std::io::{Read, Write};
 
 /// An observation.
 #[derive(Drop)]
-pub(crate) struct ScoreScript;
+pub struct ScoreScript;
 
 impl Kind for ScoreScript {
     ghost use Rattle.std.specs.Prelude.{true};
