@@ -13,7 +13,7 @@ use Rattle.world.specs.Laws.{AreSoundAlong, IsSoundWorld}
 use Rattle.world.specs.World.{WorldState, after, byte_of, drained, enabled, in_flight, is_reply, leaves_all, next, opening_world}
 use Rattle.world.specs.declared.Answer.{Answer}
 use Rattle.world.specs.declared.Step.{Step}
-use Rattle.world.specs.declared.Step.TheVariants.{AnswerB, AnswerR, Offer, Perform, Pump, Take}
+use Rattle.world.specs.declared.Step.TheVariants.{Offer, Take}
 use Rattle.world.proofs.Events.{each_way}
 use Rattle.world_run.specs.Headline.{IsOneAtATime}
 use Rattle.world_run.specs.Runs.{HandedReply, answers_of, handed_at, handed_in, sent_in}

@@ -9,7 +9,7 @@ use Rattle.world.specs.Choices.{LeadsTo}
 use Rattle.world.specs.Laws.{IsSoundWorld}
 use Rattle.world.specs.World.{WorldState, enabled, next, perform_at, pumps_enabled}
 use Rattle.world.specs.declared.Step.{Step}
-use Rattle.world.specs.declared.Step.TheVariants.{AnswerB, AnswerR, Offer, Perform, Pump, Take}
+use Rattle.world.specs.declared.Step.TheVariants.{AnswerB, AnswerR, Offer, Pump, Take}
 use Rattle.world_run.proofs.OrderSteps.{keeps_next}
 use Rattle.world_run.specs.InOrder.{IsForeseen, KeepsOrder}
 use Rattle.world_run.specs.Serial.{Order}

@@ -1,5 +1,5 @@
 -- What a line of a set-up does: none writes text, and none asks for memory.
-use Rattle.std.proofs.Common.{◌≡◌, ◌+◌, ◌++◌, inl, inr, ℕ, List, [], Bool, true, false, Option, None, Some, Result, Ok, Err, refl, sym, subst, ap, ap₂, ◌∙◌, nat_lt}
+use Rattle.std.proofs.Common.{◌≡◌, ◌+◌, ◌++◌, inl, inr, ℕ, List, [], Bool, true, false, Option, None, Some, Result, Ok, Err, refl, subst, ap, ap₂, nat_lt}
 use Rattle.std.specs.Prelude.{IfOk, not, ◌||◌, if◌then◌else◌, ⊤}
 use Rattle.std.specs.Str.Lines.{strip_carriage_return}
 use Rattle.line_text.specs.Words.{is_plain_line, is_skipped, word_at, words_of}
@@ -124,12 +124,12 @@ ending_none stage number = ended_none (world_at set_up_kind stage number)
 pub told_exactly : (old new : BridgeSetUp) (line : List ℕ) (told : Result (Unit {0}) ScriptFault) → LineTaken set_up_kind false (said_set_up old) line (said_set_up new) told → SetUpTold old line new told
 told_exactly old new line (Ok done) took = took
 told_exactly old new line (Err (Script at word)) (inl is) = is
-told_exactly old new line (Err (Script at word)) (inr ((stands, some), told)) = absurd (some (text_none (stage_in old) stands.next _ _ stands.text stands.step_is))
+told_exactly old new line (Err (Script at word)) (inr ((stands, some), at_is, word_is)) = absurd (some (text_none (stage_in old) stands.next (old.number + 1) (strip_carriage_return line) stands.text stands.step_is))
 told_exactly old new line (Err (Setup fault)) is = is
 told_exactly old new line (Err Read) never = absurd never
-told_exactly old new line (Err Write) (stands, some) = absurd (some (text_none (stage_in old) stands.next _ _ stands.text stands.step_is))
+told_exactly old new line (Err Write) (stands, some) = absurd (some (text_none (stage_in old) stands.next (old.number + 1) (strip_carriage_return line) stands.text stands.step_is))
 told_exactly old new line (Err NoMemory) (inl (stands, some)) =
-    absurd (some 0 (ap₂ (λ (text ending : List ℕ). text ++ ending) (text_none (stage_in old) stands.next _ _ stands.text stands.step_is) (ending_none stands.next 0)))
+    absurd (some 0 (ap₂ (λ (text ending : List ℕ). text ++ ending) (text_none (stage_in old) stands.next (old.number + 1) (strip_carriage_return line) stands.text stands.step_is) (ending_none stands.next 0)))
 told_exactly old new line (Err NoMemory) (inr (grows, stands)) = absurd (cc (grows))
 
 -- ---- the world of the set-up

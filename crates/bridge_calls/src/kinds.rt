@@ -1,6 +1,7 @@
 //! What the words of a call say: which call it is, how many words it wants, and the step that it makes.
 ghost use Rattle.std.specs.Prelude.{◌≡◌, ◌%◌, get_or};
 ghost use Rattle.bridge_calls.specs.CallKinds.{kind_of, kinds, offer_beat, short_in, step_in};
+ghost use Rattle.bridge_calls.specs.declared.kinds.CallKind.TheVariants as kind;
 
 use call_words::{byte_in, flag_in, low_in, word_at};
 use tl_messages::ABeat;
@@ -102,14 +103,22 @@ fn kinds() -> &'static [CallKind]
     ]
 }
 
+/// The kind at a place of a table; none behind its end.
+fn kind_at(table: &[CallKind], place: usize) -> CallKind
+    ensures { result ≡ get_or table.now place kind.None }
+{
+    match table.get(place) {
+        Some(kind) => *kind,
+        None => CallKind::None,
+    }
+}
+
 /// What a head says is called: by its lowest byte.
 pub(crate) fn kind_of(head: u64) -> CallKind
     ensures { result ≡ kind_of head }
 {
-    match kinds().get((head % 256) as usize) {
-        Some(kind) => *kind,
-        None => CallKind::None,
-    }
+    let table = kinds();
+    kind_at(table, (head % 256) as usize)
 }
 
 /// The two lowest bytes of a word.

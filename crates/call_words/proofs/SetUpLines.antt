@@ -1,5 +1,5 @@
 -- What a line of a set-up does, by what its script does.
-use Rattle.std.proofs.Common.{◌≡◌, ◌<◌, inl, inr, ℕ, List, [], Bool, true, false, ◌&&◌, ◌||◌, Option, Result, Ok, Err, ap, ◌∙◌, arith, nat_lt, refl}
+use Rattle.std.proofs.Common.{◌≡◌, ◌<◌, inl, inr, ℕ, List, [], Bool, true, false, ◌&&◌, ◌||◌, Option, Result, Ok, Err, ap, ◌∙◌, arith, nat_lt, refl, subst}
 use Rattle.std.proofs.lemmas.Bool.Decides.{nat_tests}
 use Rattle.line_text.specs.Words.{is_plain_line, is_skipped, words_of}
 use Rattle.std.proofs.lemmas.Bool.{and_parts}
@@ -33,10 +33,14 @@ module _ {S A : Type 0} (reading : Reading S A) (grows : Bool) (step : LineStep 
       inr ((record { text = goes.text; next = after; step_is = goes.step_is; may_end = speaks.1 }, speaks.0), refl, refl)
 
   -- one that has a fault
-  pub fault_taken : (wants : Bool) (fault : ScriptFault) → TakesStep reading (grows && wants) step is_silent old after before written (Err fault) → TakenBy reading grows step number new behind (Err fault)
+  fault_taken : (wants : Bool) (fault : ScriptFault) → TakesStep reading (grows && wants) step is_silent old after before written (Err fault) → TakenBy reading grows step number new behind (Err fault)
   fault_taken wants (Script at word) took = inl took.0
   fault_taken wants (Setup fault) took = took.0
   fault_taken wants Read took = took
   fault_taken wants Write took = took
   fault_taken wants NoMemory (inl quiet, kept) = inl quiet.1
   fault_taken wants NoMemory (inr may, kept) = inr ((and_parts grows wants may.0).0, may.1)
+
+  -- where its step ended so
+  pub fault_ended : (wants : Bool) (told : Result Bool ScriptFault) (fault : ScriptFault) → told ≡ Err fault → TakesStep reading (grows && wants) step is_silent old after before written told → TakenBy reading grows step number new behind (Err fault)
+  fault_ended wants told fault ended took = fault_taken wants fault (subst (λ (t : Result Bool ScriptFault). TakesStep reading (grows && wants) step is_silent old after before written t) ended took)
