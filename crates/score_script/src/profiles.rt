@@ -9,7 +9,7 @@ use scoreboard::{Errors, Policy};
 
 /// What the lines of a set-up ask for beside the set-up itself.
 #[derive(Clone, Copy)]
-pub(crate) struct Asked {
+pub struct Asked {
     /// The policy of the profile that is named, if one is.
     pub(crate) policy: Option<Policy>,
     /// Whether bursts have to go to the pages of regions.
