@@ -34,3 +34,4 @@ pub mod RunsRightSteps
 pub mod RunsRightSeen
 pub mod RunsRightBoards
 pub mod RunsRightTold
+pub mod RunsRightEntries
