@@ -35,3 +35,4 @@ pub mod RunsRightSeen
 pub mod RunsRightBoards
 pub mod RunsRightTold
 pub mod RunsRightEntries
+pub mod RunsRightRequests

@@ -69,7 +69,7 @@ any_alone : (source : ℕ) (flights : List InFlight) → list_any (is_of_source 
 any_alone source [] = refl
 any_alone source (flight ∷ flights) = ap (λ (b : Bool). is_of_source source flight || b) (any_alone source flights)
 
-busy_alone : (flights : Flights) (source : ℕ) → is_busy AcceptanceOrder (each_flight flight_alone flights) source ≡ is_busy AcceptanceOrder flights source
+pub busy_alone : (flights : Flights) (source : ℕ) → is_busy AcceptanceOrder (each_flight flight_alone flights) source ≡ is_busy AcceptanceOrder flights source
 busy_alone flights source = ap (λ (b : Bool). b || begun_is_of source (option_map flight_alone flights.begun)) (any_alone source flights.due) ∙ by_begun flights.begun
   where
     by_begun : (begun : Option InFlight) → (list_any (is_of_source source) flights.due || begun_is_of source (option_map flight_alone begun))

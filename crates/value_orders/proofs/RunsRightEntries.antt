@@ -48,24 +48,24 @@ use Rattle.value_orders.proofs.RunsRightSeen.{EntryGoes}
 
 -- ---- one entry
 
-goes_same : (entry : Entry) → EntryGoes entry entry
+pub goes_same : (entry : Entry) → EntryGoes entry entry
 goes_same entry = record { whole = λ is. (is, refl); client = refl }
 
-goes_trans : (one two three : Entry) → EntryGoes one two → EntryGoes two three → EntryGoes one three
+pub goes_trans : (one two three : Entry) → EntryGoes one two → EntryGoes two three → EntryGoes one three
 goes_trans one two three first second =
     record {
       whole = λ is. let now = first.whole is in let later = second.whole now.0 in (later.0, later.1 ∙ now.1);
       client = second.client ∙ first.client;
     }
 
-goes_heard : (errors : Errors) (client : ℕ) (q : WholeRequest) (entry : Entry) → EntryGoes entry (heard errors client q entry)
+pub goes_heard : (errors : Errors) (client : ℕ) (q : WholeRequest) (entry : Entry) → EntryGoes entry (heard errors client q entry)
 goes_heard errors client q entry = by_test (is_open client entry)
   where
     by_test : (b : Bool) → EntryGoes entry (if b then record entry { spoiled = entry.spoiled || is_spoiled errors q } else entry)
     by_test true = record { whole = λ is. (is, refl); client = refl }
     by_test false = goes_same entry
 
-goes_completed : (errors : Errors) (client : ℕ) (q : WholeRequest) (entry : Entry) → EntryGoes entry (completed errors client q entry)
+pub goes_completed : (errors : Errors) (client : ℕ) (q : WholeRequest) (entry : Entry) → EntryGoes entry (completed errors client q entry)
 goes_completed errors client q entry = by_test (is_open client entry) refl
   where
     by_test : (b : Bool) → is_open client entry ≡ b → EntryGoes entry (completed errors client q entry)
@@ -74,21 +74,21 @@ goes_completed errors client q entry = by_test (is_open client entry) refl
         (record { whole = λ is. absurd (both_ways entry.whole (not-true entry.whole (and_parts (entry.client == client) (not entry.whole) open_one).1) is); client = refl })
     by_test false other = rw other (goes_same entry)
 
-goes_struck : (memory : Memory) (span : Span) (entry : Entry) → EntryGoes entry (struck memory span entry)
+pub goes_struck : (memory : Memory) (span : Span) (entry : Entry) → EntryGoes entry (struck memory span entry)
 goes_struck memory span entry = by_test (not (has_ended entry) && shares span (acting_footprint memory entry.request))
   where
     by_test : (b : Bool) → EntryGoes entry (if b then record entry { spoiled = true } else entry)
     by_test true = record { whole = λ is. (is, refl); client = refl }
     by_test false = goes_same entry
 
-goes_early : (over : Bool) (client : ℕ) (entry : Entry) → EntryGoes entry (ended_early over client entry)
+pub goes_early : (over : Bool) (client : ℕ) (entry : Entry) → EntryGoes entry (ended_early over client entry)
 goes_early over client entry = by_test (over && begun_to client entry)
   where
     by_test : (b : Bool) → EntryGoes entry (if b then record entry { came = reply_beats entry.request } else entry)
     by_test true = record { whole = λ is. (is, refl); client = refl }
     by_test false = goes_same entry
 
-goes_beat : (begun : Bool) (client source : ℕ) (entry : Entry) → EntryGoes entry (with_beat begun client source entry)
+pub goes_beat : (begun : Bool) (client source : ℕ) (entry : Entry) → EntryGoes entry (with_beat begun client source entry)
 goes_beat begun client source entry = by_test (is_due begun client source entry && entry.request.source == source)
   where
     by_whole : (whole : Bool) → EntryGoes entry (counted whole entry)
@@ -131,21 +131,21 @@ pub data Accepts (now next : Order) (old new : Observed) : Type 0 where
   NoMore : NoneWhole now next → requests_in new ≡ requests_in old → Accepts now next old new
   OneMore : OneWhole now next old new → Accepts now next old new
 
-order_map : (change : Entry → Entry) (now : Order) → ((entry : Entry) → EntryGoes entry (change entry)) → OrderGoes now (map change now)
+pub order_map : (change : Entry → Entry) (now : Order) → ((entry : Entry) → EntryGoes entry (change entry)) → OrderGoes now (map change now)
 order_map change now goes =
     record {
       longer = omega (arith, length-map now change);
       each = λ k small. subst (EntryGoes (numbered now k)) (sym (numbered_map change now k small)) (goes (numbered now k));
     }
 
-order_last : (now : Order) (entry : Entry) → OrderGoes now (now ++ entry ∷ [])
+pub order_last : (now : Order) (entry : Entry) → OrderGoes now (now ++ entry ∷ [])
 order_last now entry =
     record {
       longer = omega (arith, length-append now (entry ∷ []));
       each = λ k small. subst (EntryGoes (numbered now k)) (sym (numbered_first now entry k small)) (goes_same (numbered now k));
     }
 
-none_map : (change : Entry → Entry) (now : Order) → ((entry : Entry) → (change entry).whole ≡ entry.whole) → NoneWhole now (map change now)
+pub none_map : (change : Entry → Entry) (now : Order) → ((entry : Entry) → (change entry).whole ≡ entry.whole) → NoneWhole now (map change now)
 none_map change now same k small whole =
     let within : k < length now = omega (arith, small, length-map now change) in
     (within, sym (same (numbered now k)) ∙ ap (λ (e : Entry). e.whole) (sym (numbered_map change now k within)) ∙ whole)
