@@ -36,3 +36,16 @@ pub mod RunsRightBoards
 pub mod RunsRightTold
 pub mod RunsRightEntries
 pub mod RunsRightRequests
+pub mod EventSteps
+pub mod EventLists
+pub mod EventEnds
+pub mod EventParts
+pub mod EventReplies
+pub mod EventFailures
+pub mod EventRequests
+pub mod EventShapes
+pub mod EventMoves
+pub mod EventReplyMoves
+pub mod EventRuns
+pub mod EventHistories
+pub mod EventOnes

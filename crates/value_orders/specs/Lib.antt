@@ -3,3 +3,4 @@ pub mod Histories
 pub mod Places
 pub mod RunOrders
 pub mod Blames
+pub mod Events
