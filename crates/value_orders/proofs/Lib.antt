@@ -36,3 +36,4 @@ pub mod RunsRightBoards
 pub mod RunsRightTold
 pub mod RunsRightEntries
 pub mod RunsRightRequests
+pub mod RunsRightReplied
