@@ -37,3 +37,4 @@ pub mod RunsRightTold
 pub mod RunsRightEntries
 pub mod RunsRightRequests
 pub mod RunsRightReplied
+pub mod RunsRightAlong

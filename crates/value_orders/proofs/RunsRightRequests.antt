@@ -45,7 +45,7 @@ use Rattle.value_orders.proofs.RunsRightBoards.{IsPair, busy_alone, busy_flying,
 use Rattle.value_orders.proofs.RunsRightEntries.{Accepts, NoMore, OneMore, NoneWhole, OneWhole, OrderGoes, goes_completed, goes_heard, none_map, order_last, order_map}
 
 -- one that isn't whole hasn't ended
-open_live : (entry : Entry) → entry.came ≡ 0 → has_ended entry ≡ false
+pub open_live : (entry : Entry) → entry.came ≡ 0 → has_ended entry ≡ false
 open_live entry none = grind (arith, nat_tests, none, some_beats entry.request)
 
 module _ (setup : SetupLists) (errors : Errors) (board compared : Board) (observed : Observed) (now : Order) (on : IsOn compared board)
