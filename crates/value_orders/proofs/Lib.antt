@@ -38,3 +38,4 @@ pub mod RunsRightEntries
 pub mod RunsRightRequests
 pub mod RunsRightReplied
 pub mod RunsRightAlong
+pub mod RunsRight
