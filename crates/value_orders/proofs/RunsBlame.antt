@@ -1,17 +1,14 @@
 -- A beat that tells a byte that is blamed is wrong in every order of the requests of a run, in which each atomic finds what it was told.
-use Rattle.std.proofs.Common.{◌≡◌, ℕ, ◌<◌, ◌≤◌, ◌+◌, ◌-◌, ◌%◌, ◌==◌, Bool, true, false, ◌&&◌, ◌||◌, not, List, [], ◌∷◌, map, drop, length, Option, Some, None, if◌then◌else◌, inl, inr, ⊎_elim, refl, sym, ◌∙◌, ap, subst, arith}
+use Rattle.std.proofs.Common.{◌≡◌, ℕ, ◌<◌, ◌≤◌, ◌%◌, ◌==◌, Bool, true, false, ◌&&◌, ◌||◌, not, List, map, drop, Option, Some, None, if◌then◌else◌, refl, sym, ◌∙◌, ap, subst, arith}
 use Rattle.std.specs.Prelude.{is_none}
-use Rattle.std.specs.Bool.{beq}
-use Rattle.std.proofs.lemmas.Bool.{both_ways, eq-eqb, not-true}
+use Rattle.std.proofs.lemmas.Bool.{both_ways}
 use Rattle.std.proofs.lemmas.Bool.Decides.{nat_tests}
 use Rattle.bus_words.specs.Lanes.{has_lane, lane_byte}
-use Rattle.bus_words.specs.Tables.{first_broken}
 use Rattle.burst_plan.specs.PageMap.{address_of, translated_address}
 use Rattle.burst_plan.specs.declared.Region.{Region}
-use Rattle.byte_orders.specs.Accesses.{IsOneOf}
 use Rattle.byte_orders.specs.Holdings.{NoOrderExplains}
 use Rattle.byte_orders.specs.Runs.{IsInFlight}
-use Rattle.meaning.specs.Meaning.{Bytes, Effect, denied, effect, effect_at, meaning, zeros}
+use Rattle.meaning.specs.Meaning.{Bytes, denied, effect, effect_at, meaning, zeros}
 use Rattle.responses.specs.Shown.{Reply, shown}
 use Rattle.serial_memory.specs.SerialMemory.{on_good_page}
 use Rattle.setups.specs.Setups.{SetupLists, faults_of}
@@ -20,13 +17,11 @@ use Rattle.tl_messages.specs.Requests.{WholeRequest}
 use Rattle.tl_messages.specs.declared.DBeat.{DBeat}
 use Rattle.tl_messages.specs.declared.Operation.{Operation}
 use Rattle.tl_messages.specs.declared.Operation.TheVariants.{Atomic, Get, Intent, PutFull, PutPartial}
-use Rattle.scoreboard.specs.Boards.{Beginning, MayBegin, due_beat, reply_rules, tells_error, wrong_beat, wrong_by}
+use Rattle.scoreboard.specs.Boards.{Beginning, tells_error, wrong_beat}
 use Rattle.scoreboard.specs.Orders.{Asked, Entry, IsWrongIn, access_fails, has_ended, has_failed, known_request, meaning_on, shown_to}
 use Rattle.scoreboard.specs.RealTime.{asked_on}
 use Rattle.scoreboard.specs.declared.Errors.{Errors}
 use Rattle.scoreboard.specs.declared.Errors.TheVariants.{Any, Strict}
-use Rattle.scoreboard.specs.declared.ReplyRule.{ReplyRule}
-use Rattle.scoreboard.specs.declared.Wrong.{Wrong}
 use Rattle.scoreboard.proofs.acceptance_order.Owed.{right_next}
 use Rattle.scoreboard.proofs.real_time.RequestActs.{AreBytes}
 use Rattle.scoreboard.proofs.real_time.Verdicts.{sure_shown}
@@ -38,7 +33,7 @@ use Rattle.value_orders.specs.RunOrders.{MayBe, bytes_before, past_of}
 use Rattle.value_orders.proofs.AccessOrders.{is_there}
 use Rattle.value_orders.proofs.Effects.{IsWellPast, never_spoiled, q_fields, same_size}
 use Rattle.value_orders.proofs.MatchesHistories.{matches_in}
-use Rattle.value_orders.proofs.RunsBlameLive.{AreLive, IsLive, live_in}
+use Rattle.value_orders.proofs.RunsBlameLive.{AreLive, live_in}
 use Rattle.value_orders.proofs.RunsBlameOrders.{due_found, in_order, live_number, small_before, stands_since}
 use Rattle.value_orders.proofs.RunsBlameShown.{left_tells}
 use Rattle.value_orders.proofs.RunsBlameUntold.{blames_untold}

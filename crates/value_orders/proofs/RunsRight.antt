@@ -1,6 +1,5 @@
 -- Of beats that are right in order of acceptance no byte is blamed that the next right one tells: in that order its request finds it.
-use Rattle.std.proofs.Common.{◌≡◌, ℕ, ◌<◌, ◌≤◌, ◌+◌, ◌-◌, ◌%◌, Bool, true, false, List, [], ◌∷◌, ◌++◌, map, length, Option, Some, None, inl, inr, ⊎_elim, refl, sym, ◌∙◌, ap, subst, arith}
-use Rattle.std.specs.Prelude.{slice_get}
+use Rattle.std.proofs.Common.{◌≡◌, ℕ, ◌<◌, ◌≤◌, ◌+◌, ◌-◌, ◌%◌, true, false, List, [], ◌∷◌, ◌++◌, Option, Some, None, ⊎_elim, refl, sym, ◌∙◌, ap, subst, arith}
 use Rattle.std.proofs.lemmas.Bool.{both_ways}
 use Rattle.std.proofs.lemmas.Bool.Decides.{nat_tests}
 use Rattle.std.proofs.lemmas.List.{append-nil, append_assoc}
@@ -11,34 +10,31 @@ use Rattle.meaning.specs.Meaning.{Bytes, acknowledged, zeros}
 use Rattle.responses.specs.Shown.{beat_without_data}
 use Rattle.setups.specs.Setups.{SetupLists}
 use Rattle.tl_messages.specs.Operations.{reply_has_data}
-use Rattle.tl_messages.specs.Requests.{HeldMessage, WholeRequest}
+use Rattle.tl_messages.specs.Requests.{WholeRequest}
 use Rattle.tl_messages.specs.declared.DBeat.{DBeat}
-use Rattle.scoreboard.specs.Boards.{Board, ClientBoard, from_zeros, opening_board, wrong_at}
+use Rattle.scoreboard.specs.Boards.{Board, from_zeros, opening_board}
 use Rattle.scoreboard.specs.Observed.{observed_in}
-use Rattle.scoreboard.specs.Orders.{Entry, has_ended, is_due_in}
-use Rattle.scoreboard.specs.RealTime.{numbered}
+use Rattle.scoreboard.specs.Orders.{Entry, has_ended}
 use Rattle.scoreboard.specs.Right.{IsRight}
 use Rattle.scoreboard.specs.Unknown.{UnknownBoard}
-use Rattle.scoreboard.specs.Wider.{board_alone}
 use Rattle.scoreboard.specs.declared.Errors.{Errors}
 use Rattle.scoreboard.specs.declared.Errors.TheVariants.{Strict}
 use Rattle.scoreboard.specs.declared.ObservedBeat.{ObservedBeat}
 use Rattle.scoreboard.specs.declared.ObservedBeat.TheVariants.{D}
-use Rattle.scoreboard.specs.declared.Policy.TheVariants.{AcceptanceOrder}
 use Rattle.scoreboard.proofs.acceptance_order.BoardOf.{IsBoardOf}
 use Rattle.scoreboard.proofs.acceptance_order.Reached.{held_when_reached, right_exactly, right_front, right_reached}
 use Rattle.scoreboard.proofs.real_time.Fronts.{front_at, front_of}
 use Rattle.scoreboard.proofs.real_time.InTurnAlone.{quiet_all, quiet_opens}
 use Rattle.scoreboard.proofs.real_time.RequestActs.{IsWell}
 use Rattle.scoreboard.proofs.real_time.WiderRuns.{said_alone}
-use Rattle.value_orders.specs.Blames.{IsDueTo, LetsTell, all_seen}
+use Rattle.value_orders.specs.Blames.{IsDueTo, LetsTell, NeverBlames, all_seen}
 use Rattle.value_orders.specs.Bytes.{NoneTells}
-use Rattle.value_orders.specs.Histories.{Happening, Seen, History, Past, begun_by, board_from, board_in, board_next, entries_of, history_from, history_in, opening, since_next, tells}
+use Rattle.value_orders.specs.Histories.{Seen, History, Past, begun_by, board_from, board_in, board_next, history_from, history_in, opening, since_next, tells}
 use Rattle.value_orders.specs.RunOrders.{AtomicsFind, IsRunOrder, MayBeAll, bytes_before, past_of}
 use Rattle.value_orders.proofs.Effects.{IsWellPast}
 use Rattle.value_orders.proofs.Matches.{IsBegun, IsFlying, matches_opening}
 use Rattle.value_orders.proofs.MatchesDue.{HasBegunThere, InFlightAt, IsHad}
-use Rattle.value_orders.proofs.RunsBlame.{is_telling}
+use Rattle.value_orders.proofs.RunsBlame.{is_telling, none_tells}
 use Rattle.value_orders.proofs.RunsBlameLive.{length_entries}
 use Rattle.value_orders.proofs.RunsBlameOrders.{entry_at, live_number}
 use Rattle.value_orders.proofs.RunsBlamePayload.{no_data}
@@ -232,3 +228,8 @@ lets_tell errors setup before client beat number x right is tells_it none =
 
     same : history_in errors (from_zeros setup) (all_seen before) ≡ from_start pasts
     same = history_is setup (opening errors (from_zeros setup)) [] before
+
+pub never_blames : (errors : Errors) (setup : SetupLists) (before : List ObservedBeat) (client : ℕ) (beat : DBeat) → NeverBlames errors setup before client beat
+never_blames errors setup before client beat right blamed =
+    lets_tell errors setup before client beat blamed.number blamed.x right blamed.is_due blamed.tells_it
+    (none_tells errors (from_zeros setup) (all_seen before) client beat blamed.x blamed.number (lane_byte beat.payload (blamed.x % 8)) blamed.is_due blamed.blames_it)

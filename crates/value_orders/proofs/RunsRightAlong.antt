@@ -1,22 +1,16 @@
 -- Along beats that are right in order of acceptance, the requests took effect in the order in which they came whole.
-use Rattle.std.proofs.Common.{◌≡◌, ℕ, zero, suc, ◌<◌, ◌≤◌, ◌+◌, ◌-◌, ◌%◌, Bool, true, false, List, [], ◌∷◌, ◌++◌, map, length, Option, Some, None, ◌⊎◌, inl, inr, ⊎_elim, refl, sym, ◌∙◌, ap, subst, arith}
-use Rattle.std.specs.Prelude.{is_some, slice_get, slice_index_or}
-use Rattle.std.specs.List.{AllByRecursion}
-use Rattle.std.proofs.lemmas.Bool.{both_ways, cases_lt, false_from_ne_true}
-use Rattle.std.proofs.lemmas.Bool.Decides.{nat_tests}
-use Rattle.std.proofs.lemmas.List.{append-nil, append_assoc}
-use Rattle.bus_words.specs.Lanes.{lane_byte}
+use Rattle.std.proofs.Common.{◌≡◌, ℕ, suc, ◌<◌, ◌≤◌, ◌+◌, ◌-◌, true, false, List, [], ◌∷◌, ◌++◌, map, length, Option, Some, None, ◌⊎◌, inl, inr, ⊎_elim, refl, sym, ◌∙◌, ap, subst, arith}
+use Rattle.std.specs.Prelude.{is_some, slice_get}
+use Rattle.std.proofs.lemmas.Bool.{both_ways, cases_lt}
 use Rattle.byte_orders.specs.Accesses.{IsOneOf}
 use Rattle.byte_orders.proofs.Members.{all_of, from_append, in_append_right}
 use Rattle.meaning.specs.Meaning.{Bytes, zeros}
 use Rattle.setups.specs.Setups.{SetupLists}
 use Rattle.tl_messages.specs.Requests.{HeldMessage, WholeRequest}
-use Rattle.tl_messages.specs.declared.AtomicOp.{AtomicOp}
 use Rattle.tl_messages.specs.declared.DBeat.{DBeat}
-use Rattle.tl_messages.specs.declared.Operation.TheVariants.{Atomic}
-use Rattle.scoreboard.specs.Boards.{Board, ClientBoard, after_all, after_d, after_seen, from_zeros, has_replied, opening_board, opening_from, wrong_at}
-use Rattle.scoreboard.specs.Observed.{Observed, nothing_observed, observed_in, requests_in, with_seen}
-use Rattle.scoreboard.specs.Orders.{Entry, Order, has_ended, is_due_in}
+use Rattle.scoreboard.specs.Boards.{Board, ClientBoard, after_all, after_d, after_seen, from_zeros, has_replied, opening_board, wrong_at}
+use Rattle.scoreboard.specs.Observed.{nothing_observed, observed_in, requests_in, with_seen}
+use Rattle.scoreboard.specs.Orders.{Entry, Order, has_ended}
 use Rattle.scoreboard.specs.RealTime.{begun_next, numbered}
 use Rattle.scoreboard.specs.Right.{IsRight}
 use Rattle.scoreboard.specs.Unknown.{UnknownBoard, after_seen_unknown, as_far_as_known, known_of}
@@ -32,17 +26,17 @@ use Rattle.scoreboard.proofs.acceptance_order.SeenLists.{observed-append}
 use Rattle.scoreboard.proofs.real_time.Becoming.{EachIn}
 use Rattle.scoreboard.proofs.real_time.Comings.{early_at, early_in}
 use Rattle.scoreboard.proofs.real_time.Fates.{GrowsTo, IsCounted, goes_next}
-use Rattle.scoreboard.proofs.real_time.Fronts.{front_at, front_of}
-use Rattle.scoreboard.proofs.real_time.InTurnAlone.{IsQuietBoard, quiet_all, quiet_opens}
+use Rattle.scoreboard.proofs.real_time.Fronts.{front_of}
+use Rattle.scoreboard.proofs.real_time.InTurnAlone.{quiet_all, quiet_opens}
 use Rattle.scoreboard.proofs.real_time.RequestActs.{IsWell}
 use Rattle.scoreboard.proofs.real_time.WiderRuns.{IsOn, IsWaiting, next_on, said_alone}
-use Rattle.value_orders.specs.Histories.{Happening, Seen, History, Past, begun_by, board_next, entries_of, first_seen, hidden_in, since_next, tells, with_looked}
-use Rattle.value_orders.specs.RunOrders.{FindsAsTold, bytes_along, no_past, past_of}
+use Rattle.value_orders.specs.Histories.{Seen, History, Past, begun_by, board_next, entries_of, first_seen, hidden_in, since_next, tells, with_looked}
+use Rattle.value_orders.specs.RunOrders.{FindsAsTold, bytes_along, past_of}
 use Rattle.value_orders.proofs.Effects.{IsWellPast}
-use Rattle.value_orders.proofs.Matches.{Fits, IsBegun, Matches, has_come}
+use Rattle.value_orders.proofs.Matches.{Fits, Matches, has_come}
 use Rattle.value_orders.proofs.MatchesDue.{HasBegunThere, InFlightAt, IsHad}
 use Rattle.value_orders.proofs.MatchesHistories.{matches_next}
-use Rattle.value_orders.proofs.RunsBlameLive.{AreLive, IsLive, length_entries, live_next, looked_entries}
+use Rattle.value_orders.proofs.RunsBlameLive.{AreLive, length_entries, live_next, looked_entries}
 use Rattle.value_orders.proofs.RunsBlameOrders.{live_number}
 use Rattle.value_orders.proofs.RunsRightBoards.{IsRightNext, right_is_next}
 use Rattle.value_orders.proofs.RunsRightEntries.{Accepts, NoMore, OneMore, NoneWhole, OneWhole}
@@ -50,7 +44,7 @@ use Rattle.value_orders.proofs.RunsRightOrder.{IsInTurn, as_came}
 use Rattle.value_orders.proofs.RunsRightReplied.{AllGoes, IsUnreplied, any_goes}
 use Rattle.value_orders.proofs.RunsRightRequests.{open_live}
 use Rattle.value_orders.proofs.RunsRightSeen.{EntryGoes, ToldNow, entries_are as later_entries, entry_next, entry_now, from_start, goes_next as past_goes, later_long, longer, new_past, told_next}
-use Rattle.value_orders.proofs.RunsRightSteps.{AreAtOne, AreLast, GoesOn, one_last, one_more, still_came, still_in_turn, still_last, whole_still}
+use Rattle.value_orders.proofs.RunsRightSteps.{AreAtOne, AreLast, GoesOn, one_last, one_more, still_came, still_in_turn, still_last}
 use Rattle.value_orders.proofs.RunsRightTold.{had, tells_found}
 use Rattle.value_orders.proofs.WellHistories.{IsBeside, IsKept, all_well, beside_seen, kept_next}
 

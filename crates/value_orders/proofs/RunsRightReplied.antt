@@ -1,5 +1,5 @@
 -- Any beat that is right in order of acceptance: how the requests that have begun go on; and no reply comes before its request is whole.
-use Rattle.std.proofs.Common.{◌≡◌, ℕ, ◌<◌, ◌≤◌, ◌==◌, ◌&&◌, ◌||◌, not, Bool, true, false, List, [], ◌∷◌, ◌++◌, map, length, Option, Some, None, Result, Ok, Err, if◌then◌else◌, refl, sym, ◌∙◌, ap, subst, arith}
+use Rattle.std.proofs.Common.{◌≡◌, ℕ, ◌==◌, ◌&&◌, ◌||◌, not, Bool, true, false, ◌∷◌, ◌++◌, map, length, Option, Some, None, Result, Ok, Err, if◌then◌else◌, refl, sym, ◌∙◌, ap, subst, arith}
 use Rattle.std.specs.Prelude.{is_some, slice_get}
 use Rattle.std.specs.List.{find, list_any}
 use Rattle.std.specs.Option.{option_map, option_or, option_to_list}
@@ -20,14 +20,13 @@ use Rattle.scoreboard.specs.Flights.{InFlight, begun_is_of, due_to, is_busy, is_
 use Rattle.scoreboard.specs.Observed.{Observed, requests_in, with_seen}
 use Rattle.scoreboard.specs.Orders.{Entry, Order, begun_to, counted, cut_short, ended_early, has_ended, is_due, is_over, reply_beats, with_beat}
 use Rattle.scoreboard.specs.RealTime.{acting_footprint, begun_next, completed, entry_of, heard, is_open, numbered, struck, with_answered, with_failed, with_progress, with_request}
-use Rattle.scoreboard.specs.Wider.{board_alone, client_alone, flight_alone}
+use Rattle.scoreboard.specs.Wider.{board_alone, flight_alone}
 use Rattle.scoreboard.specs.declared.Errors.{Errors}
 use Rattle.scoreboard.specs.declared.ObservedBeat.{ObservedBeat}
 use Rattle.scoreboard.specs.declared.ObservedBeat.TheVariants.{A, D, Axi as OnAxi, Drained}
 use Rattle.scoreboard.specs.declared.Policy.TheVariants.{AcceptanceOrder, RealTime}
 use Rattle.scoreboard.proofs.acceptance_order.BoardOf.{IsBoardOf, IsClientOf}
 use Rattle.scoreboard.proofs.acceptance_order.DueLists.{AreDues, AreOf, any_found}
-use Rattle.scoreboard.proofs.acceptance_order.Owed.{flying}
 use Rattle.scoreboard.proofs.real_time.Becoming.{EachIn, IsFollowed, each_last, each_map}
 use Rattle.scoreboard.proofs.real_time.FlightsAlone.{next_alone}
 use Rattle.scoreboard.proofs.real_time.Fronts.{front_at, front_of}
