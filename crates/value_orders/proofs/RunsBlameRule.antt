@@ -1,6 +1,6 @@
 -- By which rule a beat is wrong that tells a blamed byte: where the board of requests finds nothing wrong with it but its payload at most, it is the payload that
 -- is wrong, in every such order.
-use Rattle.std.proofs.Common.{◌≡◌, ℕ, ◌+◌, ◌==◌, Bool, true, false, not, List, [], ◌∷◌, ◌++◌, map, drop, take, Option, Some, None, ◌⊎◌, inl, inr, ⊎_elim, refl, sym, ◌∙◌, ap, subst, zero, suc, arith}
+use Rattle.std.proofs.Common.{◌≡◌, ℕ, ◌==◌, Bool, true, false, not, List, [], ◌∷◌, ◌++◌, map, drop, take, Option, Some, None, ◌⊎◌, inl, inr, ⊎_elim, refl, sym, ◌∙◌, ap, subst, zero, suc, arith}
 use Rattle.std.specs.List.{range_with_len}
 use Rattle.bus_words.specs.Tables.{first_broken}
 use Rattle.burst_plan.specs.declared.Region.{Region}
