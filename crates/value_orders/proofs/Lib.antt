@@ -39,3 +39,4 @@ pub mod RunsRightRequests
 pub mod RunsRightReplied
 pub mod RunsRightAlong
 pub mod RunsRight
+pub mod RunsRightVerdicts
