@@ -105,17 +105,17 @@ is_telling setup errors entry beat lanes x is =
     by_all (beat.opcode == 1) beat.corrupt (has_failed errors setup entry) (acts_on setup errors entry.request x)
     (is_in_word (acts_at setup errors entry.request) entry.came x) (has_lane lanes (x % 8)) refl refl refl refl refl refl is
   where
-    by_all : (o c f a w l : Bool) → (beat.opcode == 1) ≡ o → beat.corrupt ≡ c → has_failed errors setup entry ≡ f → acts_on setup errors entry.request x ≡ a
-        → is_in_word (acts_at setup errors entry.request) entry.came x ≡ w → has_lane lanes (x % 8) ≡ l → (o && not c && not f && a && w && not l) ≡ true
-        → IsTelling setup errors entry beat lanes x
-    by_all o c f a w l oo cc_ ff aa ww ll all =
+    by_all : (carries corrupt failed acting here unknown : Bool) → (beat.opcode == 1) ≡ carries → beat.corrupt ≡ corrupt → has_failed errors setup entry ≡ failed
+        → acts_on setup errors entry.request x ≡ acting → is_in_word (acts_at setup errors entry.request) entry.came x ≡ here → has_lane lanes (x % 8) ≡ unknown
+        → (carries && not corrupt && not failed && acting && here && not unknown) ≡ true → IsTelling setup errors entry beat lanes x
+    by_all carries corrupt failed acting here unknown carries_is corrupt_is failed_is acting_is here_is unknown_is all =
         record {
-          opcode = grind (arith, nat_tests, oo, all);
-          sound = grind (arith, cc_, all);
-          unfailed = grind (arith, ff, all);
-          on = grind (arith, aa, all);
-          in_word = grind (arith, ww, all);
-          known = grind (arith, ll, all);
+          opcode = grind (arith, nat_tests, carries_is, all);
+          sound = grind (arith, corrupt_is, all);
+          unfailed = grind (arith, failed_is, all);
+          on = grind (arith, acting_is, all);
+          in_word = grind (arith, here_is, all);
+          known = grind (arith, unknown_is, all);
         }
 
 -- ---- what the request finds

@@ -70,10 +70,6 @@ goes_beat begun client source entry = by_test (is_due begun client source entry 
 
 -- ---- changes of all
 
--- one that isn't whole doesn't come whole
-abbrev StaysOpen : Entry → Entry → Type 0
-StaysOpen old new = new.whole ≡ old.whole
-
 -- what becomes of those that have begun
 pub record OrderGoes (now next : Order) : Type 0 where
   pub longer : length now ≤ length next
