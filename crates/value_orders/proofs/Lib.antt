@@ -49,3 +49,7 @@ pub mod EventReplyMoves
 pub mod EventRuns
 pub mod EventHistories
 pub mod EventOnes
+pub mod RunsRightReplied
+pub mod RunsRightAlong
+pub mod RunsRight
+pub mod RunsRightVerdicts

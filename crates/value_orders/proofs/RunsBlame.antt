@@ -1,17 +1,15 @@
 -- A beat that tells a byte that is blamed is wrong in every order of the requests of a run, in which each atomic finds what it was told.
-use Rattle.std.proofs.Common.{◌≡◌, ℕ, ◌<◌, ◌≤◌, ◌+◌, ◌-◌, ◌%◌, ◌==◌, Bool, true, false, ◌&&◌, ◌||◌, not, List, [], ◌∷◌, map, drop, length, Option, Some, None, if◌then◌else◌, inl, inr, ⊎_elim, refl, sym, ◌∙◌, ap, subst, arith}
-use Rattle.std.specs.Prelude.{is_none}
-use Rattle.std.specs.Bool.{beq}
-use Rattle.std.proofs.lemmas.Bool.{both_ways, eq-eqb, not-true}
+use Rattle.std.proofs.Common.{◌≡◌, ℕ, ◌<◌, ◌≤◌, ◌%◌, ◌==◌, Bool, true, false, ◌&&◌, ◌||◌, not, List, map, drop, Option, Some, None, if◌then◌else◌, refl, sym, ◌∙◌, ap, subst, arith}
+use Rattle.std.specs.Prelude.{is_none, slice_get}
+use Rattle.std.proofs.lemmas.Bool.{both_ways}
 use Rattle.std.proofs.lemmas.Bool.Decides.{nat_tests}
 use Rattle.bus_words.specs.Lanes.{has_lane, lane_byte}
-use Rattle.bus_words.specs.Tables.{first_broken}
 use Rattle.burst_plan.specs.PageMap.{address_of, translated_address}
 use Rattle.burst_plan.specs.declared.Region.{Region}
-use Rattle.byte_orders.specs.Accesses.{IsOneOf}
-use Rattle.byte_orders.specs.Holdings.{NoOrderExplains}
-use Rattle.byte_orders.specs.Runs.{IsInFlight}
-use Rattle.meaning.specs.Meaning.{Bytes, Effect, denied, effect, effect_at, meaning, zeros}
+use Rattle.byte_orders.specs.Holdings.{Holding, NoOrderExplains, may_be_told}
+use Rattle.byte_orders.specs.Runs.{AllMayCome, Event, IsInFlight, first_run, run_after}
+use Rattle.byte_orders.proofs.RunsRightly.{runs_rightly}
+use Rattle.meaning.specs.Meaning.{Bytes, denied, effect, effect_at, meaning, zeros}
 use Rattle.responses.specs.Shown.{Reply, shown}
 use Rattle.serial_memory.specs.SerialMemory.{on_good_page}
 use Rattle.setups.specs.Setups.{SetupLists, faults_of}
@@ -20,13 +18,13 @@ use Rattle.tl_messages.specs.Requests.{WholeRequest}
 use Rattle.tl_messages.specs.declared.DBeat.{DBeat}
 use Rattle.tl_messages.specs.declared.Operation.{Operation}
 use Rattle.tl_messages.specs.declared.Operation.TheVariants.{Atomic, Get, Intent, PutFull, PutPartial}
-use Rattle.scoreboard.specs.Boards.{Beginning, MayBegin, due_beat, reply_rules, tells_error, wrong_beat, wrong_by}
+use Rattle.scoreboard.specs.Boards.{Beginning, ClientBoard, next_to, tells_error, wrong_beat}
+use Rattle.scoreboard.specs.Flights.{InFlight}
 use Rattle.scoreboard.specs.Orders.{Asked, Entry, IsWrongIn, access_fails, has_ended, has_failed, known_request, meaning_on, shown_to}
 use Rattle.scoreboard.specs.RealTime.{asked_on}
 use Rattle.scoreboard.specs.declared.Errors.{Errors}
 use Rattle.scoreboard.specs.declared.Errors.TheVariants.{Any, Strict}
-use Rattle.scoreboard.specs.declared.ReplyRule.{ReplyRule}
-use Rattle.scoreboard.specs.declared.Wrong.{Wrong}
+use Rattle.scoreboard.specs.declared.Policy.TheVariants.{RealTime}
 use Rattle.scoreboard.proofs.acceptance_order.Owed.{right_next}
 use Rattle.scoreboard.proofs.real_time.RequestActs.{AreBytes}
 use Rattle.scoreboard.proofs.real_time.Verdicts.{sure_shown}
@@ -38,8 +36,8 @@ use Rattle.value_orders.specs.RunOrders.{MayBe, bytes_before, past_of}
 use Rattle.value_orders.proofs.AccessOrders.{is_there}
 use Rattle.value_orders.proofs.Effects.{IsWellPast, never_spoiled, q_fields, same_size}
 use Rattle.value_orders.proofs.MatchesHistories.{matches_in}
-use Rattle.value_orders.proofs.RunsBlameLive.{AreLive, IsLive, live_in}
-use Rattle.value_orders.proofs.RunsBlameOrders.{due_found, in_order, live_number, small_before, stands_since}
+use Rattle.value_orders.proofs.RunsBlameLive.{AreLive, live_in}
+use Rattle.value_orders.proofs.RunsBlameOrders.{HasNumber, due_found, in_order, live_number, next_number, small_before, stands_since}
 use Rattle.value_orders.proofs.RunsBlameShown.{left_tells}
 use Rattle.value_orders.proofs.RunsBlameUntold.{blames_untold}
 use Rattle.value_orders.proofs.RunsTell.{runs_tell}
@@ -107,17 +105,17 @@ is_telling setup errors entry beat lanes x is =
     by_all (beat.opcode == 1) beat.corrupt (has_failed errors setup entry) (acts_on setup errors entry.request x)
     (is_in_word (acts_at setup errors entry.request) entry.came x) (has_lane lanes (x % 8)) refl refl refl refl refl refl is
   where
-    by_all : (o c f a w l : Bool) → (beat.opcode == 1) ≡ o → beat.corrupt ≡ c → has_failed errors setup entry ≡ f → acts_on setup errors entry.request x ≡ a
-        → is_in_word (acts_at setup errors entry.request) entry.came x ≡ w → has_lane lanes (x % 8) ≡ l → (o && not c && not f && a && w && not l) ≡ true
-        → IsTelling setup errors entry beat lanes x
-    by_all o c f a w l oo cc_ ff aa ww ll all =
+    by_all : (carries corrupt failed acting here unknown : Bool) → (beat.opcode == 1) ≡ carries → beat.corrupt ≡ corrupt → has_failed errors setup entry ≡ failed
+        → acts_on setup errors entry.request x ≡ acting → is_in_word (acts_at setup errors entry.request) entry.came x ≡ here → has_lane lanes (x % 8) ≡ unknown
+        → (carries && not corrupt && not failed && acting && here && not unknown) ≡ true → IsTelling setup errors entry beat lanes x
+    by_all carries corrupt failed acting here unknown carries_is corrupt_is failed_is acting_is here_is unknown_is all =
         record {
-          opcode = grind (arith, nat_tests, oo, all);
-          sound = grind (arith, cc_, all);
-          unfailed = grind (arith, ff, all);
-          on = grind (arith, aa, all);
-          in_word = grind (arith, ww, all);
-          known = grind (arith, ll, all);
+          opcode = grind (arith, nat_tests, carries_is, all);
+          sound = grind (arith, corrupt_is, all);
+          unfailed = grind (arith, failed_is, all);
+          on = grind (arith, acting_is, all);
+          in_word = grind (arith, here_is, all);
+          known = grind (arith, unknown_is, all);
         }
 
 -- ---- what the request finds
@@ -305,3 +303,19 @@ module _ (errors : Errors) (beginning : Beginning) (happenings : List Happening)
           (board_in errors beginning happenings).board.clients (matches_in errors beginning happenings).fits client beat blamed.number is_due asked start refl
           (ap (λ (b : DBeat). b.source) as_known.rest)))
           ∙ none
+
+-- what the board has next of a client's source is due to one request, by its number
+pub next_in : (errors : Errors) (beginning : Beginning) (happenings : List Happening) (client : ℕ) (beat : DBeat) (found : ClientBoard) (flight : InFlight)
+    → slice_get (board_in errors beginning happenings).board.clients client ≡ Some found → next_to RealTime found beat.source ≡ Some flight
+    → HasNumber (history_in errors beginning happenings) client beat
+next_in errors beginning happenings client beat found flight there next =
+    next_number beginning.lists errors (history_in errors beginning happenings) (board_in errors beginning happenings).board.clients
+    (matches_in errors beginning happenings).fits client beat found flight there next
+
+-- a byte is blamed that a list doesn't let its request be told
+pub blamed_by : (errors : Errors) (beginning : Beginning) (happenings : List Happening) (x number byte : ℕ) (held : List Holding) (events : List Event)
+    → AllMayCome (first_run (byte_at_start beginning x)) events → held ≡ (run_after (first_run (byte_at_start beginning x)) events).held
+    → (run_after (first_run (byte_at_start beginning x)) events).accesses ≡ accesses_in beginning.lists errors (history_in errors beginning happenings) x
+    → may_be_told held number byte ≡ false → IsBlamedByte errors beginning happenings x number byte
+blamed_by errors beginning happenings x number byte held events may same accesses none =
+    record { held = held; events = events; may_come = may; is_held = same; accesses = accesses; blamed = runs_rightly held number byte none }

@@ -1,6 +1,6 @@
 -- Of the requests since the last reset none was cut off, and one has ended only where its entry has: so one to which a beat is due hasn't.
-use Rattle.std.proofs.Common.{◌≡◌, ℕ, ◌<◌, ◌≤◌, ◌+◌, ◌-◌, ◌&&◌, Bool, true, false, List, [], ◌∷◌, ◌++◌, map, length, Option, Some, None, if◌then◌else◌, suc, zero, refl, sym, ◌∙◌, ap, subst, arith}
-use Rattle.std.specs.Prelude.{Err, Ok, Result, is_none, slice_get, slice_index_or}
+use Rattle.std.proofs.Common.{◌≡◌, ℕ, ◌<◌, ◌≤◌, ◌+◌, ◌&&◌, Bool, true, false, List, [], ◌∷◌, map, length, Option, Some, None, if◌then◌else◌, suc, refl, sym, ◌∙◌, ap, subst, arith}
+use Rattle.std.specs.Prelude.{Err, Ok, Result, is_none, slice_get}
 use Rattle.std.specs.List.{AllByRecursion}
 use Rattle.std.proofs.lemmas.Bool.{and_parts}
 use Rattle.setups.specs.Setups.{SetupLists}
@@ -17,7 +17,7 @@ use Rattle.scoreboard.specs.declared.ObservedBeat.TheVariants.{A, D, Axi as OnAx
 use Rattle.scoreboard.specs.declared.Policy.TheVariants.{RealTime}
 use Rattle.scoreboard.specs.declared.Wrong.{Wrong}
 use Rattle.scoreboard.proofs.real_time.Fates.{GrowsTo, IsCounted, goes_next}
-use Rattle.value_orders.specs.Histories.{Happening, Reset, Seen, History, Past, board_from, board_next, entries_of, hear, heard_of, hidden_in, history_from, history_in, history_next, no_history, opening, since_next, with_answer, with_entries, with_heard, with_looked, with_told}
+use Rattle.value_orders.specs.Histories.{Happening, Reset, Seen, History, Past, board_next, entries_of, hear, hidden_in, history_from, history_in, history_next, no_history, opening, with_answer, with_entries, with_heard, with_looked, with_told}
 use Rattle.value_orders.proofs.WellHistories.{IsKept, kept_in, kept_next}
 
 pub record IsLive (past : Past) : Type 0 where

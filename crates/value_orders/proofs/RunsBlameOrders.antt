@@ -1,6 +1,6 @@
 -- The request that a beat is due to, in an order of the requests of a whole run: it is the same one as among those since the last reset, and what is left of
 -- its reply was made of the bytes that it finds in that order.
-use Rattle.std.proofs.Common.{◌≡◌, ℕ, zero, suc, ◌<◌, ◌≤◌, ◌+◌, ◌-◌, ◌==◌, ◌&&◌, Bool, true, false, List, [], ◌∷◌, ◌++◌, map, length, Option, Some, None, if◌then◌else◌, inl, inr, ⊎_elim, refl, sym, ◌∙◌, ap, subst, arith}
+use Rattle.std.proofs.Common.{◌≡◌, ℕ, zero, suc, ◌<◌, ◌≤◌, ◌+◌, ◌-◌, ◌==◌, Bool, true, false, List, [], ◌∷◌, ◌++◌, length, Some, if◌then◌else◌, inl, inr, ⊎_elim, refl, sym, ◌∙◌, ap, subst, arith}
 use Rattle.std.specs.Prelude.{nat_le, slice_get, slice_index_or}
 use Rattle.std.specs.List.{AllByRecursion, list_any}
 use Rattle.std.proofs.lemmas.Bool.{both_ways, cases_lt, false_from_ne_true, le-leb}
@@ -20,9 +20,9 @@ use Rattle.scoreboard.specs.declared.Errors.{Errors}
 use Rattle.scoreboard.specs.declared.Policy.TheVariants.{RealTime}
 use Rattle.scoreboard.proofs.real_time.Lengths.{some_beats}
 use Rattle.scoreboard.proofs.real_time.RequestActs.{AreBytes, acts}
-use Rattle.value_orders.specs.Blames.{IsDueTo, over_if, over_now, standing, standing_in}
+use Rattle.value_orders.specs.Blames.{IsDueTo, over_now, standing, standing_in}
 use Rattle.value_orders.specs.Histories.{History, Past, all_past, begun_by, entries_of}
-use Rattle.value_orders.specs.RunOrders.{no_past, IsRunOrder, MayBe, MayBeAll, bytes_before, past_of}
+use Rattle.value_orders.specs.RunOrders.{no_past, IsRunOrder, MayBeAll, bytes_before, past_of}
 use Rattle.value_orders.proofs.Effects.{IsWellPast, q_fields, q_well}
 use Rattle.value_orders.proofs.Matches.{Fits}
 use Rattle.value_orders.proofs.MatchesDue.{IsOnlyDue, due_one, one_due}

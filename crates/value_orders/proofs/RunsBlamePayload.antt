@@ -1,9 +1,7 @@
 -- The law of what is blamed: a beat that tells a blamed byte is wrong in every order of the requests of a run in which each atomic finds what it was told, and by
 -- the rule on payloads, where the board of requests leaves that open.
-use Rattle.std.proofs.Common.{◌≡◌, ℕ, ◌<◌, ◌≤◌, ◌+◌, ◌-◌, ◌%◌, ◌==◌, Bool, true, false, ◌&&◌, List, [], ◌∷◌, map, drop, length, Option, Some, None, ◌⊎◌, inl, inr, ⊎_elim, refl, sym, ◌∙◌, ap, ap₂, subst, arith}
+use Rattle.std.proofs.Common.{◌≡◌, ℕ, ◌+◌, ◌-◌, Bool, true, false, List, [], ◌∷◌, map, drop, length, Option, Some, None, ◌⊎◌, inl, inr, ⊎_elim, refl, sym, ◌∙◌, ap, subst, arith}
 use Rattle.std.specs.Prelude.{slice_get}
-use Rattle.std.specs.List.{list_any}
-use Rattle.std.proofs.lemmas.Bool.{both_ways}
 use Rattle.std.proofs.lemmas.Bool.Decides.{nat_tests}
 use Rattle.bus_words.specs.Lanes.{has_lane}
 use Rattle.bus_words.specs.Tables.{first_broken}
@@ -11,13 +9,13 @@ use Rattle.meaning.specs.Meaning.{Bytes, acknowledged}
 use Rattle.responses.specs.Shown.{Reply, beat_without_data, shown}
 use Rattle.setups.specs.Setups.{SetupLists, faults_of}
 use Rattle.tl_messages.specs.Operations.{beats_of, reply_has_data, reply_opcode}
-use Rattle.tl_messages.specs.Requests.{HeldMessage, WholeRequest}
+use Rattle.tl_messages.specs.Requests.{WholeRequest}
 use Rattle.tl_messages.specs.declared.DBeat.{DBeat}
 use Rattle.tl_messages.specs.declared.Operation.{Operation}
 use Rattle.tl_messages.specs.declared.Operation.TheVariants.{Atomic, Get, Intent, PutFull, PutPartial}
 use Rattle.scoreboard.specs.Boards.{Beginning, Board, ClientBoard, d_wrong, due_beat, next_to, reply_rules, tells_otherwise, told_to, unless_indeterminate, wrong_at, wrong_beat, wrong_by, wrong_reply, wrong_told}
 use Rattle.scoreboard.specs.Flights.{Footprint, InFlight}
-use Rattle.scoreboard.specs.Orders.{Asked, Entry, IsWrongAs, Order, due_beats, has_failed, is_due_in, known_request, meaning_on, shown_to}
+use Rattle.scoreboard.specs.Orders.{Asked, Entry, IsWrongAs, due_beats, has_failed, is_due_in, known_request, meaning_on, shown_to}
 use Rattle.scoreboard.specs.RealTime.{asked_on, numbered}
 use Rattle.scoreboard.specs.Telling.{telling_of}
 use Rattle.scoreboard.specs.Unknown.{as_far_as_known, or_unknown, some_unknown, unknown_wrong}
@@ -29,19 +27,18 @@ use Rattle.scoreboard.specs.declared.ReplyRule.TheVariants as rule
 use Rattle.scoreboard.specs.declared.Wrong.{Wrong}
 use Rattle.scoreboard.specs.declared.Wrong.TheVariants as wrong
 use Rattle.scoreboard.proofs.real_time.Fronts.{front_at, front_of}
-use Rattle.scoreboard.proofs.real_time.Places.{coming_at}
 use Rattle.scoreboard.proofs.real_time.Verdicts.{sure_shown}
-use Rattle.value_orders.specs.Blames.{BlamesRightly, IsAsKnown, IsDueTo, MayHaveBeen, TellsBlamed, leaves_payload, standing_in}
-use Rattle.value_orders.specs.Histories.{Happening, History, Past, begun_by, board_in, entries_of, history_in}
+use Rattle.value_orders.specs.Blames.{BlamesRightly, IsAsKnown, MayHaveBeen, TellsBlamed, leaves_payload, standing_in}
+use Rattle.value_orders.specs.Histories.{Happening, History, Past, board_in, entries_of}
 use Rattle.value_orders.specs.RunOrders.{MayBe, bytes_before, past_of}
 use Rattle.value_orders.proofs.Effects.{IsWellPast}
-use Rattle.value_orders.proofs.Matches.{Fits, IsBegun, IsFlying, acting_as}
+use Rattle.value_orders.proofs.Matches.{IsBegun}
 use Rattle.value_orders.proofs.MatchesDue.{HasBegunThere, InFlightAt, IsHad, IsOnlyDue, due_one}
 use Rattle.value_orders.proofs.MatchesHistories.{matches_in}
 use Rattle.value_orders.proofs.RunsBlame.{IsTelling, history, is_telling, kept, means_same, not_spoiled, same_failed, well, wrong_in}
 use Rattle.value_orders.proofs.RunsBlameLive.{live_in}
 use Rattle.value_orders.proofs.RunsBlameOrders.{due_found, entry_at, small_at, stands_since}
-use Rattle.value_orders.proofs.RunsBlameRule.{AtMostPayload, at_most_payload, map_drop, still_payload, tell_alike, without_payload}
+use Rattle.value_orders.proofs.RunsBlameRule.{AtMostPayload, map_drop, still_payload, tell_alike, without_payload}
 use Rattle.value_orders.proofs.RunsBlameSilent.{held_silent}
 
 -- ---- a verdict that leaves the payload open

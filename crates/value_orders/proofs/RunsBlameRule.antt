@@ -1,24 +1,18 @@
 -- By which rule a beat is wrong that tells a blamed byte: where the board of requests finds nothing wrong with it but its payload at most, it is the payload that
 -- is wrong, in every such order.
-use Rattle.std.proofs.Common.{◌≡◌, ℕ, ◌<◌, ◌≤◌, ◌+◌, ◌-◌, ◌%◌, ◌==◌, Bool, true, false, ◌&&◌, ◌||◌, not, List, [], ◌∷◌, ◌++◌, map, drop, take, length, Option, Some, None, if◌then◌else◌, ◌⊎◌, inl, inr, ⊎_elim, refl, sym, ◌∙◌, ap, subst, zero, suc, arith}
-use Rattle.std.specs.Prelude.{slice_get}
+use Rattle.std.proofs.Common.{◌≡◌, ℕ, ◌==◌, Bool, true, false, not, List, [], ◌∷◌, ◌++◌, map, drop, take, Option, Some, None, ◌⊎◌, inl, inr, ⊎_elim, refl, sym, ◌∙◌, ap, subst, zero, suc, arith}
 use Rattle.std.specs.List.{range_with_len}
-use Rattle.std.proofs.lemmas.Bool.{both_ways}
-use Rattle.std.proofs.lemmas.Bool.Decides.{nat_tests}
 use Rattle.bus_words.specs.Tables.{first_broken}
 use Rattle.burst_plan.specs.declared.Region.{Region}
 use Rattle.meaning.specs.Meaning.{Bytes, meaning}
 use Rattle.responses.specs.Shown.{Reply, beat_of_word, beat_without_data, lacks_a_byte, shown}
-use Rattle.setups.specs.Setups.{SetupLists, faults_of}
 use Rattle.subordinate.specs.Faults.{Faults}
 use Rattle.tl_messages.specs.Operations.{beats_of, reply_has_data}
 use Rattle.tl_messages.specs.Requests.{WholeRequest}
 use Rattle.tl_messages.specs.declared.DBeat.{DBeat}
-use Rattle.scoreboard.specs.Boards.{due_beat, reply_rules, unless_indeterminate, wrong_beat, wrong_by}
-use Rattle.scoreboard.specs.Orders.{meaning_on}
+use Rattle.scoreboard.specs.Boards.{reply_rules, unless_indeterminate, wrong_beat, wrong_by}
 use Rattle.scoreboard.specs.declared.ReplyRule.{ReplyRule}
 use Rattle.scoreboard.specs.declared.ReplyRule.TheVariants as rule
-use Rattle.scoreboard.specs.declared.Wrong.{Wrong}
 use Rattle.scoreboard.specs.declared.Wrong.TheVariants as wrong
 use Rattle.scoreboard.proofs.real_time.AlikeBeats.{lacks_same, reply_of}
 use Rattle.scoreboard.proofs.real_time.ReplyBytes.{Fixed, Kind, Told, kind}

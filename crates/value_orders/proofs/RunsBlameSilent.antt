@@ -1,13 +1,12 @@
 -- A request that isn't whole has several beats, so it is a Put, and its reply has no data.
-use Rattle.std.proofs.Common.{◌≡◌, ℕ, ◌<◌, ◌≤◌, Bool, true, false, List, [], ◌∷◌, length, Option, Some, None, Ok, refl, sym, ◌∙◌, ap, subst, arith}
-use Rattle.std.specs.Prelude.{nat_le, slice_get}
+use Rattle.std.proofs.Common.{◌≡◌, ◌<◌, false, List, [], ◌∷◌, Some, refl, sym, ◌∙◌, ap, arith}
+use Rattle.std.specs.Prelude.{nat_le}
 use Rattle.std.proofs.lemmas.Bool.Decides.{nat_tests}
-use Rattle.tl_messages.specs.Operations.{beats_of, has_data, opcode_has_data, opcode_of, reply_has_data}
-use Rattle.tl_messages.specs.Requests.{HeldMessage, begun, held_of, is_whole, message_of}
+use Rattle.tl_messages.specs.Operations.{beats_of, opcode_has_data, reply_has_data}
+use Rattle.tl_messages.specs.Requests.{HeldMessage, begun, is_whole, message_of}
 use Rattle.tl_messages.specs.declared.ABeat.{ABeat}
-use Rattle.tl_checker.specs.Ports.{IsFrontOf, judged}
+use Rattle.tl_checker.specs.Ports.{IsFrontOf}
 use Rattle.tl_checker.specs.RequestRules.{IsFront, TlPortLimits}
-use Rattle.tl_checker.specs.declared.Progress.TheVariants.{More}
 use Rattle.tl_checker.proofs.BeatRules.{first_none}
 use Rattle.tl_checker.proofs.Fronts.{front_part}
 use Rattle.tl_checker.proofs.BeatRules.{right_named}

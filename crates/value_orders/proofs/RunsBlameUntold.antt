@@ -1,7 +1,7 @@
 -- A run whose list is held, with what was told left out: its list is held too, as what is told plays no part there. So what a list blames no order explains
 -- whatever was told else.
-use Rattle.std.proofs.Common.{◌≡◌, ℕ, ◌≤◌, ◌==◌, Bool, true, false, ◌&&◌, List, [], ◌∷◌, ◌++◌, map, Option, Some, None, is_none, if◌then◌else◌, refl, sym, ◌∙◌, ap, subst}
-use Rattle.byte_orders.specs.Accesses.{Access, IsOneOf}
+use Rattle.std.proofs.Common.{◌≡◌, ℕ, ◌≤◌, ◌==◌, Bool, true, false, ◌&&◌, List, [], ◌∷◌, ◌++◌, map, Option, Some, is_none, if◌then◌else◌, refl, sym, ◌∙◌, ap, subst}
+use Rattle.byte_orders.specs.Accesses.{Access}
 use Rattle.byte_orders.specs.Holdings.{Holding, NoOrderExplains}
 use Rattle.byte_orders.specs.Runs.{AllMayCome, Event, IsBlamedInRuns, IsInFlight, MayCome, NoneBefore, Reads, Writes, Others, Tells, Gives, LeavesOut, TakesEffect, Fails, Ends, Resets, NoneOlderThan, Settles, Crowds, Run, changed_of, cut_short, ending, failing, first_run, giving, giving_nothing, reading, run_after, run_next, taking_effect, telling, with_changed, writing}
 use Rattle.byte_orders.proofs.Members.{from_map, in_map}

@@ -1,49 +1,32 @@
 -- A board of real time beside one of acceptance order, in which what was observed is right: what each has in flight of a client, and what a right beat tells.
-use Rattle.std.proofs.Common.{◌≡◌, ℕ, zero, suc, ◌<◌, ◌≤◌, ◌+◌, ◌-◌, ◌%◌, ◌==◌, ◌&&◌, ◌||◌, Bool, true, false, List, [], ◌∷◌, ◌++◌, map, drop, length, Option, Some, None, if◌then◌else◌, ◌⊎◌, inl, inr, ⊎_elim, refl, sym, ◌∙◌, ap, ap₂, subst, arith}
+use Rattle.std.proofs.Common.{◌≡◌, ℕ, ◌==◌, ◌||◌, Bool, true, false, List, [], ◌∷◌, ◌++◌, map, Option, Some, None, if◌then◌else◌, refl, sym, ◌∙◌, ap, subst}
 use Rattle.std.specs.Prelude.{is_some, slice_get}
-use Rattle.std.specs.List.{AllByRecursion, find, list_any}
+use Rattle.std.specs.List.{find, list_any}
 use Rattle.std.specs.Option.{option_map, option_or, option_to_list}
-use Rattle.std.proofs.lemmas.Bool.{and_parts, both_ways, eq-eqb, eqb-true, false_from_ne_true, or_left, or_right}
-use Rattle.std.proofs.lemmas.Bool.Decides.{nat_tests}
+use Rattle.std.proofs.lemmas.Bool.{eq-eqb, or_left, or_right}
 use Rattle.std.proofs.lemmas.Option.{slice_get-map}
-use Rattle.bus_words.specs.Lanes.{lane_byte}
-use Rattle.byte_orders.specs.Accesses.{IsOneOf}
-use Rattle.meaning.specs.Meaning.{Bytes, bytes_after_all, zeros}
-use Rattle.responses.specs.Shown.{shown}
-use Rattle.setups.specs.Setups.{SetupLists, faults_of}
-use Rattle.tl_messages.specs.Requests.{HeldMessage, WholeRequest, held_of, message_of}
+use Rattle.setups.specs.Setups.{SetupLists}
+use Rattle.tl_messages.specs.Requests.{HeldMessage, held_of, message_of}
 use Rattle.tl_messages.specs.declared.ABeat.{ABeat}
 use Rattle.tl_messages.specs.declared.DBeat.{DBeat}
-use Rattle.scoreboard.specs.Boards.{Board, ClientBoard, d_wrong, from_zeros, next_to, told_to, wrong_at, wrong_beat, wrong_in_turn, wrong_reply}
+use Rattle.scoreboard.specs.Boards.{Board, ClientBoard, d_wrong, from_zeros, told_to, wrong_at, wrong_beat, wrong_reply}
 use Rattle.scoreboard.specs.Flights.{Flights, InFlight, begun_is_of, due_to, each_flight, is_busy, is_of_source, next_reply}
-use Rattle.scoreboard.specs.InTurn.{dues_of}
-use Rattle.scoreboard.specs.Observed.{Observed, observed_in, requests_in}
-use Rattle.scoreboard.specs.Orders.{Asked, Entry, has_ended, has_failed, is_due_in, known_request, meaning_on, shown_to}
-use Rattle.scoreboard.specs.RealTime.{asked_on, numbered}
-use Rattle.scoreboard.specs.Right.{IsFree, is_of, replies_to}
+use Rattle.scoreboard.specs.Observed.{Observed}
+use Rattle.scoreboard.specs.Orders.{Entry}
+use Rattle.scoreboard.specs.Right.{IsFree, replies_to}
 use Rattle.scoreboard.specs.Wider.{board_alone, client_alone, flight_alone}
 use Rattle.scoreboard.specs.declared.Errors.{Errors}
-use Rattle.scoreboard.specs.declared.ObservedBeat.{ObservedBeat}
 use Rattle.scoreboard.specs.declared.ObservedBeat.TheVariants.{D}
-use Rattle.scoreboard.specs.declared.Policy.TheVariants.{AcceptanceOrder, RealTime}
-use Rattle.scoreboard.proofs.acceptance_order.BoardOf.{IsBoardOf, IsClientOf, shown_source}
-use Rattle.scoreboard.proofs.acceptance_order.DueLists.{AreOf, any_found}
+use Rattle.scoreboard.specs.declared.Policy.TheVariants.{AcceptanceOrder}
+use Rattle.scoreboard.proofs.acceptance_order.BoardOf.{IsBoardOf, IsClientOf}
+use Rattle.scoreboard.proofs.acceptance_order.DueLists.{any_found}
 use Rattle.scoreboard.proofs.acceptance_order.Fixed.{in_turn_alone}
 use Rattle.scoreboard.proofs.acceptance_order.Owed.{flying, flying_of, left-free, right_next}
 use Rattle.scoreboard.proofs.real_time.Entries.{place_of}
 use Rattle.scoreboard.proofs.real_time.FlightsAlone.{next_alone}
-use Rattle.scoreboard.proofs.real_time.Places.{flight_at, flight_in, flights_in}
-use Rattle.scoreboard.proofs.real_time.RequestActs.{AreBytes, IsWell, acts}
-use Rattle.scoreboard.proofs.real_time.Verdicts.{sure_shown}
+use Rattle.scoreboard.proofs.real_time.Places.{flight_in, flights_in}
 use Rattle.scoreboard.proofs.real_time.WiderRuns.{IsOn}
-use Rattle.value_orders.specs.Histories.{History, Past, begun_by, entries_of, tells}
-use Rattle.value_orders.specs.RunOrders.{past_of}
-use Rattle.value_orders.proofs.Effects.{IsWellPast}
-use Rattle.value_orders.proofs.Matches.{Fits, IsFlying}
-use Rattle.value_orders.proofs.RunsBlame.{IsTelling, finds_told, is_telling}
-use Rattle.value_orders.proofs.RunsRightOrder.{as_came, may_be}
-use Rattle.value_orders.proofs.RunsRightReplies.{made_in_turn}
-use Rattle.value_orders.proofs.RunsRightSteps.{AreAtOne, AreLast}
+use Rattle.value_orders.proofs.Matches.{IsFlying}
 
 -- ---- requests in flight but for their footprints
 

@@ -1,49 +1,18 @@
 -- With a beat that is right in order of acceptance: how the requests that have begun go on, and which one comes whole.
-use Rattle.std.proofs.Common.{◌≡◌, ℕ, zero, suc, ◌<◌, ◌≤◌, ◌+◌, ◌-◌, ◌==◌, ◌&&◌, ◌||◌, not, Bool, true, false, List, [], ◌∷◌, ◌++◌, map, length, Option, Some, None, Result, Ok, Err, if◌then◌else◌, ◌⊎◌, inl, inr, ⊎_elim, refl, sym, ◌∙◌, ap, ap₂, subst, arith}
-use Rattle.std.specs.Prelude.{slice_get}
-use Rattle.std.specs.List.{list_any}
-use Rattle.std.specs.Option.{option_map}
-use Rattle.std.proofs.lemmas.Bool.{and_parts, both_ways, cases_eq, cases_lt, eq-eqb, eqb-true, not-true, or_left}
-use Rattle.std.proofs.lemmas.Bool.Decides.{nat_tests}
+use Rattle.std.proofs.Common.{◌≡◌, ℕ, ◌<◌, ◌≤◌, ◌==◌, ◌&&◌, ◌||◌, not, Bool, true, false, [], ◌∷◌, ◌++◌, map, length, if◌then◌else◌, ◌⊎◌, refl, sym, ◌∙◌, ap, subst, arith}
+use Rattle.std.proofs.lemmas.Bool.{and_parts, both_ways, not-true}
 use Rattle.std.proofs.lemmas.List.{length-append, length-map}
-use Rattle.std.proofs.lemmas.Option.{slice_get-map}
-use Rattle.config.specs.Configs.{port_of}
-use Rattle.setups.specs.Setups.{SetupLists}
 use Rattle.serial_memory.specs.SerialMemory.{Memory}
-use Rattle.tl_checker.specs.Ports.{joined, judged}
-use Rattle.tl_checker.specs.declared.Progress.{Progress}
-use Rattle.tl_checker.specs.declared.Progress.TheVariants.{More, Whole}
-use Rattle.tl_checker.specs.declared.TlRule.{TlRule}
-use Rattle.tl_checker.proofs.BeatRules.{first_none}
-use Rattle.tl_checker.proofs.Taking.{answered_parts}
-use Rattle.tl_messages.specs.Requests.{HeldMessage, WholeRequest, held_of, request_of}
-use Rattle.tl_messages.specs.declared.ABeat.{ABeat}
+use Rattle.tl_messages.specs.Requests.{WholeRequest}
 use Rattle.tl_messages.specs.declared.AtomicOp.{AtomicOp}
-use Rattle.tl_messages.specs.declared.DBeat.{DBeat}
 use Rattle.tl_messages.specs.declared.Operation.TheVariants.{Atomic}
-use Rattle.scoreboard.specs.Boards.{Board, ClientBoard, a_wrong, answer_to, from_zeros, is_spoiled, wrong_at, wrong_request}
-use Rattle.scoreboard.specs.FailedBursts.{Span, failed_span, shares}
-use Rattle.scoreboard.specs.Flights.{InFlight, is_busy}
-use Rattle.scoreboard.specs.Observed.{Observed, requests_in, with_seen}
-use Rattle.scoreboard.specs.Orders.{Entry, Order, after_beat, begun_to, counted, cut_short, ended_early, has_begun, has_ended, is_due, is_over, reply_beats, with_beat}
-use Rattle.scoreboard.specs.RealTime.{acting_footprint, begun_next, completed, entry_of, heard, is_open, numbered, struck, with_answered, with_failed, with_request}
-use Rattle.scoreboard.specs.Wider.{board_alone, client_alone, tells_apart, tells_busy}
+use Rattle.scoreboard.specs.Boards.{is_spoiled}
+use Rattle.scoreboard.specs.FailedBursts.{Span, shares}
+use Rattle.scoreboard.specs.Observed.{Observed, requests_in}
+use Rattle.scoreboard.specs.Orders.{Entry, Order, begun_to, counted, ended_early, has_ended, is_due, reply_beats, with_beat}
+use Rattle.scoreboard.specs.RealTime.{acting_footprint, completed, heard, is_open, numbered, struck}
 use Rattle.scoreboard.specs.declared.Errors.{Errors}
-use Rattle.scoreboard.specs.declared.ObservedBeat.{ObservedBeat}
-use Rattle.scoreboard.specs.declared.ObservedBeat.TheVariants.{A, D, Axi as OnAxi, Drained}
-use Rattle.scoreboard.specs.declared.Policy.TheVariants.{AcceptanceOrder, RealTime}
-use Rattle.scoreboard.proofs.acceptance_order.BoardOf.{IsBoardOf, IsClientOf}
-use Rattle.scoreboard.proofs.acceptance_order.Owed.{flying_of}
-use Rattle.scoreboard.proofs.acceptance_order.RequestBeats.{EndsHere, GoesOn, ends_here, goes_on}
-use Rattle.scoreboard.proofs.acceptance_order.RequestSteps.{client_of, requests_whole}
-use Rattle.scoreboard.proofs.real_time.Becoming.{EachIn, IsFollowed, numbered_first, numbered_last, numbered_map}
-use Rattle.scoreboard.proofs.real_time.Fates.{IsCounted, IsRecorded}
-use Rattle.scoreboard.proofs.real_time.Fronts.{front_at, front_of}
-use Rattle.scoreboard.proofs.real_time.WiderRuns.{IsOn}
-use Rattle.scoreboard.proofs.real_time.WiderVerdicts.{same_answer}
-use Rattle.value_orders.proofs.FineEntries.{IsFine}
-use Rattle.value_orders.proofs.Matches.{Fits, HasOne, IsBegun, IsOpenOf}
-use Rattle.value_orders.proofs.RunsRightBoards.{IsPair, IsRightNext, busy_flying, busy_there, front_free, is_pair, right_is_next}
+use Rattle.scoreboard.proofs.real_time.Becoming.{numbered_first, numbered_map}
 use Rattle.value_orders.proofs.RunsRightSeen.{EntryGoes}
 
 -- ---- one entry
@@ -100,10 +69,6 @@ goes_beat begun client source entry = by_test (is_due begun client source entry 
     by_test false = goes_same entry
 
 -- ---- changes of all
-
--- one that isn't whole doesn't come whole
-abbrev StaysOpen : Entry → Entry → Type 0
-StaysOpen old new = new.whole ≡ old.whole
 
 -- what becomes of those that have begun
 pub record OrderGoes (now next : Order) : Type 0 where

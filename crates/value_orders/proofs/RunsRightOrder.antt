@@ -1,22 +1,22 @@
 -- Where requests took effect in the order in which they came whole, that order, with those behind it that aren't whole, is one in which they may have taken
 -- effect, and in which each atomic finds what it was told: so what a request is told that finds it there, some order tells.
-use Rattle.std.proofs.Common.{◌≡◌, ℕ, zero, suc, ◌<◌, ◌≤◌, ◌+◌, ◌==◌, Bool, true, false, not, List, [], ◌∷◌, ◌++◌, map, length, Option, Some, None, cond, inl, inr, ⊎_elim, refl, sym, ◌∙◌, ap, subst, arith}
+use Rattle.std.proofs.Common.{◌≡◌, ℕ, zero, suc, ◌<◌, ◌≤◌, ◌+◌, ◌==◌, Bool, true, false, not, List, [], ◌∷◌, ◌++◌, Option, Some, None, cond, inl, inr, refl, sym, ◌∙◌, ap, subst, arith}
 use Rattle.std.specs.Prelude.{filter, slice_get}
 use Rattle.std.specs.List.{AllByRecursion, range_with_len}
 use Rattle.std.proofs.lemmas.Bool.{both_ways, cases_eq, eq-eqb, ne_eqb, not-true, not_from_false}
 use Rattle.byte_orders.specs.Accesses.{IsOneOf}
-use Rattle.byte_orders.proofs.Members.{all_of, from_append, from_filter, in_append_left, in_append_right, in_filter}
+use Rattle.byte_orders.proofs.Members.{all_of, from_filter, in_append_left, in_append_right, in_filter}
 use Rattle.meaning.specs.Meaning.{Bytes, zeros}
 use Rattle.setups.specs.Setups.{SetupLists}
 use Rattle.tl_messages.specs.Requests.{WholeRequest}
-use Rattle.scoreboard.specs.Boards.{Beginning, MayBegin, from_zeros}
-use Rattle.scoreboard.specs.Orders.{Entry, has_ended, meaning_on}
-use Rattle.scoreboard.specs.RealTime.{MayBecome, MayLeave}
+use Rattle.scoreboard.specs.Boards.{MayBegin, from_zeros}
+use Rattle.scoreboard.specs.Orders.{Entry, meaning_on}
+use Rattle.scoreboard.specs.RealTime.{MayBecome}
 use Rattle.scoreboard.specs.declared.Errors.{Errors}
 use Rattle.scoreboard.proofs.real_time.RequestActs.{IsWell, well_bytes}
 use Rattle.value_orders.specs.Bytes.{is_hidden_byte}
 use Rattle.value_orders.specs.Histories.{History, Past, begun_by}
-use Rattle.value_orders.specs.RunOrders.{AreOnce, AtomicsFind, FindsAsTold, HadEnded, IsRunOrder, KeepsTime, MayBe, MayBeAll, MayBeByte, bytes_along, bytes_before, past_of}
+use Rattle.value_orders.specs.RunOrders.{AreOnce, AtomicsFind, HadEnded, IsRunOrder, KeepsTime, MayBe, MayBeAll, MayBeByte, bytes_along, bytes_before, past_of}
 use Rattle.value_orders.proofs.Effects.{IsWellPast}
 
 -- the requests of a history as they came

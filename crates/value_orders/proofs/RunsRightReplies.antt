@@ -1,10 +1,10 @@
 -- What is left of the reply in flight to a client's source, where what was observed is right in order of acceptance: it was made of the bytes that the requests
 -- leave which were accepted before its own.
-use Rattle.std.proofs.Common.{◌≡◌, ℕ, zero, suc, ◌<◌, ◌≤◌, ◌+◌, ◌-◌, Bool, true, false, List, [], ◌∷◌, ◌++◌, map, drop, length, Option, Some, None, if◌then◌else◌, refl, sym, ◌∙◌, ap, subst, arith}
+use Rattle.std.proofs.Common.{◌≡◌, ℕ, zero, suc, ◌≤◌, Bool, true, false, List, [], ◌∷◌, ◌++◌, map, drop, length, Some, if◌then◌else◌, refl, sym, ◌∙◌, ap, subst, arith}
 use Rattle.std.specs.List.{list_any}
 use Rattle.std.proofs.lemmas.Bool.{or_parts}
 use Rattle.std.proofs.lemmas.List.{length-append, length-drop}
-use Rattle.meaning.specs.Meaning.{Bytes, bytes_after_all, meaning, zeros}
+use Rattle.meaning.specs.Meaning.{Bytes, bytes_after_all, zeros}
 use Rattle.responses.specs.Shown.{Reply, shown}
 use Rattle.setups.specs.Setups.{SetupLists, faults_of}
 use Rattle.tl_messages.specs.Requests.{WholeRequest}

@@ -1,5 +1,5 @@
 -- A beat on channel A that is right in order of acceptance: which request it begins, goes on with or completes.
-use Rattle.std.proofs.Common.{◌≡◌, ℕ, zero, suc, ◌<◌, ◌≤◌, ◌+◌, ◌-◌, ◌==◌, ◌&&◌, ◌||◌, not, Bool, true, false, List, [], ◌∷◌, ◌++◌, map, length, Option, Some, None, Result, Ok, Err, if◌then◌else◌, ◌⊎◌, inl, inr, ⊎_elim, refl, sym, ◌∙◌, ap, ap₂, subst, arith}
+use Rattle.std.proofs.Common.{◌≡◌, ℕ, ◌<◌, ◌==◌, ◌||◌, not, Bool, true, false, List, [], ◌∷◌, ◌++◌, map, length, Option, Some, None, Result, Ok, Err, if◌then◌else◌, ◌⊎◌, inl, inr, refl, sym, ◌∙◌, ap, ap₂, subst, arith}
 use Rattle.std.specs.Prelude.{slice_get}
 use Rattle.std.specs.Option.{option_map}
 use Rattle.std.proofs.lemmas.Bool.{and_from, and_parts, both_ways, cases_eq, eq-eqb, eqb-true, not-true, not_from_false}
@@ -17,35 +17,31 @@ use Rattle.tl_checker.proofs.BeatRules.{first_none}
 use Rattle.tl_checker.proofs.Taking.{answered_parts, held-append}
 use Rattle.tl_messages.specs.Requests.{HeldMessage, WholeRequest, held_of, request_of}
 use Rattle.tl_messages.specs.declared.ABeat.{ABeat}
-use Rattle.tl_messages.specs.declared.AtomicOp.{AtomicOp}
-use Rattle.tl_messages.specs.declared.Operation.TheVariants.{Atomic}
 use Rattle.scoreboard.specs.Boards.{Board, ClientBoard, a_wrong, answer_to, from_zeros, is_spoiled, wrong_at, wrong_request}
 use Rattle.scoreboard.specs.Flights.{is_busy}
-use Rattle.scoreboard.specs.Observed.{Observed, is_complete, requests_in, with_message, with_seen}
+use Rattle.scoreboard.specs.Observed.{Observed, requests_in, with_message, with_seen}
 use Rattle.scoreboard.specs.Orders.{Entry, Order, has_ended}
 use Rattle.scoreboard.specs.RealTime.{begun_next, completed, entry_of, heard, is_open, numbered, with_answered, with_progress, with_request}
-use Rattle.scoreboard.specs.Wider.{board_alone, client_alone, flight_alone, tells_busy}
+use Rattle.scoreboard.specs.Wider.{board_alone, client_alone, tells_busy}
 use Rattle.scoreboard.specs.declared.Errors.{Errors}
 use Rattle.scoreboard.specs.declared.ObservedBeat.TheVariants.{A}
 use Rattle.scoreboard.specs.declared.Policy.TheVariants.{AcceptanceOrder, RealTime}
 use Rattle.scoreboard.proofs.acceptance_order.BoardOf.{IsBoardOf, IsClientOf}
 use Rattle.scoreboard.proofs.acceptance_order.RequestBeats.{ends_here, goes_on}
 use Rattle.scoreboard.proofs.acceptance_order.RequestSteps.{client_of, requests_whole}
-use Rattle.scoreboard.proofs.real_time.Becoming.{EachIn, IsFollowed, IsHeld, numbered_first, numbered_last, numbered_map}
+use Rattle.scoreboard.proofs.real_time.Becoming.{EachIn, IsFollowed, numbered_first, numbered_last, numbered_map}
 use Rattle.scoreboard.proofs.real_time.Entries.{place_of}
 use Rattle.scoreboard.proofs.real_time.Fronts.{front_at, front_of}
 use Rattle.scoreboard.proofs.real_time.Lengths.{some_beats}
-use Rattle.scoreboard.proofs.real_time.Places.{Place}
 use Rattle.scoreboard.proofs.real_time.WiderRuns.{IsOn}
 use Rattle.scoreboard.proofs.real_time.WiderVerdicts.{same_answer}
-use Rattle.scoreboard.proofs.real_time.Fates.{IsCounted}
 use Rattle.value_orders.proofs.FineEntries.{IsFine}
 use Rattle.value_orders.proofs.Matches.{Fits, HasOne, IsBegun, IsOpenOf}
 use Rattle.value_orders.proofs.RunsRightBoards.{IsPair, busy_alone, busy_flying, busy_there, front_free, is_pair}
-use Rattle.value_orders.proofs.RunsRightEntries.{Accepts, NoMore, OneMore, NoneWhole, OneWhole, OrderGoes, goes_completed, goes_heard, none_map, order_last, order_map}
+use Rattle.value_orders.proofs.RunsRightEntries.{Accepts, NoMore, OneMore, NoneWhole, OrderGoes, goes_completed, goes_heard, none_map, order_last, order_map}
 
 -- one that isn't whole hasn't ended
-open_live : (entry : Entry) → entry.came ≡ 0 → has_ended entry ≡ false
+pub open_live : (entry : Entry) → entry.came ≡ 0 → has_ended entry ≡ false
 open_live entry none = grind (arith, nat_tests, none, some_beats entry.request)
 
 module _ (setup : SetupLists) (errors : Errors) (board compared : Board) (observed : Observed) (now : Order) (on : IsOn compared board)

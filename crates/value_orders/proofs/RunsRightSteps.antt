@@ -1,16 +1,15 @@
 -- One thing more that is seen, in order of acceptance: what holds of the requests that came whole goes on, and one more may come whole.
-use Rattle.std.proofs.Common.{◌≡◌, ℕ, zero, suc, ◌<◌, ◌≤◌, ◌+◌, ◌-◌, Bool, true, false, List, [], ◌∷◌, ◌++◌, map, length, Option, Some, None, ◌⊎◌, inl, inr, ⊎_elim, refl, sym, ◌∙◌, ap, subst, arith}
+use Rattle.std.proofs.Common.{◌≡◌, ℕ, ◌<◌, ◌≤◌, true, false, List, [], ◌∷◌, ◌++◌, map, Some, ◌⊎◌, inl, inr, ⊎_elim, refl, sym, ◌∙◌, ap, subst, arith}
 use Rattle.std.specs.List.{AllByRecursion}
-use Rattle.std.proofs.lemmas.Bool.{both_ways, false_from_ne_true}
-use Rattle.std.proofs.lemmas.List.{append-nil, append_assoc}
+use Rattle.std.proofs.lemmas.List.{append_assoc}
 use Rattle.byte_orders.specs.Accesses.{IsOneOf}
 use Rattle.byte_orders.proofs.Members.{all_of, from_append, in_append_left, in_append_right}
 use Rattle.meaning.specs.Meaning.{Bytes, zeros}
 use Rattle.setups.specs.Setups.{SetupLists}
 use Rattle.tl_messages.specs.Requests.{WholeRequest}
-use Rattle.scoreboard.specs.Orders.{Entry, has_ended, meaning_on}
+use Rattle.scoreboard.specs.Orders.{has_ended, meaning_on}
 use Rattle.value_orders.specs.Histories.{History, Past, begun_by}
-use Rattle.value_orders.specs.RunOrders.{AreOnce, AtomicsFind, FindsAsTold, HadEnded, KeepsTime, bytes_along, past_of}
+use Rattle.value_orders.specs.RunOrders.{AtomicsFind, FindsAsTold, HadEnded, KeepsTime, bytes_along, past_of}
 use Rattle.value_orders.proofs.RunsRightOrder.{IsInTurn, all_append, all_from, as_came, keeps_append, once_append}
 
 -- two requests are at one place

@@ -1,26 +1,25 @@
 -- In order of acceptance a right beat tells the bytes that its request found there.
-use Rattle.std.proofs.Common.{◌≡◌, ℕ, zero, suc, ◌<◌, ◌≤◌, ◌+◌, ◌-◌, ◌%◌, ◌==◌, ◌&&◌, Bool, true, false, List, [], ◌∷◌, ◌++◌, map, drop, length, Option, Some, None, inl, inr, ⊎_elim, refl, sym, ◌∙◌, ap, subst, arith}
+use Rattle.std.proofs.Common.{◌≡◌, ℕ, zero, suc, ◌<◌, ◌≤◌, ◌+◌, ◌-◌, ◌%◌, ◌==◌, Bool, true, false, List, [], ◌∷◌, ◌++◌, map, drop, length, Option, Some, None, inl, inr, refl, sym, ◌∙◌, ap, subst, arith}
 use Rattle.std.specs.Prelude.{slice_get}
 use Rattle.std.specs.List.{AllByRecursion, list_any}
 use Rattle.std.specs.Option.{option_or}
-use Rattle.std.proofs.lemmas.Bool.{and_from, and_parts, both_ways, eq-eqb, eqb-true, false_from_ne_true}
+use Rattle.std.proofs.lemmas.Bool.{and_from, and_parts, eq-eqb, eqb-true, false_from_ne_true}
 use Rattle.std.proofs.lemmas.Bool.Decides.{nat_tests}
 use Rattle.bus_words.specs.Lanes.{lane_byte}
 use Rattle.byte_orders.specs.Accesses.{IsOneOf}
 use Rattle.byte_orders.proofs.Members.{HasOne, all_of, any_to, from_map, in_append_right, in_append_left}
 use Rattle.meaning.specs.Meaning.{Bytes, bytes_after_all, zeros}
-use Rattle.responses.specs.Shown.{Reply, shown}
+use Rattle.responses.specs.Shown.{shown}
 use Rattle.setups.specs.Setups.{SetupLists, faults_of}
 use Rattle.tl_messages.specs.Requests.{WholeRequest}
 use Rattle.tl_messages.specs.declared.DBeat.{DBeat}
-use Rattle.scoreboard.specs.Boards.{Board, ClientBoard, early_flight, from_zeros, next_to, wrong_beat}
+use Rattle.scoreboard.specs.Boards.{Board, ClientBoard, early_flight, from_zeros, wrong_beat}
 use Rattle.scoreboard.specs.Flights.{InFlight}
 use Rattle.scoreboard.specs.Observed.{Observed, requests_in}
 use Rattle.scoreboard.specs.Orders.{Asked, Entry, Order, has_ended, has_failed, is_due_in, known_request, meaning_on, shown_to}
 use Rattle.scoreboard.specs.RealTime.{numbered}
 use Rattle.scoreboard.specs.Right.{is_of}
 use Rattle.scoreboard.specs.declared.Errors.{Errors}
-use Rattle.scoreboard.specs.declared.Policy.TheVariants.{RealTime}
 use Rattle.scoreboard.proofs.acceptance_order.BoardOf.{IsBoardOf, shown_source}
 use Rattle.scoreboard.proofs.acceptance_order.DueLists.{AreOf}
 use Rattle.scoreboard.proofs.acceptance_order.Owed.{flying_of}
@@ -31,7 +30,7 @@ use Rattle.value_orders.specs.Histories.{History, Past, begun_by, entries_of, te
 use Rattle.value_orders.specs.RunOrders.{bytes_along, past_of}
 use Rattle.value_orders.proofs.Effects.{IsWellPast}
 use Rattle.value_orders.proofs.Matches.{Fits, IsFlying}
-use Rattle.value_orders.proofs.MatchesDue.{HasBegunThere, InFlightAt, IsHad, IsOnlyDue, due_one}
+use Rattle.value_orders.proofs.MatchesDue.{IsHad, IsOnlyDue, due_one}
 use Rattle.value_orders.proofs.RunsBlame.{IsTelling, finds_told, is_telling}
 use Rattle.value_orders.proofs.RunsBlameLive.{length_entries}
 use Rattle.value_orders.proofs.RunsBlameOrders.{entry_at}

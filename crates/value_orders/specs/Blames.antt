@@ -118,3 +118,8 @@ LetsTell errors setup before client beat =
     → IsDueTo (history_in errors (from_zeros setup) (all_seen before)) client beat number
     → tells setup errors (past_of (history_in errors (from_zeros setup) (all_seen before)) number).entry beat 0 x ≡ true
     → NoneTells (from_zeros setup) errors (history_in errors (from_zeros setup) (all_seen before)) x number (lane_byte beat.payload (x % 8)) → ⊥
+
+-- so none of them tells a byte that is blamed
+abbrev pub NeverBlames : Errors → SetupLists → List ObservedBeat → ℕ → DBeat → Type 0
+NeverBlames errors setup before client beat =
+    IsRight (from_zeros setup) (before ++ D client beat ∷ []) → TellsBlamed errors (from_zeros setup) (all_seen before) client beat 0 → ⊥
