@@ -1,7 +1,6 @@
 -- Where one request alone passes a test, the events of many are those of that one: so what a beat does to a byte is what becomes of the request that it is of.
-use Rattle.std.proofs.Common.{◌≡◌, ℕ, ◌+◌, ◌<◌, ◌%◌, ◌==◌, zero, suc, Bool, true, false, ◌&&◌, not, List, [], ◌∷◌, ◌++◌, append-nil, map, length, Option, Some, None, if◌then◌else◌, refl, sym, ◌∙◌, ap, subst, arith}
+use Rattle.std.proofs.Common.{◌≡◌, ℕ, ◌+◌, ◌<◌, ◌%◌, ◌==◌, zero, suc, Bool, true, false, ◌&&◌, not, List, [], ◌∷◌, ◌++◌, append-nil, length, Some, None, if◌then◌else◌, refl, sym, ◌∙◌, ap, arith}
 use Rattle.std.specs.Prelude.{nat_lt, slice_index_or}
-use Rattle.std.specs.List.{list_any}
 use Rattle.std.proofs.lemmas.Bool.{and_from, and_parts, eq-eqb, eqb-true, le-leb, not-true}
 use Rattle.std.proofs.lemmas.List.{get_or-map, length-map}
 use Rattle.bus_words.specs.Lanes.{lane_byte}
@@ -10,16 +9,15 @@ use Rattle.setups.specs.Setups.{SetupLists}
 use Rattle.tl_messages.specs.Requests.{HeldMessage, WholeRequest}
 use Rattle.tl_messages.specs.declared.DBeat.{DBeat}
 use Rattle.scoreboard.specs.Boards.{ClientBoard}
-use Rattle.scoreboard.specs.Orders.{Entry, Order, begun_to, cut_short, ended_early, has_ended, is_due, is_due_in, is_over, reply_beats, with_beat}
+use Rattle.scoreboard.specs.Orders.{Entry, Order, begun_to, ended_early, has_ended, is_due, is_due_in, reply_beats, with_beat}
 use Rattle.scoreboard.specs.RealTime.{completed, is_open, numbered}
 use Rattle.scoreboard.specs.declared.Errors.{Errors}
 use Rattle.scoreboard.proofs.real_time.Becoming.{no_entry}
-use Rattle.scoreboard.proofs.real_time.Entries.{place_of}
 use Rattle.scoreboard.proofs.real_time.Fronts.{front_at}
 use Rattle.value_orders.specs.Events.{completed_as, counted_as, cut_as, each_from, ends_as, ends_with, made_as, shown_as, shown_events, told_as, whole_as}
 use Rattle.value_orders.specs.Histories.{Past, entries_of, hear, tells}
 use Rattle.value_orders.specs.RunOrders.{no_past}
-use Rattle.value_orders.proofs.Matches.{Fits, IsBegun, IsOpenOf}
+use Rattle.value_orders.proofs.Matches.{Fits, IsBegun}
 use Rattle.value_orders.proofs.MatchesKept.{begun_live}
 use Rattle.value_orders.proofs.MatchesTests.{begun_whole}
 

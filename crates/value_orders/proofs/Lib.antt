@@ -53,3 +53,5 @@ pub mod RunsRightReplied
 pub mod RunsRightAlong
 pub mod RunsRight
 pub mod RunsRightVerdicts
+pub mod EventLast
+pub mod EventFlights
