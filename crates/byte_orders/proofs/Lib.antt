@@ -9,3 +9,6 @@ pub mod RunsRightly
 pub mod ShorterLists
 pub mod ShortLists
 pub mod ToldRightly
+pub mod QuietEvents
+pub mod Leading
+pub mod QuietSwap

@@ -125,7 +125,7 @@ kept_step now f begun ended = record {
 }
 
 -- what is true of each run; and if its list never became a crowd it's exact
-record Holds (room : Type 0) (start : Option ℕ) (run : Run) : Type 0 where
+pub record Holds (room : Type 0) (start : Option ℕ) (run : Run) : Type 0 where
   pub timed : AreTimed run.accesses
   pub begun : (a : Access) → IsOneOf a run.accesses → a.begun ≤ run.now
   pub live : NoneBefore run.oldest run.accesses
@@ -199,7 +199,7 @@ whole_changed number f g same start accesses =
 -- ---- each event
 
 -- what an access gives changes, or what is said of it, and its holding with it
-by_gives : (f : Access → Access) (g : Holding → Holding)
+pub by_gives : (f : Access → Access) (g : Holding → Holding)
     → ((a : Access) → a.gives ≡ None → holding_of (f a) ≡ None)
     → ((a : Access) (value : Option ℕ) → a.gives ≡ Some value
     → holding_of (f a) ≡ Some (g (record { value = value; begun = a.begun; over = a.ended; sure = a.sure; many = false })))
@@ -458,7 +458,7 @@ module _ (room : Type 0) (start : Option ℕ) (run : Run) (holds : Holds room st
     exact = λ has. absurd (none has);
   }
 
-  next_holds : (event : Event) → MayCome run event → (room → HasRoom event) → Holds room start (run_next run event)
+  pub next_holds : (event : Event) → MayCome run event → (room → HasRoom event) → Holds room start (run_next run event)
   next_holds (Reads number) may has = reads_holds number may
   next_holds (Writes number) may has = writes_holds number may
   next_holds (Others number) may has = others_holds number may
@@ -479,7 +479,7 @@ module _ (room : Type 0) (start : Option ℕ) (run : Run) (holds : Holds room st
       short_rightly run.held number byte none run.oldest run.now holds.settled start run.accesses holds.timed (flight.one, flight.there, flight.begun)
       (subst (λ n. run.oldest ≤ n) flight.begun (holds.live flight.one flight.there flight.live)) holds.short
 
-first_holds : (room : Type 0) (start : Option ℕ) → Holds room start (first_run start)
+pub first_holds : (room : Type 0) (start : Option ℕ) → Holds room start (first_run start)
 first_holds room start = record {
   timed = record { after_start = λ a at. absurd at; ends_later = λ a time at. absurd at; apart = tt };
   begun = λ a at. absurd at;
@@ -490,7 +490,7 @@ first_holds room start = record {
   exact = λ has. exact_first start;
 }
 
-after_holds : (room : Type 0) (start : Option ℕ) (run : Run) (events : List Event) → AllMayCome run events → (room → NeverCrowds events)
+pub after_holds : (room : Type 0) (start : Option ℕ) (run : Run) (events : List Event) → AllMayCome run events → (room → NeverCrowds events)
     → Holds room start run → Holds room start (run_after run events)
 after_holds room start run [] may has holds = holds
 after_holds room start run (event ∷ events) may has holds =

@@ -61,9 +61,9 @@ left_by setup (Intent write) past address x = None
 
 -- ---- what any gives
 
--- whether a request has failed, or may have, where errors are told in any way: so may one have whose reply came before it was whole
+-- whether a request has failed, or may have, where errors are told in any way
 abbrev pub is_failed : SetupLists → Errors → Past → Bool
-is_failed setup errors past = has_failed errors setup past.entry || past.entry.replied
+is_failed setup errors past = has_failed errors setup past.entry
 
 -- by whether it is whole, and has failed: nobody knows what a request gives before it is whole, nor what one leaves that has failed
 abbrev pub gives_as : SetupLists → Bool → Bool → Past → ℕ → ℕ → Option (Option ℕ)
