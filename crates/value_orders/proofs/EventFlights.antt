@@ -6,12 +6,15 @@ use Rattle.std.proofs.lemmas.Bool.{both_ways}
 use Rattle.byte_orders.specs.Accesses.{Access, IsOneOf}
 use Rattle.byte_orders.specs.Runs.{IsInFlight, NoneBefore}
 use Rattle.byte_orders.proofs.Members.{in_append_right}
+use Rattle.byte_orders.proofs.QuietEvents.{IsSilent}
 use Rattle.setups.specs.Setups.{SetupLists}
 use Rattle.scoreboard.specs.Orders.{has_ended}
 use Rattle.scoreboard.specs.RealTime.{numbered}
 use Rattle.scoreboard.specs.declared.Errors.{Errors}
-use Rattle.value_orders.specs.Bytes.{access_of, accesses_from, accesses_in}
+use Rattle.value_orders.specs.Bytes.{access_of, accesses_from, accesses_in, gives_at, may_write_at}
 use Rattle.value_orders.specs.Histories.{History, Past, entries_of}
+use Rattle.value_orders.specs.RunOrders.{past_of}
+use Rattle.value_orders.proofs.AccessOrders.{is_of}
 use Rattle.value_orders.proofs.EventEnds.{KnowsEnd, live_of}
 use Rattle.value_orders.proofs.EventHistories.{EndsAreKnown}
 use Rattle.value_orders.proofs.EventLists.{accesses_append}
@@ -89,3 +92,15 @@ module _ (setup : SetupLists) (errors : Errors) (x : ℕ) where
         begun = omega (arith, begun);
         live = found.live;
       }
+
+  -- ---- one that gives nothing there
+
+  -- what becomes of one that may write nothing there, or gives nothing, changes no list
+  pub silent_at : (history : History) (number : ℕ) → gives_at setup errors (past_of history number) x ≡ None → IsSilent number (accesses_in setup errors history x)
+  silent_at history number none a at =
+      let own = is_of setup errors history x a at.0 in
+      let same : own.number ≡ number = ap (λ (b : Access). b.begun) (sym own.is) ∙ at.1.begun in
+      ap (λ (b : Access). b.gives) own.is ∙ ap (λ n. gives_at setup errors (past_of history n) x) same ∙ none
+
+  pub none_given : (past : Past) → may_write_at setup errors past x ≡ false → gives_at setup errors past x ≡ None
+  none_given past none = rw none refl
