@@ -1,13 +1,9 @@
 -- Of beats that are right in order of acceptance the board of requests finds nothing wrong with the next: so nothing is found wrong that isn't.
-use Rattle.std.proofs.Common.{◌≡◌, ℕ, false, List, [], ◌∷◌, ◌++◌, map, None, refl, ◌∙◌, sym, ap}
-use Rattle.std.specs.List.{AllByRecursion, list_any, range_with_len}
-use Rattle.setups.specs.Setups.{SetupLists}
-use Rattle.scoreboard.specs.Boards.{Board, after_all, after_seen, from_zeros, opening_with, wrong_at}
-use Rattle.scoreboard.specs.Right.{IsRight}
-use Rattle.scoreboard.specs.Unknown.{UnknownBoard, has_unknown, some_begun, unknown_wrong}
 use Rattle.std.proofs.Common.{◌≡◌, ℕ, false, List, [], ◌∷◌, ◌++◌, map, None, refl, ◌∙◌, ap}
 use Rattle.std.specs.List.{AllByRecursion, range_with_len}
+use Rattle.setups.specs.Setups.{SetupLists}
 use Rattle.scoreboard.specs.Boards.{Board, after_all, from_zeros, opening_with}
+use Rattle.scoreboard.specs.Right.{IsRight}
 use Rattle.scoreboard.specs.Unknown.{UnknownBoard, some_begun, unknown_wrong}
 use Rattle.scoreboard.specs.declared.Errors.{Errors}
 use Rattle.scoreboard.specs.declared.ObservedBeat.{ObservedBeat}
