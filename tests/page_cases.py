@@ -148,7 +148,9 @@ def headings(path):
 
 
 def broken(page):
-    """Each file that a page names and that isn't there, and each heading that isn't in it."""
+    """Each file that a page names and that isn't there, each heading that isn't in it, and the marks of a merge."""
+    if re.search(r"(?m)^(<{7}|>{7}) ", page.read_text()):
+        yield "marks of a merge"
     for name, heading in LINK.findall(page.read_text()):
         named, path = " ".join(heading.replace("`", "").split()), TOP / name
         if "NAME" in name or "/out/" in name:
