@@ -13,7 +13,7 @@ use Rattle.world.specs.Laws.{AreSoundAlong, IsSoundWorld}
 use Rattle.world.specs.World.{WorldState, after, byte_of, drained, enabled, in_flight, is_reply, leaves_all, next, opening_world}
 use Rattle.world.specs.declared.Answer.{Answer}
 use Rattle.world.specs.declared.Step.{Step}
-use Rattle.world.specs.declared.Step.TheVariants.{AnswerB, AnswerR, Offer, Perform, Pump, Take}
+use Rattle.world.specs.declared.Step.TheVariants.{Offer, Take}
 use Rattle.world.proofs.Events.{each_way}
 use Rattle.world_run.specs.Headline.{IsOneAtATime}
 use Rattle.world_run.specs.Runs.{HandedReply, answers_of, handed_at, handed_in, sent_in}
@@ -93,11 +93,8 @@ hands_over state step old =
 -- one of its steps takes no reply
 own_hands_none : (step : Step) (answer : Answer) (beats : List DBeat) → is_own step ≡ true → handed_at step answer beats ≡ None
 own_hands_none (Offer client beat) answer beats own = absurd (cc (own))
-own_hands_none Pump answer beats own = refl
-own_hands_none (Perform serial beat) answer beats own = refl
-own_hands_none (AnswerB id) answer beats own = refl
-own_hands_none (AnswerR id) answer beats own = refl
 own_hands_none (Take client) answer beats own = absurd (cc (own))
+own_hands_none step answer beats own = refl
 
 -- where steps lead from one world to another, these are the first that are enabled, and they hand out nothing
 record IsLed (old new : WorldState) (steps : List Step) : Type 0 where
@@ -225,8 +222,7 @@ module _ (makes : WorldState → List Step) where
 
   fits_shut : (old : Held) → Fits old Closed
   fits_shut Closed = tt
-  fits_shut (SettingUp set_up) = tt
-  fits_shut (Running bridge) = tt
+  fits_shut old = tt
 
   fits_closed : (old new : Held) → new ≡ Closed → Fits old new
   fits_closed old new closed = subst (λ (s : Held). Fits old s) (sym closed) (fits_shut old)

@@ -9,7 +9,7 @@ use Rattle.world.specs.Choices.{LeadsTo}
 use Rattle.world.specs.Laws.{IsSoundWorld}
 use Rattle.world.specs.World.{WorldState, enabled, next, perform_at, pumps_enabled}
 use Rattle.world.specs.declared.Step.{Step}
-use Rattle.world.specs.declared.Step.TheVariants.{AnswerB, AnswerR, Offer, Perform, Pump, Take}
+use Rattle.world.specs.declared.Step.TheVariants.{AnswerB, AnswerR, Offer, Pump, Take}
 use Rattle.world_run.proofs.OrderSteps.{keeps_next}
 use Rattle.world_run.specs.InOrder.{IsForeseen, KeepsOrder}
 use Rattle.world_run.specs.Serial.{Order}
@@ -38,11 +38,8 @@ all_at p (y ∷ ys) (suc k) x all there = grind (arith, all, there, all_at p ys 
 
 abbrev pub is_own : Step → Bool
 is_own (Offer client beat) = false
-is_own Pump = true
-is_own (Perform serial beat) = true
-is_own (AnswerB id) = true
-is_own (AnswerR id) = true
 is_own (Take client) = false
+is_own step = true
 
 pump_own : (burst : Option Burst) → list_all is_own (if is_some burst then Pump ∷ [] else []) ≡ true
 pump_own None = refl
@@ -59,11 +56,8 @@ own_enabled state =
 
 own_foreseen : (order : Order) (state : WorldState) (step : Step) → is_own step ≡ true → IsForeseen order state step
 own_foreseen order state (Offer client beat) own = absurd (cc (own))
-own_foreseen order state Pump own = tt
-own_foreseen order state (Perform serial beat) own = tt
-own_foreseen order state (AnswerB id) own = tt
-own_foreseen order state (AnswerR id) own = tt
 own_foreseen order state (Take client) own = absurd (cc (own))
+own_foreseen order state step own = tt
 
 enabled_foreseen : (order : Order) (state : WorldState) (step : Step) → slice_get (enabled state) 0 ≡ Some step → IsForeseen order state step
 enabled_foreseen order state step first = own_foreseen order state step (all_at is_own (enabled state) 0 step (own_enabled state) first)

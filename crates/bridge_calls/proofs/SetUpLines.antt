@@ -21,65 +21,7 @@ use Rattle.bridge_calls.specs.SetUps.{OpensInOrder, SetUpState, line_done, set_u
 abbrev Stages : Type 0
 Stages = Stage SetupLists (Unit {0}) BridgeState
 
--- ---- no line has text
-
-IsSilent : LineStep Stages → Type 0
-IsSilent (Ok given) = given.0 ≡ []
-IsSilent (Err fault) = ⊤
-
-silent_err : (fault : ScriptFault) → IsSilent (Err fault)
-unfolding IsSilent
-silent_err fault = tt
-
-silent_ok : (stage : Stages) → IsSilent (Ok ([], stage))
-unfolding IsSilent
-silent_ok stage = refl
-
-silent_if : (b : Bool) (x y : LineStep Stages) → IsSilent x → IsSilent y → IsSilent (if b then x else y)
-silent_if true x y here there = here
-silent_if false x y here there = there
-
-silent_added : (number : ℕ) (added : Result Stages ℕ) → IsSilent (added_step number added)
-silent_added number (Ok added) = silent_ok added
-silent_added number (Err word) = silent_err (Script number word)
-
-silent_setup : (stage : Stages) (number : ℕ) (words : List (List ℕ)) (form : Form) → IsSilent (setup_step set_up_kind stage number words form)
-silent_setup stage number words form =
-    silent_if (not (set_up_kind.takes form) || is_misplaced set_up_kind stage form words) (Err (Script number 1)) (added_step number (set_up_with set_up_kind stage words form)) (silent_err (Script number 1))
-    (silent_added number (set_up_with set_up_kind stage words form))
-
-silent_other : (stage : Stages) (number : ℕ) (words : List (List ℕ)) → IsSilent (other_step set_up_kind stage number words)
-silent_other Opening number words = silent_err (Script number 1)
-silent_other (SettingUp setup own) number words = silent_err (Script number 1)
-silent_other (Running bridge) number words = silent_err (Script number 1)
-
-silent_form : (stage : Stages) (number : ℕ) (words : List (List ℕ)) (form : Option Form) → IsSilent (form_step set_up_kind stage number words form)
-silent_form stage number words None = silent_other stage number words
-silent_form stage number words (Some form) =
-    silent_if (is_setup_form form) (setup_step set_up_kind stage number words form) (other_step set_up_kind stage number words) (silent_setup stage number words form) (silent_other stage number words)
-
-silent_stage : (stage : Stages) (number : ℕ) (words : List (List ℕ)) → IsSilent (stage_step set_up_kind stage number words)
-silent_stage stage number words =
-    silent_if (nothing_written stage) (form_step set_up_kind stage number words (form_of (word_at words 1))) (Err (Script number 1)) (silent_form stage number words (form_of (word_at words 1))) (silent_err (Script number 1))
-
-silent_line : (stage : Stages) (number : ℕ) (line : List ℕ) → IsSilent (line_step set_up_reading stage number line)
-silent_line stage number line =
-    silent_if (not (is_plain_line line) || nat_lt 65536 number) (Err (Script number 0)) (if is_skipped (words_of line) then Ok ([], stage) else stage_step set_up_kind stage number (words_of line)) (silent_err (Script number 0))
-    (silent_if (is_skipped (words_of line)) (Ok ([], stage)) (stage_step set_up_kind stage number (words_of line)) (silent_ok stage) (silent_stage stage number (words_of line)))
-
-text_none : (stage next : Stages) (number : ℕ) (line text : List ℕ) → line_step set_up_reading stage number line ≡ Ok (text, next) → text ≡ []
-unfolding IsSilent
-text_none stage next number line text is = subst IsSilent is (silent_line stage number line)
-
--- nor has the end
-ended_none : (opened : Result BridgeState ScriptFault) → (ending_of set_up_kind opened).output ≡ []
-ended_none (Ok bridge) = refl
-ended_none (Err fault) = refl
-
-ending_none : (stage : Stages) (number : ℕ) → (stage_ending set_up_kind stage number).output ≡ []
-ending_none stage number = ended_none (world_at set_up_kind stage number)
-
--- ---- no line begins the model
+-- ---- no line has text, or begins the model
 
 -- a set-up that wasn't begun
 abbrev pub IsEarly : Stages → Type 0
@@ -87,22 +29,22 @@ IsEarly Opening = ⊤
 IsEarly (SettingUp setup own) = ⊤
 IsEarly (Running bridge) = ⊥
 
--- what a line leaves is no more
-StaysEarly : LineStep Stages → Type 0
-StaysEarly (Ok given) = IsEarly given.1
-StaysEarly (Err fault) = ⊤
+-- what a line leaves of one is no more
+IsQuiet : Stages → LineStep Stages → Type 0
+IsQuiet old (Ok given) = (given.0 ≡ []) × (IsEarly old → IsEarly given.1)
+IsQuiet old (Err fault) = ⊤
 
-early_err : (fault : ScriptFault) → StaysEarly (Err fault)
-unfolding StaysEarly
-early_err fault = tt
+quiet_err : (old : Stages) (fault : ScriptFault) → IsQuiet old (Err fault)
+unfolding IsQuiet
+quiet_err old fault = tt
 
-early_ok : (stage : Stages) → IsEarly stage → StaysEarly (Ok ([], stage))
-unfolding StaysEarly
-early_ok stage early = early
+quiet_same : (old : Stages) → IsQuiet old (Ok ([], old))
+unfolding IsQuiet
+quiet_same old = (refl, λ early. early)
 
-early_if : (b : Bool) (x y : LineStep Stages) → StaysEarly x → StaysEarly y → StaysEarly (if b then x else y)
-early_if true x y here there = here
-early_if false x y here there = there
+quiet_if : (old : Stages) (b : Bool) (x y : LineStep Stages) → IsQuiet old x → IsQuiet old y → IsQuiet old (if b then x else y)
+quiet_if old true x y here there = here
+quiet_if old false x y here there = there
 
 -- a set-up line leaves a set-up
 EarlyIfTold : Result Stages ℕ → Type 0
@@ -124,39 +66,56 @@ early_set_up : (stage : Stages) (words : List (List ℕ)) (form : Form) → Earl
 early_set_up stage words form.Config = told_early (λ setup. SettingUp setup set_up_kind.own_opening) (set_up_kind.set_up.of_config words) (λ setup. tt)
 early_set_up stage words form = early_line_of stage form words
 
-early_added : (number : ℕ) (added : Result Stages ℕ) → EarlyIfTold added → StaysEarly (added_step number added)
-unfolding StaysEarly EarlyIfTold
-early_added number (Ok stage) early = early
-early_added number (Err word) early = tt
+quiet_added : (old : Stages) (number : ℕ) (added : Result Stages ℕ) → EarlyIfTold added → IsQuiet old (added_step number added)
+unfolding IsQuiet EarlyIfTold
+quiet_added old number (Ok stage) early = (refl, λ was. early)
+quiet_added old number (Err word) early = tt
 
-early_setup : (stage : Stages) (number : ℕ) (words : List (List ℕ)) (form : Form) → StaysEarly (setup_step set_up_kind stage number words form)
-early_setup stage number words form =
-    early_if (not (set_up_kind.takes form) || is_misplaced set_up_kind stage form words) (Err (Script number 1)) (added_step number (set_up_with set_up_kind stage words form)) (early_err (Script number 1))
-    (early_added number (set_up_with set_up_kind stage words form) (early_set_up stage words form))
+module _ (stage : Stages) (number : ℕ) (words : List (List ℕ)) where
+  quiet_setup : (form : Form) → IsQuiet stage (setup_step set_up_kind stage number words form)
+  quiet_setup form =
+      quiet_if stage (not (set_up_kind.takes form) || is_misplaced set_up_kind stage form words) (Err (Script number 1)) (added_step number (set_up_with set_up_kind stage words form)) (quiet_err stage (Script number 1))
+      (quiet_added stage number (set_up_with set_up_kind stage words form) (early_set_up stage words form))
 
--- any other line has a fault
-early_other : (stage : Stages) (number : ℕ) (words : List (List ℕ)) → StaysEarly (other_step set_up_kind stage number words)
-early_other Opening number words = early_err (Script number 1)
-early_other (SettingUp setup own) number words = early_err (Script number 1)
-early_other (Running bridge) number words = early_err (Script number 1)
+  -- any other line has a fault
+  quiet_other : IsQuiet stage (other_step set_up_kind stage number words)
+  quiet_other = by_stage stage
+    where
+      by_stage : (old : Stages) → IsQuiet old (other_step set_up_kind old number words)
+      by_stage Opening = quiet_err Opening (Script number 1)
+      by_stage (SettingUp setup own) = quiet_err (SettingUp setup own) (Script number 1)
+      by_stage (Running bridge) = quiet_err (Running bridge) (Script number 1)
 
-early_form : (stage : Stages) (number : ℕ) (words : List (List ℕ)) (form : Option Form) → StaysEarly (form_step set_up_kind stage number words form)
-early_form stage number words None = early_other stage number words
-early_form stage number words (Some form) =
-    early_if (is_setup_form form) (setup_step set_up_kind stage number words form) (other_step set_up_kind stage number words) (early_setup stage number words form) (early_other stage number words)
+  quiet_form : (form : Option Form) → IsQuiet stage (form_step set_up_kind stage number words form)
+  quiet_form None = quiet_other
+  quiet_form (Some form) = quiet_if stage (is_setup_form form) (setup_step set_up_kind stage number words form) (other_step set_up_kind stage number words) (quiet_setup form) quiet_other
 
-early_stage : (stage : Stages) (number : ℕ) (words : List (List ℕ)) → StaysEarly (stage_step set_up_kind stage number words)
-early_stage stage number words =
-    early_if (nothing_written stage) (form_step set_up_kind stage number words (form_of (word_at words 1))) (Err (Script number 1)) (early_form stage number words (form_of (word_at words 1))) (early_err (Script number 1))
+  quiet_stage : IsQuiet stage (stage_step set_up_kind stage number words)
+  quiet_stage =
+      quiet_if stage (nothing_written stage) (form_step set_up_kind stage number words (form_of (word_at words 1))) (Err (Script number 1)) (quiet_form (form_of (word_at words 1))) (quiet_err stage (Script number 1))
 
-early_step_of : (stage : Stages) (number : ℕ) (line : List ℕ) → IsEarly stage → StaysEarly (line_step set_up_reading stage number line)
-early_step_of stage number line early =
-    early_if (not (is_plain_line line) || nat_lt 65536 number) (Err (Script number 0)) (if is_skipped (words_of line) then Ok ([], stage) else stage_step set_up_kind stage number (words_of line)) (early_err (Script number 0))
-    (early_if (is_skipped (words_of line)) (Ok ([], stage)) (stage_step set_up_kind stage number (words_of line)) (early_ok stage early) (early_stage stage number (words_of line)))
+quiet_line : (stage : Stages) (number : ℕ) (line : List ℕ) → IsQuiet stage (line_step set_up_reading stage number line)
+quiet_line stage number line =
+    quiet_if stage (not (is_plain_line line) || nat_lt 65536 number) (Err (Script number 0)) (if is_skipped (words_of line) then Ok ([], stage) else stage_step set_up_kind stage number (words_of line)) (quiet_err stage (Script number 0))
+    (quiet_if stage (is_skipped (words_of line)) (Ok ([], stage)) (stage_step set_up_kind stage number (words_of line)) (quiet_same stage) (quiet_stage stage number (words_of line)))
+
+left_quiet : (stage next : Stages) (number : ℕ) (line text : List ℕ) → line_step set_up_reading stage number line ≡ Ok (text, next) → (text ≡ []) × (IsEarly stage → IsEarly next)
+unfolding IsQuiet
+left_quiet stage next number line text is = subst (IsQuiet stage) is (quiet_line stage number line)
+
+text_none : (stage next : Stages) (number : ℕ) (line text : List ℕ) → line_step set_up_reading stage number line ≡ Ok (text, next) → text ≡ []
+text_none stage next number line text is = (left_quiet stage next number line text is).0
 
 pub early_line : (old after : SetUpState) (line : List ℕ) → IsEarly (stage_in old) → line_done old line ≡ Ok ([], stage_in after) → IsEarly (stage_in after)
-unfolding StaysEarly
-early_line old after line early is = subst StaysEarly is (early_step_of (stage_in old) (old.number + 1) (strip_carriage_return line) early)
+early_line old after line early is = (left_quiet (stage_in old) (stage_in after) (old.number + 1) (strip_carriage_return line) [] is).1 early
+
+-- nor has the end text
+ended_none : (opened : Result BridgeState ScriptFault) → (ending_of set_up_kind opened).output ≡ []
+ended_none (Ok bridge) = refl
+ended_none (Err fault) = refl
+
+ending_none : (stage : Stages) (number : ℕ) → (stage_ending set_up_kind stage number).output ≡ []
+ending_none stage number = ended_none (world_at set_up_kind stage number)
 
 -- ---- a line
 

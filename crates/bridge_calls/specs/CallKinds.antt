@@ -1,5 +1,5 @@
 -- What the words of a call say: which call it is, how many words it wants, and the step that it makes (this project's profile).
-use Rattle.std.specs.Prelude.{ℕ, ◌/◌, ◌%◌, ◌==◌, List, Option, Some, None, get_or, if◌then◌else◌}
+use Rattle.std.specs.Prelude.{ℕ, ◌/◌, ◌%◌, List, [], ◌∷◌, Option, Some, None, get_or}
 use Rattle.tl_messages.specs.declared.ABeat.{ABeat}
 use Rattle.world.specs.declared.Step.{Step}
 use Rattle.world.specs.declared.Step.TheVariants as step
@@ -9,40 +9,17 @@ use Rattle.call_words.specs.declared.session.HandleCall.TheVariants as which
 use Rattle.bridge_calls.specs.declared.kinds.CallKind.{CallKind}
 use Rattle.bridge_calls.specs.declared.kinds.CallKind.TheVariants as kind
 
--- what is called, by the lowest byte of the head
-abbrev pub kind_by : ℕ → CallKind
-kind_by number =
-    if number == 0 then kind.Offer
-    else (if number == 1 then kind.Pump
-    else (if number == 2 then kind.Perform
-    else (if number == 3 then kind.AnswerB
-    else (if number == 4 then kind.AnswerR
-    else (if number == 5 then kind.Take
-    else (if number == 6 then kind.Drain
-    else (if number == 7 then kind.Line
-    else (if number == 8 then kind.Begin
-    else (if number == 9 then kind.Close
-    else (if number == 10 then kind.FaultLength
-    else (if number == 11 then kind.TextByte
-    else (if number == 12 then kind.AnswerNumber
-    else (if number == 13 then kind.AnswerPayload
-    else (if number == 14 then kind.Choices
-    else (if number == 15 then kind.Choice
-    else (if number == 16 then kind.ChoiceSerial
-    else (if number == 17 then kind.Byte
-    else (if number == 18 then kind.Work
-    else (if number == 19 then kind.InFlight
-    else (if number == 20 then kind.Burst
-    else (if number == 21 then kind.BurstAddress
-    else (if number == 22 then kind.BurstData
-    else (if number == 23 then kind.BurstStrobes
-    else (if number == 24 then kind.ReplyBeats
-    else (if number == 25 then kind.ReplyFields
-    else (if number == 26 then kind.ReplyPayload
-    else kind.None))))))))))))))))))))))))))
+-- what is called, by the number that it has
+abbrev pub kinds : List CallKind
+kinds =
+    kind.Offer ∷ kind.Pump ∷ kind.Perform ∷ kind.AnswerB ∷ kind.AnswerR ∷ kind.Take ∷ kind.Drain ∷ kind.Line ∷ kind.Begin
+    ∷ kind.Close ∷ kind.FaultLength ∷ kind.TextByte ∷ kind.AnswerNumber ∷ kind.AnswerPayload ∷ kind.Choices ∷ kind.Choice
+    ∷ kind.ChoiceSerial ∷ kind.Byte ∷ kind.Work ∷ kind.InFlight ∷ kind.Burst ∷ kind.BurstAddress ∷ kind.BurstData
+    ∷ kind.BurstStrobes ∷ kind.ReplyBeats ∷ kind.ReplyFields ∷ kind.ReplyPayload ∷ []
 
+-- by the lowest byte of the head
 abbrev pub kind_of : ℕ → CallKind
-kind_of head = kind_by (head % 256)
+kind_of head = get_or kinds (head % 256) kind.None
 
 -- those that every handle has
 abbrev pub call_by : CallKind → HandleCall

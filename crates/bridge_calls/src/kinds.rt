@@ -1,6 +1,7 @@
 //! What the words of a call say: which call it is, how many words it wants, and the step that it makes.
 ghost use Rattle.std.specs.Prelude.{◌≡◌, ◌%◌, get_or};
-ghost use Rattle.bridge_calls.specs.CallKinds.{kind_of, offer_beat, short_in, step_in};
+ghost use Rattle.bridge_calls.specs.CallKinds.{kind_of, kinds, offer_beat, short_in, step_in};
+ghost use Rattle.bridge_calls.specs.declared.kinds.CallKind.TheVariants as kind;
 
 use call_words::{byte_in, flag_in, low_in, word_at};
 use tl_messages::ABeat;
@@ -67,40 +68,57 @@ pub(crate) enum CallKind {
     None,
 }
 
+/// What is called, by the number that it has.
+fn kinds() -> &'static [CallKind]
+    ensures { result.now ≡ kinds }
+{
+    &[
+        CallKind::Offer,
+        CallKind::Pump,
+        CallKind::Perform,
+        CallKind::AnswerB,
+        CallKind::AnswerR,
+        CallKind::Take,
+        CallKind::Drain,
+        CallKind::Line,
+        CallKind::Begin,
+        CallKind::Close,
+        CallKind::FaultLength,
+        CallKind::TextByte,
+        CallKind::AnswerNumber,
+        CallKind::AnswerPayload,
+        CallKind::Choices,
+        CallKind::Choice,
+        CallKind::ChoiceSerial,
+        CallKind::Byte,
+        CallKind::Work,
+        CallKind::InFlight,
+        CallKind::Burst,
+        CallKind::BurstAddress,
+        CallKind::BurstData,
+        CallKind::BurstStrobes,
+        CallKind::ReplyBeats,
+        CallKind::ReplyFields,
+        CallKind::ReplyPayload,
+    ]
+}
+
+/// The kind at a place of a table; none behind its end.
+fn kind_at(table: &[CallKind], place: usize) -> CallKind
+    ensures { result ≡ get_or table.now place kind.None }
+{
+    match table.get(place) {
+        Some(kind) => *kind,
+        None => CallKind::None,
+    }
+}
+
 /// What a head says is called: by its lowest byte.
 pub(crate) fn kind_of(head: u64) -> CallKind
     ensures { result ≡ kind_of head }
 {
-    match head % 256 {
-        0 => CallKind::Offer,
-        1 => CallKind::Pump,
-        2 => CallKind::Perform,
-        3 => CallKind::AnswerB,
-        4 => CallKind::AnswerR,
-        5 => CallKind::Take,
-        6 => CallKind::Drain,
-        7 => CallKind::Line,
-        8 => CallKind::Begin,
-        9 => CallKind::Close,
-        10 => CallKind::FaultLength,
-        11 => CallKind::TextByte,
-        12 => CallKind::AnswerNumber,
-        13 => CallKind::AnswerPayload,
-        14 => CallKind::Choices,
-        15 => CallKind::Choice,
-        16 => CallKind::ChoiceSerial,
-        17 => CallKind::Byte,
-        18 => CallKind::Work,
-        19 => CallKind::InFlight,
-        20 => CallKind::Burst,
-        21 => CallKind::BurstAddress,
-        22 => CallKind::BurstData,
-        23 => CallKind::BurstStrobes,
-        24 => CallKind::ReplyBeats,
-        25 => CallKind::ReplyFields,
-        26 => CallKind::ReplyPayload,
-        _ => CallKind::None,
-    }
+    let table = kinds();
+    kind_at(table, (head % 256) as usize)
 }
 
 /// The two lowest bytes of a word.

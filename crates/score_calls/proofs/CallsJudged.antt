@@ -36,7 +36,7 @@ use Rattle.scoreboard.specs.declared.Policy.{Policy}
 use Rattle.scoreboard.specs.declared.Policy.TheVariants.{AcceptanceOrder}
 use Rattle.scoreboard.specs.declared.ReplyRule.{ReplyRule}
 use Rattle.scoreboard.specs.declared.Wrong.{Wrong}
-use Rattle.scoreboard.specs.declared.Wrong.TheVariants.{NoClient, Request, Reply, Axi, Place, UnknownAxi, UnknownRequest}
+use Rattle.scoreboard.specs.declared.Wrong.TheVariants.{NoClient, UnknownAxi, UnknownRequest}
 use Rattle.scoreboard.proofs.acceptance_order.Reached.{right_exactly}
 use Rattle.scoreboard.proofs.held.AllKnown.{FitsBeat, known-after, known-wrong}
 use Rattle.score_script.specs.Observations.{CallTold, Observing, ObservationState, SetUpState, after_call, finding_code, first_code, observing_code, observing_of, next_number, stage_in, wrong_code}
@@ -53,7 +53,7 @@ use Rattle.score_setup.specs.ScoreSetups.{RangeLists, one_by_one, score_setup_fa
 use Rattle.setups.specs.declared.SetupFault.{SetupFault}
 use Rattle.script_text.specs.Stages.{GivesWorld, SettingUp as SaidSetUp, Stage as Stages, set_up_as, unless_refused, world_at}
 use Rattle.script_text.specs.declared.faults.ScriptFault.{ScriptFault}
-use Rattle.script_text.specs.declared.faults.ScriptFault.TheVariants.{Script, Setup, Read, Write, NoMemory}
+use Rattle.script_text.specs.declared.faults.ScriptFault.TheVariants.{Script}
 use Rattle.score_calls.specs.Answers.{answer_of}
 use Rattle.score_calls.specs.CallCommands.{command_by, command_in}
 use Rattle.score_calls.specs.CallWords.{call_by, call_of, kind_of, wanted_by, words_wanted}
@@ -67,20 +67,12 @@ use Rattle.score_calls.specs.declared.words.CallKind.TheVariants as kind
 -- what is wrong has a number above 0
 wrong_above : (wrong : Wrong) → 0 < wrong_code wrong
 wrong_above NoClient = omega arith
-wrong_above (Request rule) = omega arith
-wrong_above (Reply rule due) = omega arith
-wrong_above (Axi rule) = omega arith
-wrong_above UnknownRequest = omega arith
-wrong_above UnknownAxi = omega arith
-wrong_above Place = omega arith
+wrong_above wrong = omega arith
 
 -- and a fault one of 33 bits and more
 fault_above : (fault : ScriptFault) → 4294967296 ≤ fault_answer fault
 fault_above (Script line word) = omega arith
-fault_above (Setup fault) = omega arith
-fault_above Read = omega arith
-fault_above Write = omega arith
-fault_above NoMemory = omega arith
+fault_above fault = omega arith
 
 -- the number of what was found of a beat, by the verdict
 abbrev code_of_verdict : Line → ObservedBeat → Option Wrong → ℕ
@@ -156,14 +148,9 @@ option_or-None (Some x) = refl
 -- what the board says of one of which all is known
 known_verdict : (x_data : Bool) (verdict : Option Wrong) → IsOfBoard verdict → without_data x_data verdict ≡ verdict
 known_verdict false verdict of = refl
-known_verdict true None of = refl
-known_verdict true (Some NoClient) of = refl
-known_verdict true (Some (Request rule)) of = refl
-known_verdict true (Some (Reply rule due)) of = refl
-known_verdict true (Some (Axi rule)) of = refl
-known_verdict true (Some Place) of = refl
 known_verdict true (Some UnknownRequest) of = absurd of
 known_verdict true (Some UnknownAxi) of = absurd of
+known_verdict true verdict of = refl
 
 module _ (errors : Errors) (heard : Heard) (score : Score) (has : HasHeard errors heard score) where
   settles : settling score ≡ (None, score)
@@ -275,13 +262,7 @@ module _ (errors : Errors) (heard : Heard) (old : ObservationState) (has : HasHe
           (hears_beat errors heard score has seen fits known (none_wrong (line_at score number) seen.beat (verdict_on score seen) (sym (code_is seen fits known) ∙ none)))
       by_command (command.Fill address bytes) fits plain may none = hears_filling errors heard score has number address bytes may
       by_command (command.Time time) fits plain may none = hears_time errors heard score has number time
-      by_command (command.Unknown port client) fits plain may none = absurd (cc (plain))
-      by_command (command.Byte address) fits plain may none = absurd (cc (plain))
-      by_command command.Withdrawal fits plain may none = absurd (cc (plain))
-      by_command command.Answer fits plain may none = absurd (cc (plain))
-      by_command command.Waited fits plain may none = absurd (cc (plain))
-      by_command command.Reset fits plain may none = absurd (cc (plain))
-      by_command command.End fits plain may none = absurd (cc (plain))
+      by_command given fits plain may none = absurd (cc (plain))
 
   hears_said : (said : Command) (after : ObservationState) (answer : ℕ) → FitsSaid said → is_plain said ≡ true → answer ≡ 0 → Commanded old said after answer
       → HasHeard errors (heard_with heard said) (score_of after.score)

@@ -1,6 +1,7 @@
 //! The words of a call: its head, which says what is called, and those behind it.
-ghost use Rattle.std.specs.Prelude.{◌≡◌};
-ghost use Rattle.score_calls.specs.CallWords.{kind_of};
+ghost use Rattle.std.specs.Prelude.{◌≡◌, get_or};
+ghost use Rattle.score_calls.specs.CallWords.{kind_of, kinds};
+ghost use Rattle.score_calls.specs.declared.words.CallKind.TheVariants as kind;
 
 /// What is called.
 #[derive(Clone, Copy)]
@@ -61,37 +62,54 @@ pub(crate) enum CallKind {
     None,
 }
 
+/// What is called, by the number that it has.
+fn kinds() -> &'static [CallKind]
+    ensures { result.now ≡ kinds }
+{
+    &[
+        CallKind::A,
+        CallKind::D,
+        CallKind::Aw,
+        CallKind::W,
+        CallKind::B,
+        CallKind::Ar,
+        CallKind::R,
+        CallKind::Unknown,
+        CallKind::Fill,
+        CallKind::Time,
+        CallKind::Drained,
+        CallKind::Reset,
+        CallKind::End,
+        CallKind::Line,
+        CallKind::Begin,
+        CallKind::Close,
+        CallKind::TextLength,
+        CallKind::FaultLength,
+        CallKind::TextByte,
+        CallKind::Outstanding,
+        CallKind::OpenBursts,
+        CallKind::Judged,
+        CallKind::Wrong,
+        CallKind::Told,
+        CallKind::Compared,
+        CallKind::Byte,
+    ]
+}
+
+/// The kind at a place of a table; none behind its end.
+fn kind_at(table: &[CallKind], place: usize) -> CallKind
+    ensures { result ≡ get_or table.now place kind.None }
+{
+    match table.get(place) {
+        Some(kind) => *kind,
+        None => CallKind::None,
+    }
+}
+
 /// What a head says is called: by its lowest byte.
 pub(crate) fn kind_of(head: u64) -> CallKind
     ensures { result ≡ kind_of head }
 {
-    match head % 256 {
-        0 => CallKind::A,
-        1 => CallKind::D,
-        2 => CallKind::Aw,
-        3 => CallKind::W,
-        4 => CallKind::B,
-        5 => CallKind::Ar,
-        6 => CallKind::R,
-        7 => CallKind::Unknown,
-        8 => CallKind::Fill,
-        9 => CallKind::Time,
-        10 => CallKind::Drained,
-        11 => CallKind::Reset,
-        12 => CallKind::End,
-        13 => CallKind::Line,
-        14 => CallKind::Begin,
-        15 => CallKind::Close,
-        16 => CallKind::TextLength,
-        17 => CallKind::FaultLength,
-        18 => CallKind::TextByte,
-        19 => CallKind::Outstanding,
-        20 => CallKind::OpenBursts,
-        21 => CallKind::Judged,
-        22 => CallKind::Wrong,
-        23 => CallKind::Told,
-        24 => CallKind::Compared,
-        25 => CallKind::Byte,
-        _ => CallKind::None,
-    }
+    let table = kinds();
+    kind_at(table, (head % 256) as usize)
 }

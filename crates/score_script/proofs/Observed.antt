@@ -23,8 +23,6 @@ next_within number = let most : next_number number ≤ 4294967294 = omega arith 
 pub next_is : (number : ℕ) → number < 4294967294 → next_number number ≡ number + 1
 next_is number within = omega (arith, within)
 
--- ---- texts
-
 -- ---- a line
 
 pub skipped_line : (score : Score) (number : ℕ) (line : List ℕ) → is_plain_line line ≡ true → nat_lt 4294967294 number ≡ false → is_skipped (words_of line) ≡ true
@@ -40,11 +38,11 @@ pub command_line : (score : Score) (number : ℕ) (line : List ℕ) (said : Comm
 command_line score number line said plain within some read = rw (plain, within, some, read) refl
 
 -- nothing is found of a line that is skipped
-quiet_text : (seen : Observing) → seen.found.findings.held ≡ None → seen.found.findings.own ≡ None → seen.found.over ≡ false → observing_text seen ≡ []
+quiet_text : (seen : Observing) → seen.found.held ≡ None → seen.found.own ≡ None → seen.found.over ≡ false → observing_text seen ≡ []
 quiet_text seen held own over = rw (held, own, over) refl
 
 pub skipped_told : (old new : Observing) (line : List ℕ) → is_plain_line (strip_carriage_return line) ≡ true → is_skipped (words_of (strip_carriage_return line)) ≡ true → new.score ≡ old.score
-    → new.found.findings.held ≡ None → new.found.findings.own ≡ None → new.found.over ≡ false → line_done old line ≡ Ok (observing_text new, Running new.score)
+    → new.found.held ≡ None → new.found.own ≡ None → new.found.over ≡ false → line_done old line ≡ Ok (observing_text new, Running new.score)
 skipped_told old new line plain skipped score held own over =
     skipped_line old.score (next_number old.number) (strip_carriage_return line) plain (next_within old.number) skipped
     ∙ ap₂ (λ (text : List ℕ) (s : Score). Ok (text, Running s)) (sym (quiet_text new held own over)) (sym score)
@@ -56,22 +54,16 @@ command_goes score number said none = rw none refl
 -- by what the score does
 told_by : (old new : Observing) (line : List ℕ) (said : Command) (wrong : Option ℕ) (told : Result ℕ ScriptFault) → line_done old line ≡ command_step score_kind (Ok old.score) (next_number old.number) said
     → wrong_command old.score said ≡ wrong → TakeTold old (next_number old.number) said new told → LineTold old line new told
-told_by old new line said None (Ok code) done none (may, score, text, number, is) =
-    (done ∙ rw none (ap₂ (λ (t : List ℕ) (s : Score). Ok (t, Running s)) (sym text) (sym score)), number, is)
-told_by old new line said (Some word) (Ok code) done some (may, score, text, number, is) = absurd (search (rules, some, may))
-told_by old new line said None (Err (Script at word)) done none (why, stops) = absurd (search (rules, none, why))
-told_by old new line said (Some wrong) (Err (Script at word)) done some (why, stops) =
-    let fault : Script at word ≡ Script (next_number old.number) wrong = subst (λ (w : Option ℕ). FailsBy (next_number old.number) w (Script at word)) some why in
-    (done ∙ rw some (ap (λ (f : ScriptFault). Err f) (sym fault)), stops)
-told_by old new line said None (Err NoMemory) done none (why, stops) =
+told_by old new line said None (Ok code) done none (may, after, is) =
+    (done ∙ rw none (ap (λ (seen : Observing). Ok (observing_text seen, Running seen.score)) (sym after)), ap (λ (seen : Observing). seen.number) after, is)
+told_by old new line said (Some word) (Ok code) done some (may, after, is) = absurd (search (rules, some, may))
+told_by old new line said None (Err fault) done none (why, stops) =
+    let memory : fault ≡ NoMemory = subst (λ (w : Option ℕ). FailsBy (next_number old.number) w fault) none why in
+    subst (λ (f : ScriptFault). LineTold old line new (Err f)) (sym memory)
     (subst (λ (step : LineStep (Stage RangeLists Asked Score)). IsOk step) (sym done) (command_goes old.score (next_number old.number) said none), stops)
-told_by old new line said (Some wrong) (Err NoMemory) done some (why, stops) = absurd (search (rules, some, why))
-told_by old new line said None (Err (Setup fault)) done none (why, stops) = absurd (search (rules, none, why))
-told_by old new line said (Some wrong) (Err (Setup fault)) done some (why, stops) = absurd (search (rules, some, why))
-told_by old new line said None (Err Read) done none (why, stops) = absurd (search (rules, none, why))
-told_by old new line said (Some wrong) (Err Read) done some (why, stops) = absurd (search (rules, some, why))
-told_by old new line said None (Err Write) done none (why, stops) = absurd (search (rules, none, why))
-told_by old new line said (Some wrong) (Err Write) done some (why, stops) = absurd (search (rules, some, why))
+told_by old new line said (Some wrong) (Err fault) done some (why, stops) =
+    let at : fault ≡ Script (next_number old.number) wrong = subst (λ (w : Option ℕ). FailsBy (next_number old.number) w fault) some why in
+    subst (λ (f : ScriptFault). LineTold old line new (Err f)) (sym at) (done ∙ rw some refl, stops)
 
 pub line_told : (old new : Observing) (line : List ℕ) (said : Command) (told : Result ℕ ScriptFault) → line_done old line ≡ command_step score_kind (Ok old.score) (next_number old.number) said
     → TakeTold old (next_number old.number) said new told → LineTold old line new told

@@ -1,19 +1,17 @@
 -- An observation that is judged call by call (this project's profile).
-use Rattle.std.specs.Prelude.{ℕ, ◌≡◌, ◌⊎◌, ◌+◌, ◌<◌, Bool, true, false, List, [], ◌++◌, min, Option, Some, None, Result, Ok, Err, IsOk, if◌then◌else◌, nat_lt}
+use Rattle.std.specs.Prelude.{ℕ, ◌≡◌, ◌⊎◌, ◌+◌, ◌<◌, Bool, true, false, List, [], min, Option, Some, None, Result, Ok, Err, IsOk, if◌then◌else◌, nat_lt}
 use Rattle.std.specs.Str.Lines.{strip_carriage_return}
 use Rattle.axi_checker.specs.Names.{rule_number}
-use Rattle.score_script.specs.FindingTexts.{optional_text}
 use Rattle.score_script.specs.Profiles.{PolicyBoard}
 use Rattle.score_script.specs.ScoreStates.{score_of}
-use Rattle.score_script.specs.Scores.{FailsBy, Score, called_score, commanded_score, finds, finds_at_once, finds_text, line_at, score_reading, settling, wrong_command}
-use Rattle.score_script.specs.UnansweredTexts.{unanswered_code, unanswered_text}
+use Rattle.score_script.specs.Scores.{FailsBy, Score, called_score, commanded_score, finds, finds_at_once, score_reading, settling, told_of, told_text, wrong_command}
+use Rattle.score_script.specs.UnansweredTexts.{unanswered_code}
 use Rattle.score_script.specs.declared.findings.Finding.{Finding}
 use Rattle.score_script.specs.declared.findings.Finding.TheVariants as finding
-use Rattle.score_script.specs.declared.observation.Found.{Found}
+use Rattle.score_script.specs.declared.findings.Findings.{Findings}
 use Rattle.score_script.specs.declared.profiles.Asked.{Asked}
 use Rattle.score_script.specs.declared.score.Command.{Command}
 use Rattle.score_script.specs.declared.score.Score.{Score as HeldScore}
-use Rattle.score_script.specs.declared.score.Command.TheVariants as command
 use Rattle.score_setup.specs.ScoreSetups.{RangeLists, ranges_of}
 use Rattle.score_setup.specs.declared.ScoreSetup.{ScoreSetup}
 use Rattle.scoreboard.specs.Names.{reply_rule_number}
@@ -60,13 +58,13 @@ first_code code next = if nat_lt 0 code then code else next
 pub record Observing : Type 0 where
   pub score : Score
   pub number : ℕ
-  pub found : Found
+  pub found : Findings
 
 -- what a contract sees of one
 pub record ObservationState : Type 0 where
   pub score : HeldScore
   pub number : ℕ
-  pub found : Found
+  pub found : Findings
 
 -- the same, with its score said by bytes
 abbrev pub observing_of : ObservationState → Observing
@@ -76,36 +74,26 @@ observing_of held = record { score = score_of held.score; number = held.number; 
 abbrev pub next_number : ℕ → ℕ
 next_number number = min (number + 1) 4294967294
 
--- the lines of what has no answer, where it was said that the observation is over
-abbrev pub over_text : Score → ℕ → Bool → List ℕ
-over_text score number false = []
-over_text score number true = unanswered_text (line_at score number) score.board.board
-
 -- the lines of what the last line or call found
 abbrev pub observing_text : Observing → List ℕ
-observing_text seen =
-    optional_text seen.found.findings.held
-    ++ (optional_text seen.found.findings.own ++ over_text seen.score seen.number seen.found.over)
+observing_text seen = told_text seen.score seen.number seen.found
 
 -- the number of the first of them
 abbrev pub observing_code : Observing → ℕ
 observing_code seen =
-    first_code (finding_code seen.found.findings.held) (first_code (finding_code seen.found.findings.own) (over_code seen.score.board seen.found.over))
-
--- nothing was found yet
-abbrev pub nothing_found : Found
-nothing_found = record { findings = record { held = None; own = None }; over = false }
+    first_code (finding_code seen.found.held) (first_code (finding_code seen.found.own) (over_code seen.score.board seen.found.over))
 
 -- ---- a command that was read
 
--- its text is what was found, and its answer the code of that; or it has a fault
+-- the observation after it
+abbrev pub after_command : Observing → ℕ → Command → Observing
+after_command seen number said =
+    record { score = commanded_score seen.score number said; number = number; found = told_of (finds seen.score number said) }
+
+-- it is carried out, and its answer is the code of what it finds; or it has a fault
 abbrev pub TakeTold : Observing → ℕ → Command → Observing → Result ℕ ScriptFault → Type 0
 TakeTold old number said new (Ok code) =
-    (wrong_command old.score said ≡ None)
-    × (new.score ≡ commanded_score old.score number said)
-    × (observing_text new ≡ finds_text (finds old.score number said))
-    × (new.number ≡ number)
-    × (code ≡ observing_code new)
+    (wrong_command old.score said ≡ None) × (new ≡ after_command old number said) × (code ≡ observing_code new)
 TakeTold old number said new (Err fault) = FailsBy number (wrong_command old.score said) fault × (new ≡ old)
 
 -- ---- a line
@@ -119,32 +107,21 @@ abbrev pub LineTold : Observing → List ℕ → Observing → Result ℕ Script
 LineTold old line new (Ok code) =
     (line_done old line ≡ Ok (observing_text new, Running new.score)) × (new.number ≡ next_number old.number) × (code ≡ observing_code new)
 LineTold old line new (Err (Script at word)) = (line_done old line ≡ Err (Script at word)) × (new ≡ old)
-LineTold old line new (Err (Setup fault)) = ⊥
-LineTold old line new (Err Read) = ⊥
-LineTold old line new (Err Write) = ⊥
 LineTold old line new (Err NoMemory) = IsOk (line_done old line) × (new ≡ old)
+LineTold old line new (Err fault) = ⊥
 
 -- ---- a command that is called
-
-abbrev pub is_end : Command → Bool
-is_end command.End = true
-is_end _ = false
-
--- what it finds
-abbrev pub found_by : Observing → Command → Found
-found_by seen said =
-    let finds = finds_at_once seen.score (next_number seen.number) said in
-    record { findings = record { held = finds.held; own = finds.own }; over = is_end said }
 
 -- the observation after it
 abbrev pub after_call : Observing → Command → Observing
 after_call seen said =
-    record { score = called_score seen.score (next_number seen.number) said; number = next_number seen.number; found = found_by seen said }
+    let number = next_number seen.number in
+    record { score = called_score seen.score number said; number = number; found = told_of (finds_at_once seen.score number said) }
 
 -- what is told where only the held beat was judged: what was found of it, or else what was told before
-abbrev pub found_left : Found → Option Finding → Found
+abbrev pub found_left : Findings → Option Finding → Findings
 found_left found None = found
-found_left found (Some told) = record { findings = record { held = Some told; own = None }; over = false }
+found_left found (Some told) = record { held = Some told; own = None; over = false }
 
 -- the observation where only the held beat was judged
 abbrev pub after_held : Observing → Observing

@@ -7,6 +7,7 @@ use Rattle.score_script.specs.ObservedLines.{command_of, only_settles}
 use Rattle.score_script.specs.Profiles.{PolicyBoard, after_seen, bursts_open, byte_in, can_fill_in, errors_of, filled_in, nothing_asked, opening_board, own_line, policy_of, replies_open, reset_in, telling_in, wrong_in}
 use Rattle.score_script.specs.declared.findings.Finding.{Finding}
 use Rattle.score_script.specs.declared.findings.Finding.TheVariants as finding
+use Rattle.score_script.specs.declared.findings.Findings.{Findings}
 use Rattle.score_script.specs.declared.findings.Line.{Line}
 use Rattle.score_script.specs.declared.lines.Channel.{Channel}
 use Rattle.score_script.specs.declared.lines.Channel.TheVariants as channel
@@ -152,28 +153,32 @@ LeavesBy None old before new told = Leaves old before new told
 
 -- ---- commands
 
--- what a line finds: of the beat that was held, and of its own; and the lines of what has no answer, where it ends the observation
+-- what a line finds: of the beat that was held, and of its own; and whether it says that the observation is over, so that what has no answer is wrong
 pub record Finds : Type 0 where
   pub held : Option Finding
   pub own : Option Finding
-  pub unanswered : List ℕ
+  pub over : Bool
   pub after : Score
 
 -- the held beat was judged, and the line finds nothing else
 abbrev pub settled_alone : Option Finding × Score → Finds
-settled_alone settled = record { held = settled.0; own = None; unanswered = []; after = settled.1 }
+settled_alone settled = record { held = settled.0; own = None; over = false; after = settled.1 }
 
 -- nothing is found
 abbrev pub finds_nothing : Score → Finds
-finds_nothing after = record { held = None; own = None; unanswered = []; after = after }
+finds_nothing after = settled_alone (None, after)
+
+-- the held beat was judged, and so is this one
+abbrev pub judged_behind : Option Finding × Score → Line → SeenBeat → Finds
+judged_behind settled line seen =
+    let judged = judging settled.1 line seen in
+    record (settled_alone settled) { own = judged.0; after = judged.1 }
 
 -- a beat on channel A is held, all else is judged
 abbrev pub observed_as : Option Finding × Score → Line → ObservedBeat → ℕ → Finds
 observed_as settled line (A client beat) unknown =
     record (settled_alone settled) { after = record settled.1 { held = Some (record { line = line; client = client; beat = beat; unknown = unknown }) } }
-observed_as settled line beat unknown =
-    let judged = judging settled.1 line (record { beat = beat; unknown = unknown }) in
-    record (settled_alone settled) { own = judged.0; after = judged.1 }
+observed_as settled line beat unknown = judged_behind settled line (record { beat = beat; unknown = unknown })
 
 -- what a line of an observed beat finds
 abbrev pub observing : Option Finding × Score → Line → SeenBeat → Finds
@@ -202,11 +207,6 @@ wrong_at_end score =
     with_more (with_more (with_more (with_more score.wrong (replies_open score.board)) (bursts_open score.board)) (writes_without_address score.board.board.axi))
     (messages_begun score.board.board.clients)
 
--- the lines of what has no answer, where a command of this line says that the observation is over
-abbrev pub unanswered_by : Score → ℕ → Command → List ℕ
-unanswered_by score number command.End = unanswered_text (line_at score number) score.board.board
-unanswered_by score number _ = []
-
 -- the score where it is over
 abbrev pub ended_score : Score → Score
 ended_score score = record score { ended = true; wrong = wrong_at_end score }
@@ -220,9 +220,8 @@ abbrev pub reset_behind : Option Finding × Score → Finds
 reset_behind settled = record (settled_alone settled) { after = reset_score settled.1 }
 
 -- the held beat was judged, and the observation is over
-abbrev pub over : Option Finding × Score → ℕ → Finds
-over settled number =
-    record (settled_alone settled) { unanswered = unanswered_text (line_at settled.1 number) settled.1.board.board; after = ended_score settled.1 }
+abbrev pub ended_behind : Option Finding × Score → Finds
+ended_behind settled = record (settled_alone settled) { over = true; after = ended_score settled.1 }
 
 -- what a line of this number finds. The held beat is judged first, but where the line withdraws it; another answer and a wait find nothing of
 -- their own
@@ -237,16 +236,9 @@ finds score number (command.Fill address bytes) = finds_nothing (record score { 
 finds score number (command.Time time) = record (settled_alone (settling score)) { after = record (settling score).1 { time = Some time } }
 finds score number command.Waited = settled_alone (settling score)
 finds score number command.Reset = reset_behind (settling score)
-finds score number command.End = over (settling score) number
+finds score number command.End = ended_behind (settling score)
 
--- ---- commands that are called, and not read: a beat is judged at once, since nobody withdraws it
-
--- the held beat was judged, and so is this one
-abbrev pub judged_behind : Option Finding × Score → Line → SeenBeat → Finds
-judged_behind settled line seen =
-    let judged = judging settled.1 line seen in
-    record (settled_alone settled) { own = judged.0; after = judged.1 }
-
+-- the same of a command that is called, and not read: a beat is judged at once, since nobody withdraws it
 abbrev pub finds_at_once : Score → ℕ → Command → Finds
 finds_at_once score number (command.Observed seen) = judged_behind (settling score) (line_at score number) seen
 finds_at_once score number said = finds score number said
@@ -302,13 +294,26 @@ counts_of score =
       open_bursts = bursts_open score.board;
     }
 
--- the lines of what a line finds
-abbrev pub finds_text : Finds → List ℕ
-finds_text given = optional_text given.held ++ (optional_text given.own ++ given.unanswered)
+-- the lines of what has no answer, where it was said that the observation is over
+abbrev pub over_text : Score → ℕ → Bool → List ℕ
+over_text score number false = []
+over_text score number true = unanswered_text (line_at score number) score.board.board
 
--- what a command writes, and the score after it, or its wrong word
+-- what is told of a line, and its lines, by the score after it
+abbrev pub told_of : Finds → Findings
+told_of given = record { held = given.held; own = given.own; over = given.over }
+
+abbrev pub told_text : Score → ℕ → Findings → List ℕ
+told_text score number told = (optional_text told.held ++ optional_text told.own) ++ over_text score number told.over
+
+-- what a command writes, and the score after it
+abbrev pub carried_out : Score → ℕ → Command → List ℕ × Score
+carried_out score number said =
+    (told_text (commanded_score score number said) number (told_of (finds score number said)), commanded_score score number said)
+
+-- or its wrong word
 abbrev pub commanded : Score → ℕ → Command → Result (List ℕ × Score) ℕ
-commanded score number said = unless_wrong (finds_text (finds score number said), commanded_score score number said) (wrong_command score said)
+commanded score number said = unless_wrong (carried_out score number said) (wrong_command score said)
 
 -- ---- where memory may be asked for
 

@@ -11,6 +11,7 @@ use Rattle.script_text.specs.declared.faults.ScriptFault.TheVariants.{NoMemory}
 pub record Gives (finds : Finds) (told : Findings) (new : Score) : Type 0 where
   pub held : told.held ≡ finds.held
   pub own : told.own ≡ finds.own
+  pub over : told.over ≡ finds.over
   pub after : new ≡ finds.after
 
 -- memory was refused where the held beat asks for it: nothing has changed, and nothing was told of it

@@ -1,5 +1,5 @@
 //! The lines of what is wrong, and of what was found at the end.
-ghost use Rattle.std.specs.Prelude.{◌≡◌, None, ◌++◌, OnOk};
+ghost use Rattle.std.specs.Prelude.{◌≡◌, None, ◌++◌, OnOk, false};
 ghost use Rattle.std.specs.Io.KnownBytes.{Appends};
 ghost use Rattle.score_script.specs.FindingTexts.{WritesText, compared_text, counts_text, expected_text, finding_text, line_end, optional_text, wrong_text, wrong_words};
 
@@ -26,11 +26,15 @@ pub(crate) enum Finding {
     Byte(Option<u8>),
 }
 
-/// What a line finds: of the beat that was held, and of its own.
+/// What a line or call finds.
 #[derive(Clone, Copy)]
 pub(crate) struct Findings {
+    /// Of the beat that was held.
     pub(crate) held: Option<Finding>,
+    /// Of its own.
     pub(crate) own: Option<Finding>,
+    /// Whether it said that the observation is over, so that what has no answer is wrong.
+    pub(crate) over: bool,
 }
 
 impl Findings {
@@ -38,10 +42,12 @@ impl Findings {
     pub(crate) fn none() -> Findings
         ensures held { result.held ≡ None }
         ensures own { result.own ≡ None }
+        ensures over { result.over ≡ false }
     {
         Findings {
             held: None,
             own: None,
+            over: false,
         }
     }
 }

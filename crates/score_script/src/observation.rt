@@ -1,13 +1,13 @@
 //! An observation that is judged call by call: by lines, or by commands that are called, and not read.
-ghost use Rattle.std.specs.Prelude.{◌≡◌, IfOk, None, OnOk};
+ghost use Rattle.std.specs.Prelude.{◌≡◌, IfOk, None, OnOk, false};
 ghost use Rattle.std.specs.Io.KnownBytes.{Appends};
 ghost use Rattle.script_text.specs.Stages.{GivesWorld, Opening, world_at};
-ghost use Rattle.score_script.specs.Observations.{CallTold, LineTold, SetUpTold, TakeTold, finding_code, first_code, found_left, next_number, nothing_found, observing_code, observing_of, observing_text, stage_in, wrong_code};
+ghost use Rattle.score_script.specs.Observations.{CallTold, LineTold, SetUpTold, TakeTold, finding_code, first_code, found_left, next_number, observing_code, observing_of, observing_text, stage_in, wrong_code};
 ghost use Rattle.score_script.specs.Profiles.{byte_in};
 ghost use Rattle.score_script.specs.ScoreStates.{score_of};
-ghost use Rattle.score_script.specs.Scores.{counts_of, score_kind};
+ghost use Rattle.score_script.specs.Scores.{counts_of, finds_nothing, score_kind, told_of};
 
-use crate::findings::{Finding, Findings, findings_lines};
+use crate::findings::{Finding, Findings};
 use crate::lines::command_of;
 use crate::score::{Command, Counts, Score};
 use crate::script::ScoreScript;
@@ -67,15 +67,6 @@ fn next_number(number: u32) -> u32
     MOST
 }
 
-/// What the last line or call found.
-#[derive(Clone, Copy)]
-pub(crate) struct Found {
-    /// Of the beat that was held, and of its own.
-    pub(crate) findings: Findings,
-    /// Whether it said that the observation is over, so that what has no answer is wrong.
-    pub(crate) over: bool,
-}
-
 /// The lines of a set-up, up to the first beat.
 #[derive(Drop)]
 pub struct SetUp {
@@ -122,18 +113,14 @@ impl SetUp {
     /// The observation of this set-up.
     pub fn begin(self, alloc: Global) -> Result<Observation, ScriptFault>
         ensures score { GivesWorld (λ seen. score_of seen.score) (world_at score_kind (stage_in self) (next_number self.number)) result }
-        ensures begun { IfOk result (λ seen. (seen.number ≡ self.number) × (seen.found ≡ nothing_found)) }
+        ensures begun { IfOk result (λ seen. (seen.number ≡ self.number) × (seen.found ≡ told_of (finds_nothing (score_of seen.score)))) }
     {
         let SetUp { script, number } = self;
         let score = script.into_world(alloc, next_number(number))?;
-        let found = Found {
-            findings: Findings::none(),
-            over: false,
-        };
         Ok(Observation {
             score,
             number,
-            found,
+            found: Findings::none(),
         })
     }
 }
@@ -143,7 +130,7 @@ impl SetUp {
 pub struct Observation {
     score: Score,
     number: u32,
-    found: Found,
+    found: Findings,
 }
 
 impl Model for Observation {
@@ -156,15 +143,14 @@ impl Model for Observation {
 
 impl Observation {
     /// Notes what a line or call of this number found.
-    fn note(&mut self, number: u32, findings: Findings, over: bool) -> u32
+    fn note(&mut self, number: u32, findings: Findings) -> u32
         ensures score { self.new.score ≡ self.old.score }
         ensures number { self.new.number ≡ number }
-        ensures findings { self.new.found.findings ≡ findings }
-        ensures over { self.new.found.over ≡ over }
+        ensures found { self.new.found ≡ findings }
         ensures code { result ≡ observing_code (observing_of self.new) }
     {
         self.number = number;
-        self.found = Found { findings, over };
+        self.found = findings;
         self.code()
     }
 
@@ -175,12 +161,9 @@ impl Observation {
         ensures found { self.new.found ≡ found_left self.old.found told }
     {
         if told.is_some() {
-            let findings = Findings {
+            self.found = Findings {
                 held: told,
                 own: None,
-            };
-            self.found = Found {
-                findings,
                 over: false,
             };
         }
@@ -190,15 +173,14 @@ impl Observation {
     pub fn code(&self) -> u32
         ensures { result ≡ observing_code (observing_of self.now) }
     {
-        let Found { findings, over } = self.found;
-        let left = if over {
+        let left = if self.found.over {
             self.score.unanswered_code()
         } else {
             0
         };
         first_code(
-            finding_code(&findings.held),
-            first_code(finding_code(&findings.own), left),
+            finding_code(&self.found.held),
+            first_code(finding_code(&self.found.own), left),
         )
     }
 
@@ -208,7 +190,7 @@ impl Observation {
     {
         let mut findings = Findings::none();
         self.score.take(number, command, &mut findings)?;
-        Ok(self.note(number, findings, matches!(command, Command::End)))
+        Ok(self.note(number, findings))
     }
 
     /// Takes a line without its line feed, as `score_text` does. The answer is the number of what it found. A fault is that of the
@@ -224,7 +206,7 @@ impl Observation {
         let mut words = Words::new();
         words.read(text);
         if words.are_skipped() {
-            return Ok(self.note(number, Findings::none(), false));
+            return Ok(self.note(number, Findings::none()));
         }
         match command_of(&words) {
             Err(word) => Err(ScriptFault::Script { line: number, word }),
@@ -244,17 +226,14 @@ impl Observation {
             self.keep(findings.held);
             return Err(fault);
         }
-        Ok(self.note(number, findings, matches!(command, Command::End)))
+        Ok(self.note(number, findings))
     }
 
     /// Writes the lines of what the last line or call found.
     pub fn tell<W: Write>(&self, writer: &mut W) -> Result<(), WriteFault>
         ensures { OnOk result (Appends (W.contents writer.old) (W.contents writer.new) (observing_text (observing_of self.now))) }
     {
-        findings_lines(&self.found.findings, writer)?;
-        if self.found.over {
-            self.score.unanswered_at(self.number, writer)?;
-        }
+        self.score.tell(self.number, &self.found, writer)?;
         Ok(())
     }
 

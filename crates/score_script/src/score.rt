@@ -1,7 +1,7 @@
 //! What was found of the beats that were read so far, and what each line finds.
 ghost use Rattle.std.specs.Prelude.{ℕ, ◌≡◌, ◌⊎◌, Err, IfErr, IfOk, IfSome, None, OnErr, OnOk, Some, false, if◌then◌else◌, is_some, true};
 ghost use Rattle.std.specs.Option.{option_or};
-ghost use Rattle.script_text.specs.Stages.{Writes, WritesEnd};
+ghost use Rattle.script_text.specs.Stages.{Writes, WritesEnd, line_commanded, told_wants};
 ghost use Rattle.script_text.specs.declared.faults.ScriptFault.TheVariants as script;
 ghost use Rattle.scoreboard.specs.Observed.{is_request};
 ghost use Rattle.scoreboard.specs.Room.{asks_for_room};
@@ -9,22 +9,23 @@ ghost use Rattle.score_setup.specs.ScoreSetups.{lists_of, ranges_of, score_setup
 ghost use Rattle.setups.specs.declared.SetupFault.TheVariants.{NoMemory};
 ghost use Rattle.score_script.specs.Profiles.{byte_in, filled_in};
 ghost use Rattle.score_script.specs.declared.profiles.Asked.{Asked};
-ghost use Rattle.score_script.specs.Scores.{found, FailsBy, Leaves, begins_after, command_wants, held_wants, counts_of, judged_behind, commanded, unanswered_by, wrong_command, wrong_fill, beats_judged, client_of, closing, counted, judging, line_at, misplaced_in, observing, opening_score, ended_score, finds, reset_behind, settled_alone, settling, unclear, unknown_on, with_more, without_data, wrong_behind};
+ghost use Rattle.score_script.specs.Scores.{found, FailsBy, Leaves, begins_after, command_wants, commanded, held_wants, counts_of, judged_behind, wrong_command, wrong_fill, beats_judged, client_of, closing, counted, judging, line_at, misplaced_in, observing, opening_score, ended_behind, finds, over_text, reset_behind, score_kind, settled_alone, settling, told_text, unclear, unknown_on, with_more, without_data, wrong_behind};
 ghost use Rattle.score_script.specs.Takings.{Gives, Settles, SettlesBefore, Takes, TakesAs, TakesAtOnce};
 ghost use Rattle.score_script.specs.ScoreStates.{score_of};
 ghost use Rattle.score_script.specs.declared.score.Command.TheVariants.{Answer, Observed};
 ghost use Rattle.score_script.specs.FindingTexts.{WritesText};
-ghost use Rattle.score_script.specs.UnansweredTexts.{unanswered_code, unanswered_text};
+ghost use Rattle.score_script.specs.ObservedLines.{command_of};
+ghost use Rattle.score_script.specs.UnansweredTexts.{unanswered_code};
 
 use crate::fills::FillBytes;
 use crate::findings::{
     Finding, Findings, Line, findings_lines, last_compared, last_counts, optional_line,
 };
-use crate::lines::{Channel, SeenBeat};
+use crate::lines::{Channel, SeenBeat, command_of, known_beat, only_settles};
 use crate::profiles::Asked;
 use crate::unanswered::{unanswered_code, unanswered_lines};
 use burst_plan::Region;
-use line_text::WriteFault;
+use line_text::{Words, WriteFault};
 use score_setup::ScoreSetup;
 use scoreboard::{
     AxiPlaces, Errors, FillFault, ObservedBeat, Policy, ReplyRule, Scoreboard, Wrong, can_fill,
@@ -354,6 +355,17 @@ impl Score {
         Ok(())
     }
 
+    /// The held beat is judged, and nothing else is found. The one error is that memory was refused.
+    #[inline(always)]
+    fn settle_alone(&mut self, findings: &mut Findings) -> Result<(), AllocError>
+        ensures { SettlesBefore (settled_alone (settling (score_of self.old))) (score_of self.old) findings.old (score_of self.new) findings.new result }
+    {
+        self.settle(&mut findings.held)?;
+        findings.own = None;
+        findings.over = false;
+        Ok(())
+    }
+
     /// Holds a beat on channel A, and judges any other, and puts what it finds into its place. The one error is that memory was
     /// refused; then nothing has changed.
     #[inline(always)]
@@ -365,7 +377,7 @@ impl Score {
     ) -> Result<(), AllocError>
         ensures { SettlesBefore (observing (settling (score_of self.old)) line seen.now) (score_of self.old) findings.old (score_of self.new) findings.new result }
     {
-        self.settle(&mut findings.held)?;
+        self.settle_alone(findings)?;
         let ObservedBeat::A(client, beat) = seen.beat else {
             return self.judge(line, seen, &mut findings.own);
         };
@@ -376,7 +388,6 @@ impl Score {
             beat,
             unknown,
         });
-        findings.own = None;
         Ok(())
     }
 
@@ -391,7 +402,7 @@ impl Score {
     ) -> Result<(), AllocError>
         ensures { SettlesBefore (unclear (settling (score_of self.old)) line channel client) (score_of self.old) findings.old (score_of self.new) findings.new result }
     {
-        self.settle(&mut findings.held)?;
+        self.settle_alone(findings)?;
         let wrong = unknown_on(self.board.clients(), channel, client);
         findings.own = Some(Finding::Beat(line, client, wrong));
         self.judged = counted(self.judged);
@@ -403,18 +414,17 @@ impl Score {
     fn reset(&mut self, findings: &mut Findings) -> Result<(), AllocError>
         ensures { SettlesBefore (reset_behind (settling (score_of self.old))) (score_of self.old) findings.old (score_of self.new) findings.new result }
     {
-        self.settle(&mut findings.held)?;
-        findings.own = None;
+        self.settle_alone(findings)?;
         self.board.reset();
         Ok(())
     }
 
     /// The observation is over: the held beat is judged, and what has no answer is wrong. The one error is that memory was refused.
     fn finish(&mut self, findings: &mut Findings) -> Result<(), AllocError>
-        ensures { SettlesBefore (record (settled_alone (settling (score_of self.old))) { after = ended_score (settling (score_of self.old)).1 }) (score_of self.old) findings.old (score_of self.new) findings.new result }
+        ensures { SettlesBefore (ended_behind (settling (score_of self.old))) (score_of self.old) findings.old (score_of self.new) findings.new result }
     {
-        self.settle(&mut findings.held)?;
-        findings.own = None;
+        self.settle_alone(findings)?;
+        findings.over = true;
         self.wrong = with_more(self.wrong, u64::from(self.board.outstanding()));
         self.wrong = with_more(self.wrong, self.board.open_bursts() as u64);
         self.wrong = with_more(self.wrong, self.board.writes_without_address() as u64);
@@ -430,10 +440,7 @@ impl Score {
         ensures place { IfErr result (λ fault. fault ≡ script.Script number 1) }
     {
         if self.ended {
-            return Err(ScriptFault::Script {
-                line: number,
-                word: 1,
-            });
+            return Err(ScriptFault::at(number, 1));
         }
         Ok(())
     }
@@ -453,17 +460,11 @@ impl Score {
         ensures fault { IfErr result (λ fault. FailsBy number (wrong_fill (score_of self.old) address bytes.now) fault) }
     {
         if !self.begins {
-            return Err(ScriptFault::Script {
-                line: number,
-                word: 1,
-            });
+            return Err(ScriptFault::at(number, 1));
         }
         match self.board.fill(address, bytes.as_slice()) {
             Ok(()) => Ok(()),
-            Err(FillFault::Place) => Err(ScriptFault::Script {
-                line: number,
-                word: 2,
-            }),
+            Err(FillFault::Place) => Err(ScriptFault::at(number, 2)),
             Err(FillFault::NoMemory) => Err(ScriptFault::NoMemory),
         }
     }
@@ -488,24 +489,20 @@ impl Score {
                 self.tell_unknown(self.line_at(number), *channel, *client, findings)?;
             }
             Command::Byte(address) => {
-                self.settle(&mut findings.held)?;
+                self.settle_alone(findings)?;
                 findings.own = Some(Finding::Byte(self.board.byte(*address)));
             }
             Command::Withdrawal => {
                 self.withdraw();
                 *findings = Findings::none();
             }
-            Command::Answer | Command::Waited => {
-                self.settle(&mut findings.held)?;
-                findings.own = None;
-            }
+            Command::Answer | Command::Waited => self.settle_alone(findings)?,
             Command::Fill(address, bytes) => {
                 self.fill(number, *address, bytes)?;
                 *findings = Findings::none();
             }
             Command::Time(time) => {
-                self.settle(&mut findings.held)?;
-                findings.own = None;
+                self.settle_alone(findings)?;
                 self.time = Some(*time);
             }
             Command::Reset => {
@@ -546,7 +543,7 @@ impl Score {
         ensures found { OnOk result (Gives (judged_behind (settling (score_of self.old)) line seen.now) findings.new (score_of self.new)) }
         ensures left { OnErr result (Leaves (score_of self.old) findings.old.held (score_of self.new) findings.new.held) }
     {
-        self.settle(&mut findings.held)?;
+        self.settle_alone(findings)?;
         self.judge(line, seen, &mut findings.own)
     }
 
@@ -568,18 +565,37 @@ impl Score {
         Ok(())
     }
 
-    /// Writes the lines of what has no answer at a line at which the observation is over. The answer is whether there was any.
-    pub(crate) fn unanswered_at<W: Write>(
+    /// Writes the lines of what has no answer, where it was said at a line that the observation is over. The answer is whether there
+    /// was any.
+    fn over_lines<W: Write>(
         &self,
         number: u32,
+        over: bool,
         writer: &mut W,
     ) -> Result<bool, WriteFault>
-        ensures { WritesText (unanswered_text (line_at (score_of self.now) number) (score_of self.now).board.board) (W.contents writer.old) (W.contents writer.new) result }
+        ensures { WritesText (over_text (score_of self.now) number over) (W.contents writer.old) (W.contents writer.new) result }
     {
+        if !over {
+            return Ok(false);
+        }
         unanswered_lines(&self.line_at(number), &self.board, writer)
     }
 
-    /// The first of these lines, as a number.
+    /// Writes the lines of what a line found, by its number. The answer is whether there was any.
+    pub(crate) fn tell<W: Write>(
+        &self,
+        number: u32,
+        findings: &Findings,
+        writer: &mut W,
+    ) -> Result<bool, WriteFault>
+        ensures { WritesText (told_text (score_of self.now) number findings.now) (W.contents writer.old) (W.contents writer.new) result }
+    {
+        let found = findings_lines(findings, writer)?;
+        let left = self.over_lines(number, findings.over, writer)?;
+        Ok(found | left)
+    }
+
+    /// The first of the lines of what has no answer, as a number.
     pub(crate) fn unanswered_code(&self) -> u32
         ensures { result ≡ unanswered_code (score_of self.now).board.board }
     {
@@ -607,25 +623,9 @@ impl Score {
         self.board.byte(address)
     }
 
-    /// Writes the lines of what has no answer, where a command of this line says that the observation is over. The answer is
-    /// whether there was any.
-    fn unanswered<W: Write>(
-        &self,
-        number: u32,
-        command: &Command,
-        writer: &mut W,
-    ) -> Result<bool, WriteFault>
-        ensures { WritesText (unanswered_by (score_of self.now) number command.now) (W.contents writer.old) (W.contents writer.new) result }
-    {
-        match command {
-            Command::End => self.unanswered_at(number, writer),
-            _ => Ok(false),
-        }
-    }
-
     /// Carries out a command, by the number of its line, and writes its lines. The answer is whether there was any. A fault is the
     /// line's wrong word, that of the writer, or that memory was refused.
-    pub(crate) fn carry_out<W: Write>(
+    fn carry_out<W: Write>(
         &mut self,
         number: u32,
         command: &Command,
@@ -635,14 +635,12 @@ impl Score {
     {
         let mut findings = Findings::none();
         self.take(number, command, &mut findings)?;
-        let found = findings_lines(&findings, writer)?;
-        let left = self.unanswered(number, command, writer)?;
-        Ok(found | left)
+        Ok(self.tell(number, &findings, writer)?)
     }
 
     /// The same of a beat that was observed. It is apart, so that no command has to hold the beat.
     #[inline(always)]
-    pub(crate) fn see<W: Write>(
+    fn see<W: Write>(
         &mut self,
         number: u32,
         seen: &SeenBeat,
@@ -654,20 +652,45 @@ impl Score {
         self.check_open(number)?;
         self.observe(self.line_at(number), seen, &mut findings)?;
         self.begins = false;
-        Ok(findings_lines(&findings, writer)?)
+        Ok(self.tell(number, &findings, writer)?)
     }
 
-    /// The same of an answer, whatever its line's number, that settles the beat before it, and does nothing more.
+    /// The same of an answer that settles the beat before it, and does nothing more.
     #[inline(always)]
-    pub(crate) fn answer<W: Write>(&mut self, writer: &mut W) -> Result<bool, ScriptFault>
-        ensures { (number : ℕ) → Writes (command_wants (score_of self.old) Answer) number (commanded (score_of self.old) number Answer) (score_of self.new) (W.contents writer.old) (W.contents writer.new) result }
+    fn answer<W: Write>(&mut self, number: u32, writer: &mut W) -> Result<bool, ScriptFault>
+        ensures { Writes (command_wants (score_of self.old) Answer) number (commanded (score_of self.old) number Answer) (score_of self.new) (W.contents writer.old) (W.contents writer.new) result }
     {
         if self.held.is_none() {
             return Ok(false);
         }
         let mut findings = Findings::none();
         self.settle_held(&mut findings.held)?;
-        Ok(findings_lines(&findings, writer)?)
+        Ok(self.tell(number, &findings, writer)?)
+    }
+
+    /// Carries out the command that a line says, by the line's number, and writes its lines. The answer is whether there was any. A
+    /// fault is the line's first wrong word, that of the writer, or that memory was refused.
+    #[inline(always)]
+    pub(crate) fn carry_line<W: Write>(
+        &mut self,
+        number: u32,
+        words: &Words<'_>,
+        writer: &mut W,
+    ) -> Result<bool, ScriptFault>
+        ensures { Writes (told_wants score_kind (score_of self.old) (command_of words.now)) number (line_commanded score_kind (score_of self.old) number (command_of words.now)) (score_of self.new) (W.contents writer.old) (W.contents writer.new) result }
+    {
+        let known = known_beat(words);
+        if let Ok(seen) = &known {
+            return self.see(number, seen, writer);
+        }
+        if only_settles(words) {
+            return self.answer(number, writer);
+        }
+        let read = command_of(words);
+        match &read {
+            Err(word) => Err(ScriptFault::at(number, *word)),
+            Ok(command) => self.carry_out(number, command, writer),
+        }
     }
 
     /// Judges the beat that is held, and writes the last line. The answer is whether a beat is wrong. A fault is that of the

@@ -4,7 +4,7 @@ ghost use Rattle.script_text.specs.Scripts.{EndsOrStops};
 ghost use Rattle.script_text.specs.Stops.{EndsHolding};
 ghost use Rattle.score_script.specs.Scores.{opening_state, score_reading};
 
-use crate::lines::{command_of, known_beat, only_settles};
+use crate::lines::{command_of, only_settles};
 use crate::profiles::Asked;
 use crate::score::{Score, wrong_at_first};
 use line_text::Words;
@@ -94,18 +94,7 @@ impl Kind for ScoreScript {
         words: &Words<'_>,
         writer: &mut W,
     ) -> Result<bool, ScriptFault> {
-        let known = known_beat(words);
-        if let Ok(seen) = &known {
-            return score.see(number, seen, writer);
-        }
-        if only_settles(words) {
-            return score.answer(writer);
-        }
-        let read = command_of(words);
-        match &read {
-            Err(word) => Err(ScriptFault::at(number, *word)),
-            Ok(command) => score.carry_out(number, command, writer),
-        }
+        score.carry_line(number, words, writer)
     }
 
     fn end<W: Write>(score: &mut Score, writer: &mut W) -> Result<bool, ScriptFault> {

@@ -10,7 +10,7 @@ use Rattle.script_text.proofs.Progress.{LastText, Progress, failed_within, grown
 use Rattle.script_text.proofs.ScriptLines.{ended_lines_of-line, lines_of-line, lines_of-last, begins, begins-not_plain, lines_of-some}
 use Rattle.line_text.proofs.TraceTexts.{some_after, some_before}
 use Rattle.script_text.specs.Reads.{BlockState, IsSmall, Stops, Takes, TakesByte, left}
-use Rattle.script_text.specs.Scripts.{Reading, TextResult, asks_at_end, asks_last, end_wants, last_wants, line_wants, rest_wants, where_it_stands, AreCarriedOut, EndsAs, HasText, IsAllJudged, IsFront, IsSettled, LineStep, StopsForMemory, Tells, after_text, ended, line_step, lines_result, text_failing_from, text_from, text_of, text_before_failure}
+use Rattle.script_text.specs.Scripts.{EndsAfter, Reading, TextResult, asks_at_end, asks_last, end_wants, last_wants, line_wants, rest_wants, where_it_stands, AreCarriedOut, EndsAs, HasText, IsAllJudged, IsFront, IsSettled, LineStep, StopsForMemory, Tells, after_text, ended, line_step, lines_result, text_failing_from, text_from, text_of, text_before_failure}
 use Rattle.script_text.specs.Stops.{EndsHolding, HoldsFaultLine, StopsAt, StopsWithin, held_of}
 use Rattle.script_text.proofs.Stopping.{StopsAt-behind, StopsAt-line, StopsWithin-end, long-held}
 use Rattle.script_text.specs.Steps.{GivesText, Goes, Speaks, Stands, TakesStep, TakesRest}
@@ -249,44 +249,28 @@ Ends-rest {A = A} reading grows is_silent start state number block later input r
           cause = cause wants;
         }
 
+    ended_so : (r : Result A ScriptFault) → EndsAfter (text_of reading start) (text_before_failure reading start) read [] after old newer r → HoldsFaultLine reading start read held r → EndsOr reading grows start held input after old newer r
+    ended_so r ends holds = inl (record { judged = read; ahead = []; consumed = all; bound = bound; block = omega arith; ends = ends }, holds)
+
     by_result : (r : Result A ScriptFault) → LastRest reading grows is_silent state number line flushed newer r → StopsWithin reading state number (lines_of line) held r → EndsOr reading grows start held input after old newer r
-    by_result (Ok answer) told at = inl (record { judged = read; ahead = []; consumed = all; bound = bound; block = omega arith; ends = (whole_input, tells (Ok answer) told) }, tt)
-    by_result (Err (Script l word)) told at = inl (record { judged = read; ahead = []; consumed = all; bound = bound; block = omega arith; ends = (inl whole_input, tells (Err (Script l word)) told) }, λ few. stopped_behind reading is_silent start state number block input rest old new line held (Script l word) so_far at)
-    by_result (Err (Setup fault)) told at = inl (record { judged = read; ahead = []; consumed = all; bound = bound; block = omega arith; ends = (inl whole_input, tells (Err (Setup fault)) told) }, tt)
+    by_result (Ok answer) told at = ended_so (Ok answer) (whole_input, tells (Ok answer) told) tt
+    by_result (Err (Script l word)) told at =
+        ended_so (Err (Script l word)) (inl whole_input, tells (Err (Script l word)) told) (λ few. stopped_behind reading is_silent start state number block input rest old new line held (Script l word) so_far at)
+    by_result (Err (Setup fault)) told at = ended_so (Err (Setup fault)) (inl whole_input, tells (Err (Setup fault)) told) tt
     by_result (Err Read) told at = absurd told
     by_result (Err Write) (ok, some) at =
-        inl (
-          record {
-            judged = read;
-            ahead = [];
-            consumed = all;
-            bound = bound;
-            block = omega arith;
-            ends = (
-              ok_after _ _ so_far.text (so_far.whole line) ok,
-              (read, inr (refl, whole_input), grown_after _ _ _ so_far.text Read (failed_within reading is_silent start state number block input rest old new line so_far lacks) (so_far.whole line) some),
-            );
-          },
-          tt,
-        )
+        ended_so (Err Write) (
+          ok_after _ _ so_far.text (so_far.whole line) ok,
+          (read, inr (refl, whole_input), grown_after _ _ _ so_far.text Read (failed_within reading is_silent start state number block input rest old new line so_far lacks) (so_far.whole line) some),
+        ) tt
     by_result (Err NoMemory) (ok, inl (quiet, kept)) at =
-        inl (
-          record {
-            judged = read;
-            ahead = [];
-            consumed = all;
-            bound = bound;
-            block = omega arith;
-            ends = (
-              Keeps-trans old flushed newer (Keeps-none old flushed (rw (so_far.silent quiet) at written)) kept,
-              inr (
-                ok_after _ _ so_far.text (so_far.whole line) ok,
-                (read, inr (refl, whole_input), silent_within reading is_silent start state number block input rest old new line so_far lacks quiet, inr whole_input),
-              ),
-            );
-          },
-          tt,
-        )
+        ended_so (Err NoMemory) (
+          Keeps-trans old flushed newer (Keeps-none old flushed (rw (so_far.silent quiet) at written)) kept,
+          inr (
+            ok_after _ _ so_far.text (so_far.whole line) ok,
+            (read, inr (refl, whole_input), silent_within reading is_silent start state number block input rest old new line so_far lacks quiet, inr whole_input),
+          ),
+        ) tt
     by_result (Err NoMemory) (ok, inr (may, inl kept)) at =
         inr (
           (and_parts grows (rest_wants reading state number line) may).0,
@@ -321,7 +305,7 @@ pub Ends-fault : {S A : Type 0} (reading : Reading S A) (grows : Bool) (is_silen
     → Progress reading is_silent start state number block input rest old new → number ≤ reading.most_lines → Lacks 10 line → length line ≤ 129 → Takes block later rest after (line ++ 10 ∷ []) → IsSmall later → Keeps new flushed
     → TakesStep reading (grows && line_wants reading state (strip_carriage_return line)) (line_step reading state number (strip_carriage_return line)) is_silent state next flushed newer (Err fault) → held ≡ held_of (strip_carriage_return line)
     → EndsOr reading grows start held input after old newer (Err fault)
-Ends-fault {S} reading grows is_silent start state next number block later input rest after old new flushed newer line held fault so_far within lacks short taken few flushes takes is_held = by_fault fault takes
+Ends-fault {S} {A} reading grows is_silent start state next number block later input rest after old new flushed newer line held fault so_far within lacks short taken few flushes takes is_held = by_fault fault takes
   where
     tail : List ℕ
     tail = line ++ 10 ∷ []
@@ -358,51 +342,30 @@ Ends-fault {S} reading grows is_silent start state next number block later input
     at_line : (f : ScriptFault) → line_step reading state number (strip_carriage_return line) ≡ Err f → StopsAt reading state number (lines_of tail) held f
     at_line f stops = subst (λ lines. StopsAt reading state number lines held f) (sym (lines_of-line line [] lacks)) (StopsAt-line reading state number (strip_carriage_return line) held f is_held stops)
 
+    ended_so : (f : ScriptFault) → EndsAfter {A = A} (text_of reading start) (text_before_failure reading start) (so_far.read ++ tail) later.ahead after old newer (Err f) → HoldsFaultLine {A = A} reading start (so_far.read ++ tail) held (Err f)
+        → EndsOr reading grows start held input after old newer (Err f)
+    ended_so f ends holds = inl (record { judged = so_far.read ++ tail; ahead = later.ahead; consumed = all; bound = bound; block = small later few; ends = ends }, holds)
+
+    settled_so : (f : ScriptFault) → line_step reading state number (strip_carriage_return line) ≡ Err f → Keeps flushed newer
+        → (IsAllJudged later.ahead after ⊎ IsSettled (text_of reading start) (so_far.read ++ tail)) × Tells (text_of reading start (so_far.read ++ tail)) old newer (Err f)
+    settled_so f stops kept = settled reading start state number later.ahead after old flushed newer so_far.read so_far.text tail f so_far.whole (told f stops) written kept
+
     by_fault : (f : ScriptFault) → TakesStep reading (grows && line_wants reading state (strip_carriage_return line)) (line_step reading state number (strip_carriage_return line)) is_silent state next flushed newer (Err f) → EndsOr reading grows start held input after old newer (Err f)
     by_fault (Script l word) (stops, kept) =
-        inl (
-          record {
-            judged = so_far.read ++ tail;
-            ahead = later.ahead;
-            consumed = all;
-            bound = bound;
-            block = small later few;
-            ends = settled reading start state number later.ahead after old flushed newer so_far.read so_far.text tail _ so_far.whole (told _ stops) written kept;
-          },
-          λ within_most. stopped_behind reading is_silent start state number block input rest old new tail held (Script l word) so_far (at_line (Script l word) stops),
-        )
-    by_fault (Setup f) (stops, kept) =
-        inl (
-          record {
-            judged = so_far.read ++ tail;
-            ahead = later.ahead;
-            consumed = all;
-            bound = bound;
-            block = small later few;
-            ends = settled reading start state number later.ahead after old flushed newer so_far.read so_far.text tail _ so_far.whole (told _ stops) written kept;
-          },
-          tt,
-        )
+        ended_so (Script l word) (settled_so (Script l word) stops kept)
+        (λ within_most. stopped_behind reading is_silent start state number block input rest old new tail held (Script l word) so_far (at_line (Script l word) stops))
+    by_fault (Setup f) (stops, kept) = ended_so (Setup f) (settled_so (Setup f) stops kept) tt
     by_fault Read stops = absurd stops
     by_fault Write speaks =
-        let well = speaks_well reading _ speaks (number + 1) _ (after_line speaks.0.text speaks.0.next speaks.0.step_is) in inl (
-          record {
-            judged = so_far.read ++ tail;
-            ahead = later.ahead;
-            consumed = all;
-            bound = bound;
-            block = small later few;
-            ends = (
-              ok_after _ _ so_far.text (so_far.whole tail) well.0,
-              (
-                so_far.read ++ line,
-                front,
-                grown_after _ _ _ so_far.text Read (failed_within reading is_silent start state number block input rest old new line so_far lacks) (so_far.whole tail) well.1,
-              ),
-            );
-          },
-          tt,
-        )
+        let well = speaks_well reading _ speaks (number + 1) _ (after_line speaks.0.text speaks.0.next speaks.0.step_is) in
+        ended_so Write (
+          ok_after _ _ so_far.text (so_far.whole tail) well.0,
+          (
+            so_far.read ++ line,
+            front,
+            grown_after _ _ _ so_far.text Read (failed_within reading is_silent start state number block input rest old new line so_far lacks) (so_far.whole tail) well.1,
+          ),
+        ) tt
     by_fault NoMemory (inr (may, stands), kept) =
         let parts = and_parts grows (line_wants reading state (strip_carriage_return line)) may in inr (
           parts.0,
@@ -421,28 +384,19 @@ Ends-fault {S} reading grows is_silent start state next number block later input
           },
         )
     by_fault NoMemory (inl (quiet, gives), kept) =
-        let well = gives_well reading _ gives (number + 1) _ (after_line gives.0.text gives.0.next gives.0.step_is) in inl (
-          record {
-            judged = so_far.read ++ tail;
-            ahead = later.ahead;
-            consumed = all;
-            bound = bound;
-            block = small later few;
-            ends = (
-              Keeps-trans old flushed newer (Keeps-none old flushed (rw (so_far.silent quiet) at written)) kept,
-              inr (
-                ok_after _ _ so_far.text (so_far.whole tail) well.0,
-                (
-                  so_far.read ++ line,
-                  front,
-                  silent_within reading is_silent start state number block input rest old new line so_far lacks quiet,
-                  inl (text_after _ _ so_far.text (so_far.whole tail) well.1),
-                ),
-              ),
-            );
-          },
-          tt,
-        )
+        let well = gives_well reading _ gives (number + 1) _ (after_line gives.0.text gives.0.next gives.0.step_is) in
+        ended_so NoMemory (
+          Keeps-trans old flushed newer (Keeps-none old flushed (rw (so_far.silent quiet) at written)) kept,
+          inr (
+            ok_after _ _ so_far.text (so_far.whole tail) well.0,
+            (
+              so_far.read ++ line,
+              front,
+              silent_within reading is_silent start state number block input rest old new line so_far lacks quiet,
+              inl (text_after _ _ so_far.text (so_far.whole tail) well.1),
+            ),
+          ),
+        ) tt
 
 -- at a line that is too long
 pub Ends-long : {S A : Type 0} (reading : Reading S A) (is_silent : S → Bool) (start state : S) (number : ℕ) (block later : BlockState) (input rest after old new flushed : Option (List ℕ)) (line held : List ℕ) (byte : ℕ)
@@ -554,13 +508,11 @@ Ends-flush reading is_silent start state number block later input rest after old
 pub Ends-stopped : {S A : Type 0} (reading : Reading S A) (is_silent : S → Bool) (start state : S) (number : ℕ) (block later : BlockState) (input rest after old new flushed : Option (List ℕ)) (line held : List ℕ) (fault : ScriptFault)
     → Progress reading is_silent start state number block input rest old new → number ≤ reading.most_lines → Lacks 10 line × (length line ≤ 129) × Stops block later rest after line fault → IsSmall later → Keeps new flushed
     → Ends reading start held input after old flushed (Err fault)
-Ends-stopped reading is_silent start state number block later input rest after old new flushed line held (Script l word) so_far within part few flushes = absurd part.2
-Ends-stopped reading is_silent start state number block later input rest after old new flushed line held (Setup f) so_far within part few flushes = absurd part.2
 Ends-stopped reading is_silent start state number block later input rest after old new flushed line held Read so_far within (lacks, short, (taken, none)) few flushes =
     Ends-read reading is_silent start state number block later input rest after old new flushed line held so_far (omega (arith, within, short)) lacks taken none flushes
 Ends-stopped reading is_silent start state number block later input rest after old new flushed line held Write so_far within (lacks, short, (taken, none, text)) few flushes =
     Ends-flush reading is_silent start state number block later input rest after old new flushed line held so_far (omega (arith, within)) taken none text few
-Ends-stopped reading is_silent start state number block later input rest after old new flushed line held NoMemory so_far within part few flushes = absurd part.2
+Ends-stopped reading is_silent start state number block later input rest after old new flushed line held fault so_far within part few flushes = absurd part.2
 
 nothing : Lacks 10 []
 nothing i within = absurd (omega (arith, within))
@@ -569,13 +521,11 @@ nothing i within = absurd (omega (arith, within))
 pub Ends-unread : {S A : Type 0} (reading : Reading S A) (is_silent : S → Bool) (start state : S) (number : ℕ) (block later : BlockState) (input rest after old new flushed : Option (List ℕ)) (held : List ℕ) (fault : ScriptFault)
     → Progress reading is_silent start state number block input rest old new → number ≡ reading.most_lines + 1 → TakesByte block later rest after (Err fault) → IsSmall later → Keeps new flushed
     → Ends reading start held input after old flushed (Err fault)
-Ends-unread reading is_silent start state number block later input rest after old new flushed held (Script l word) so_far late part few flushes = absurd part
-Ends-unread reading is_silent start state number block later input rest after old new flushed held (Setup f) so_far late part few flushes = absurd part
 Ends-unread reading is_silent start state number block later input rest after old new flushed held Read so_far late (taken, none) few flushes =
     Ends-read reading is_silent start state number block later input rest after old new flushed [] held so_far (omega (arith, late)) nothing taken none flushes
 Ends-unread reading is_silent start state number block later input rest after old new flushed held Write so_far late (taken, none, text) few flushes =
     Ends-flush reading is_silent start state number block later input rest after old new flushed [] held so_far (omega (arith, late)) taken none text few
-Ends-unread reading is_silent start state number block later input rest after old new flushed held NoMemory so_far late part few flushes = absurd part
+Ends-unread reading is_silent start state number block later input rest after old new flushed held fault so_far late part few flushes = absurd part
 
 -- a line more than a script may have writes nothing
 unread : {S A : Type 0} (reading : Reading S A) (grows : Bool) (is_silent : S → Bool) (state : S) (number : ℕ) (w z : Option (List ℕ)) (result : Result A ScriptFault) → number ≡ reading.most_lines + 1

@@ -33,9 +33,7 @@ said value line (Some word) same = absurd (apart (ap went same))
 -- the fields of a `page` line that are right
 page_right : (first count kind : Bool) (last : Option ℕ) → (if first then (if count then (if kind then last else Some 4) else Some 3) else Some 2) ≡ None → (first ≡ true) × (count ≡ true) × (kind ≡ true)
 page_right true true true last same = (refl, refl, refl)
-page_right true true false last same = search rules
-page_right true false kind last same = search rules
-page_right false count kind last same = search rules
+page_right first count kind last same = search rules
 
 -- what a set-up line of a form says
 abbrev SaysAs : Form → List (List ℕ) → SetupLine → Type 0
@@ -53,21 +51,10 @@ page_says words line same =
     (right.0, right.1, says.1)
 
 says : (f : Form) (words : List (List ℕ)) (line : SetupLine) → setup_line f words ≡ Ok line → SaysAs f words line
-says form.Config words line same = apart (ap went same)
 says form.Region words line same = (said (Region (region_in words)) line (first_wrong region_fields words 2) same).1
 says form.Page words line same = page_says words line same
 says form.BadWord words line same = (said (BadWord (hex_at words 2)) line (first_wrong (address_field ∷ []) words 2) same).1
-says form.Offer words line same = apart (ap went same)
-says form.Pump words line same = apart (ap went same)
-says form.Perform words line same = apart (ap went same)
-says form.AnswerB words line same = apart (ap went same)
-says form.AnswerR words line same = apart (ap went same)
-says form.Take words line same = apart (ap went same)
-says form.Drain words line same = apart (ap went same)
-says form.Mem words line same = apart (ap went same)
-says form.Work words line same = apart (ap went same)
-says form.Free words line same = apart (ap went same)
-says form.Word words line same = apart (ap went same)
+says f words line same = apart (ap went same)
 
 -- ---- room
 
@@ -78,29 +65,16 @@ pages_fit held count first counted addressed is_count is_address fits = by_tests
   where
     by_tests : (full many late : Bool) → nat_lt 64 (held + count) ≡ many → nat_lt 4294967296 (first + count) ≡ late → (full || true && (many || true && late)) ≡ false
         → (held + count ≤ 64) × (first + count ≤ 4294967296)
-    by_tests true many late m l wrong = search rules
-    by_tests false true late m l wrong = search rules
-    by_tests false false true m l wrong = search rules
     by_tests false false false m l fits' = (grind (arith, nat_tests, m), grind (arith, nat_tests, l))
+    by_tests full many late m l wrong = search rules
 
 set_up_room : (setup : SetupLists) (f : Form) (words : List (List ℕ)) (line : SetupLine) → has_no_room setup f words ≡ false → SaysAs f words line → HasRoomFor setup line
-set_up_room setup form.Config words line test is = absurd is
 set_up_room setup form.Region words line test is = let few : length setup.regions < 16 = grind (arith, nat_tests, test) in rw is few
 set_up_room setup form.Page words line test (address, count, is) =
     let fits = pages_fit (length setup.pages) (dec_at words 3) (hex_at words 2) (count_field (word_at words 3)) (address_field (word_at words 2)) count address test in
     rw is fits
 set_up_room setup form.BadWord words line test is = let few : length setup.bad_words < 64 = grind (arith, nat_tests, test) in rw is few
-set_up_room setup form.Offer words line test is = absurd is
-set_up_room setup form.Pump words line test is = absurd is
-set_up_room setup form.Perform words line test is = absurd is
-set_up_room setup form.AnswerB words line test is = absurd is
-set_up_room setup form.AnswerR words line test is = absurd is
-set_up_room setup form.Take words line test is = absurd is
-set_up_room setup form.Drain words line test is = absurd is
-set_up_room setup form.Mem words line test is = absurd is
-set_up_room setup form.Work words line test is = absurd is
-set_up_room setup form.Free words line test is = absurd is
-set_up_room setup form.Word words line test is = absurd is
+set_up_room setup f words line test is = absurd is
 
 -- a set-up line that was read has room where one of its form has
 pub setup_line-room : (setup : SetupLists) (f : Form) (words : List (List ℕ)) (line : SetupLine) → has_no_room setup f words ≡ false → setup_line f words ≡ Ok line → HasRoomFor setup line

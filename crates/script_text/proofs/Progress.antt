@@ -6,7 +6,7 @@ use Rattle.std.specs.Io.KnownBytes.{Appends, Consumes, Keeps, prepend_known}
 use Rattle.std.specs.Str.Lines.{strip_carriage_return}
 use Rattle.line_text.proofs.Parts.{Lacks}
 use Rattle.script_text.proofs.ScriptLines.{lines_of-line, ended_lines_of-line, ended_lines_of-last}
-use Rattle.line_text.proofs.TraceTexts.{grows}
+use Rattle.line_text.proofs.TraceTexts.{grows, some_before}
 use Rattle.script_text.specs.Reads.{BlockState, Takes, left}
 use Rattle.script_text.specs.Scripts.{Reading, TextResult, after_step, after_text, asks_at_end, asks_last, end_wants, ended, last_wants, line_step, line_wants, lines_result, text_from, text_of, text_before_failure, where_it_stands}
 use Rattle.script_text.specs.Steps.{Goes}
@@ -143,10 +143,6 @@ last_here reading is_silent start state next number block input rest old new lin
           (rw here (some_before text (reading.ending next (number + 1)).output some)));
     }
   where
-    some_before : (xs ys : List ℕ) → xs ≢ [] → xs ++ ys ≢ []
-    some_before [] ys is none = is refl
-    some_before (x ∷ xs) ys is none = search rules
-
     here : text_from reading state number (line ++ 10 ∷ []) ≡ after_text text (reading.ending next (number + 1))
     here = ap (lines_result reading reading.ending state number) (lines_of-line line [] lacks) ∙ lines_result-went reading reading.ending state next number (strip_carriage_return line) text [] went
 

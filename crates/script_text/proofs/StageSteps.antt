@@ -25,10 +25,8 @@ use Rattle.subordinate.specs.Faults.{device_fault}
 
 -- a set-up with a fault is refused by it
 refused_as : (W : Type 0) (fault : SetupFault) → fault ≢ refused.NoMemory → OpensAs {W = W} (Err fault) (Err fault)
-refused_as W refused.BadConfig never = refl
-refused_as W (refused.Map fault) never = refl
-refused_as W (refused.Device fault) never = refl
 refused_as W refused.NoMemory never = absurd (never refl)
+refused_as W fault never = refl
 
 made_as : {V W : Type 0} (said : V → W) (opening : W) (result : Result V SetupFault) → IfOk result (λ world. said world ≡ opening) → IfErr result (λ fault. (None ≡ Some fault) ⊎ (fault ≡ refused.NoMemory)) → OpensAs (Ok opening) (told_as said result)
 made_as said opening (Ok world) is wants = ap (λ w. Ok w) (sym is)
@@ -119,11 +117,9 @@ carried_by kind grows stage step number next before after (Ok given) (Ok wrote) 
       speaks = λ some. (speaks some, λ n. refl);
       silent = λ still. search rules;
     }
-carried_by kind grows stage step number next before after (Ok given) (Err (Script line word)) is fails = absurd fails
-carried_by kind grows stage step number next before after (Ok given) (Err (Setup fault)) is fails = absurd fails
-carried_by kind grows stage step number next before after (Ok given) (Err Read) is fails = absurd fails
 carried_by kind grows stage step number next before after (Ok given) (Err Write) is some = (stands_so kind step given is, some)
 carried_by kind grows stage step number next before after (Ok given) (Err NoMemory) is (may, kept) = (inr (may, stands_so kind step given is), kept)
+carried_by kind grows stage step number next before after (Ok given) (Err fault) is fails = absurd fails
 carried_by kind grows stage step number next before after (Err word) (Ok wrote) is fails = absurd fails
 carried_by kind grows stage step number next before after (Err word) (Err fault) is (wrong, kept) =
     rw wrong (is, kept)

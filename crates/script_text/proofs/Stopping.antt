@@ -10,7 +10,7 @@ use Rattle.script_text.specs.Scripts.{EndsOrStops, LineStep, Reading, line_step}
 use Rattle.script_text.specs.Steps.{Goes, TakesRest, TakesStep}
 use Rattle.script_text.specs.Stops.{EndsHolding, StopsAt, StopsWithin, after_line, held_of, state_after}
 use Rattle.script_text.specs.declared.faults.ScriptFault.{ScriptFault}
-use Rattle.script_text.specs.declared.faults.ScriptFault.TheVariants.{Script, Setup, Read, Write, NoMemory}
+use Rattle.script_text.specs.declared.faults.ScriptFault.TheVariants.{Script}
 
 -- ---- the state after lines
 
@@ -74,12 +74,8 @@ StopsAt-line reading state number line held fault is stops = record { before = [
 
 pub StopsWithin-end : {S A : Type 0} (reading : Reading S A) (state : S) (number : ℕ) (line : List ℕ) (grows silent : Bool) (w z : Option (List ℕ)) (result : Result A ScriptFault)
     → TakesRest (reading.ending state number) line grows silent w z result → StopsWithin reading state number [] [] result
-StopsWithin-end reading state number line grows silent w z (Ok answer) ends = tt
 StopsWithin-end reading state number line grows silent w z (Err (Script l word)) ends = StopsAt-end reading state number (Script l word) ends.1
-StopsWithin-end reading state number line grows silent w z (Err (Setup fault)) ends = tt
-StopsWithin-end reading state number line grows silent w z (Err Read) ends = tt
-StopsWithin-end reading state number line grows silent w z (Err Write) ends = tt
-StopsWithin-end reading state number line grows silent w z (Err NoMemory) ends = tt
+StopsWithin-end reading state number line grows silent w z result ends = tt
 
 pub StopsWithin-line : {S A : Type 0} (reading : Reading S A) (is_silent : S → Bool) (state next : S) (number : ℕ) (line : List ℕ) (grows silent : Bool) (w v y z : Option (List ℕ)) (wrote : Bool) (result : Result A ScriptFault) → Lacks 10 line → 0 < length line
     → Goes reading (line_step reading state number (strip_carriage_return line)) is_silent state next w v wrote → TakesRest (reading.ending next (number + 1)) [] grows silent y z result
@@ -87,25 +83,18 @@ pub StopsWithin-line : {S A : Type 0} (reading : Reading S A) (is_silent : S →
 StopsWithin-line {A = A} reading is_silent state next number line grows silent w v y z wrote result lacks some goes ends = by_result result ends
   where
     by_result : (r : Result A ScriptFault) → TakesRest (reading.ending next (number + 1)) [] grows silent y z r → StopsWithin reading state number (lines_of line) [] r
-    by_result (Ok answer) told = tt
     by_result (Err (Script l word)) told =
         StopsAt-behind reading state next (number + 1) number (strip_carriage_return line ∷ []) [] (lines_of line) [] (Script l word)
         (ap (after_line (λ s. state_after reading s (number + 1) [])) goes.step_is) refl (lines_of-last line lacks some)
         (StopsAt-end reading next (number + 1) (Script l word) told.1)
-    by_result (Err (Setup fault)) told = tt
-    by_result (Err Read) told = tt
-    by_result (Err Write) told = tt
-    by_result (Err NoMemory) told = tt
+    by_result r told = tt
 
 pub StopsWithin-fault : {S A : Type 0} (reading : Reading S A) (is_silent : S → Bool) (state next : S) (number : ℕ) (line held : List ℕ) (grows : Bool) (w v : Option (List ℕ)) (fault : ScriptFault) → Lacks 10 line → 0 < length line
     → held ≡ held_of (strip_carriage_return line) → TakesStep reading grows (line_step reading state number (strip_carriage_return line)) is_silent state next w v (Err fault)
     → StopsWithin {A = A} reading state number (lines_of line) held (Err fault)
 StopsWithin-fault reading is_silent state next number line held grows w v (Script l word) lacks some is takes =
     subst (λ lines. StopsAt reading state number lines held (Script l word)) (sym (lines_of-last line lacks some)) (StopsAt-line reading state number (strip_carriage_return line) held (Script l word) is takes.0)
-StopsWithin-fault reading is_silent state next number line held grows w v (Setup fault) lacks some is takes = tt
-StopsWithin-fault reading is_silent state next number line held grows w v Read lacks some is takes = tt
-StopsWithin-fault reading is_silent state next number line held grows w v Write lacks some is takes = tt
-StopsWithin-fault reading is_silent state next number line held grows w v NoMemory lacks some is takes = tt
+StopsWithin-fault reading is_silent state next number line held grows w v fault lacks some is takes = tt
 
 -- of a line that is too long its first bytes, whatever ends them
 pub long-held : (line : List ℕ) (byte : ℕ) → length line ≡ 129 → held_of line ≡ held_of (strip_carriage_return (line ++ byte ∷ []))

@@ -18,7 +18,8 @@ returns-then-are_skipped c =
     ap (λ t. is_skipped (words_of t)) (sym text_is) ∙ ap is_skipped (sym c.read.ensures) ∙ sym c.are_skipped.ensures ∙ c.if-are_skipped.true in
     let number_is : c.next_number-number.result ≡ next_number c.args.self.now.number = search rules in (
       skipped_told (observing_of c.args.self.now) (observing_of c.note.new.self) c.args.line.now plain skipped (ap score_of c.note.ensures.score)
-          (ap (λ (f : Findings). f.held) c.note.ensures.findings ∙ c.none.ensures.held) (ap (λ (f : Findings). f.own) c.note.ensures.findings ∙ c.none.ensures.own) c.note.ensures.over,
+          (ap (λ (f : Findings). f.held) c.note.ensures.found ∙ c.none.ensures.held) (ap (λ (f : Findings). f.own) c.note.ensures.found ∙ c.none.ensures.own)
+          (ap (λ (f : Findings). f.over) c.note.ensures.found ∙ c.none.ensures.over),
       c.note.ensures.number ∙ number_is,
       c.note.ensures.code,
     )

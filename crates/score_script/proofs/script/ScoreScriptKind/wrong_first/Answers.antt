@@ -1,7 +1,7 @@
 -- A line that says no command is wrong by that; a set-up that is refused has no wrong first command, and of another it is told what is wrong with it.
 use Rattle.std.proofs.Common.{◌≡◌, None, ap, is_some, sym, ◌∙◌}
 use Rattle.score_setup.specs.ScoreSetups.{lists_of, ranges_of, score_setup_fault}
-use Rattle.score_script.specs.Scores.{commanded_score, finds, finds_text, opening_score, score_kind, wrong_command}
+use Rattle.score_script.specs.Scores.{carried_out, opening_score, score_kind, wrong_command}
 use Rattle.score_script.proofs.FillLaws.{not_refused, refused_none, word_told}
 use Rattle.script_text.proofs.StageSteps.{wrong_told}
 use Rattle.score_script.proofs.script.ScoreScriptKind.wrong_first.Goals as goal
@@ -23,4 +23,4 @@ returns c =
     let none : score_setup_fault (lists_of c.args.setup.now) ≡ None = not_refused _ (ap is_some (sym c.score_setup_fault.ensures) ∙ sym c.is_some.ensures ∙ c.if-is_some.false) in
     rw (sym c.command_of-read.ensures ∙ c.in-Ok.is, none)
     (c.wrong_at_first.ensures c.args._asked.now
-    ∙ sym (word_told (finds_text (finds score number c.in-Ok.command), commanded_score score number c.in-Ok.command) (wrong_command score c.in-Ok.command)))
+    ∙ sym (word_told (carried_out score number c.in-Ok.command) (wrong_command score c.in-Ok.command)))
