@@ -8,6 +8,7 @@ mod ranges;
 mod tests;
 
 pub use memory::ValueMemory;
+pub use ranges::{word_at, word_count};
 
 /// The `2^size` bytes from an address on, which is a multiple of their number, at most 4,096.
 #[derive(Clone, Copy, Debug, PartialEq, Eq)]

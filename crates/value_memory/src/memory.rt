@@ -6,7 +6,8 @@ ghost use Rattle.byte_orders.specs.Holdings.{beginning, is_compared, may_be_told
 ghost use Rattle.byte_orders.specs.Keeping.{IsRightlyBlamed};
 ghost use Rattle.byte_orders.specs.Runs.{Ends, Fails, IsBlamedInRuns, Resets, TakesEffect};
 ghost use Rattle.byte_values.specs.Words.{lane_list};
-ghost use Rattle.subordinate.specs.Faults.{device_fault, is_good, standing_at};
+ghost use Rattle.subordinate.specs.Faults.{device_fault, is_good, read_response, standing_at};
+ghost use Rattle.axi_beats.specs.Responses.{is_okay};
 ghost use Rattle.sparse_memory.specs.Ranges.{faults_of, is_unknown, pages_in};
 ghost use Rattle.serial_memory.specs.SerialMemory.{can_fill, is_filled, is_good_byte, some_lacks_room};
 ghost use Rattle.serial_memory.specs.declared.FillFault.TheVariants.{NoMemory, Place};
@@ -17,6 +18,7 @@ ghost use Rattle.value_memory.specs.ValueMemory.{AllGo, IsByteRange, KeepsCounts
 
 use crate::ByteRange;
 use crate::ranges::{address_behind, lanes_of, word_at, word_count};
+use axi_beats::Resp;
 use byte_values::{Change, KnownBytes, WordValues};
 use data_unit::{full_mask, place};
 use serial_memory::FillFault;
@@ -63,6 +65,14 @@ impl Drop for ValueMemory {
             crowds: _,
         } = self;
     }
+}
+
+/// Whether a response is an error.
+#[inline]
+fn is_error(resp: Resp) -> bool
+    ensures { result ≡ not (is_okay resp) }
+{
+    !matches!(resp, Resp::Okay)
 }
 
 /// One, if something is so.
@@ -117,6 +127,14 @@ impl ValueMemory {
         ensures { result ≡ is_good (standing_at (pages_of self.now) address) }
     {
         self.settled.is_good(address)
+    }
+
+    /// Whether a read at an address is answered with an error: its page isn't good, or its word is bad.
+    #[inline]
+    pub fn refuses_reads(&self, address: u32) -> bool
+        ensures { result ≡ not (is_okay (read_response (pages_of self.now) address)) }
+    {
+        is_error(self.settled.read_response(address))
     }
 
     /// Makes room for the good page of an address, where it has none. The one error is that memory was refused for it; then nothing

@@ -9,7 +9,7 @@ use data_unit::full_mask;
 
 /// How many words of eight bytes have a byte of a range.
 #[inline]
-pub(crate) fn word_count(range: ByteRange) -> u32
+pub fn word_count(range: ByteRange) -> u32
     requires { IsByteRange range }
     ensures { result ≡ word_count range }
 {
@@ -18,7 +18,7 @@ pub(crate) fn word_count(range: ByteRange) -> u32
 
 /// The address of one of these words, which are counted from 0.
 #[inline]
-pub(crate) fn word_at(range: ByteRange, place: u32) -> u32
+pub fn word_at(range: ByteRange, place: u32) -> u32
     requires range { IsByteRange range }
     requires place { place < word_count range }
     ensures address { result ≡ range.address + place * 8 }

@@ -1,0 +1,4 @@
+pub mod GivenBytes
+pub mod MadeBytes
+pub mod NumberLists
+pub mod Rising

@@ -1,0 +1,19 @@
+-- Lane by lane, of what is held by what the memory contains.
+use Rattle.std.proofs.Common.{◌/◌, ◌*◌, ◌+◌, ◌&&◌, List, ap, arith, not, sym, ◌∙◌}
+use Rattle.bus_words.specs.Lanes.{has_lane, lane_byte}
+use Rattle.bus_words.proofs.MaskLaws.{mask_of-has_lane, mask_of-same}
+use Rattle.byte_orders.specs.Holdings.{Holding, may_be_told}
+use Rattle.value_memory.specs.States.{contents_of, held_of}
+use Rattle.value_memory.proofs.StateSteps.{held-contents}
+use Rattle.value_board.proofs.found.wrong_in.Goals as goal
+
+pub returns : goal.returns
+returns c =
+    let m = c.args.memory.now in
+    let mask = c.wrong_lanes.result in
+    sym (mask_of-has_lane mask (omega arith))
+    ∙ mask_of-same (has_lane mask)
+    (λ lane. has_lane c.args.lanes lane && not (may_be_told (held_of (contents_of m) (c.args.address / 8 * 8 + lane)) c.args.number (lane_byte c.args.payload lane)))
+    (λ lane below.
+    c.wrong_lanes.ensures.told lane below
+    ∙ ap (λ (hs : List Holding). has_lane c.args.lanes lane && not (may_be_told hs c.args.number (lane_byte c.args.payload lane))) (held-contents m (c.args.address / 8 * 8 + lane)))
