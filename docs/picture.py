@@ -50,10 +50,10 @@ def coverage(folder: Path) -> Path:
         script.write_text(f'#!/bin/sh\nexec "{sys.executable}" -m zuldegei.{tool} "$@"\n')
         script.chmod(0o755)
     commands = COMMANDS.search((TOP / "docs/COVERAGE.md").read_text())[1]
-    page, path = TOP / "out" / PAGE.search(commands)[1], f"{folder}:{os.environ['PATH']}:{TOP}"
-    page.unlink(missing_ok=True)
-    subprocess.run(["sh", "-ec", commands], cwd=TOP, env={**environment(), "PATH": path}, stdout=subprocess.DEVNULL, check=False)
-    return page
+    path = f"{folder}:{os.environ['PATH']}:{TOP}"
+    (folder / "examples").symlink_to(TOP / "examples")
+    subprocess.run(["sh", "-ec", commands], cwd=folder, env={**environment(), "PATH": path}, stdout=subprocess.DEVNULL, check=False)
+    return folder / "out" / PAGE.search(commands)[1]
 
 
 PICTURES = {"timeline": Picture(timeline, "1080,640"), "coverage": Picture(coverage, "1080,900")}

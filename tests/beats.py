@@ -1,27 +1,22 @@
-"""Beats by lot for TileLink ports and for an AXI4 port, hundreds of thousands each, most of them illegal, beside plain models of
-the tables of rules in docs/RULES.md: the answer has to be the first rule that a beat breaks, in the order of its table; behind a
-refused TileLink beat all is as before, and behind a wrong AXI4 beat as docs/SCOREBOARD.md says. Each answer has to come at least
-1,000 times.
+"""Beats by lot for TileLink ports and for an AXI4 port, hundreds of thousands each, most of them illegal, beside the plain models of
+port_models.py: the answer has to be the first rule that a beat breaks. Each answer has to come at least 1,000 times.
 
     python3 tests/beats.py TLSCORE TLBRIDGE [--seed WORD]
 """
 
 import argparse
 import random
-import secrets
 import sys
-from collections import Counter, deque
-from dataclasses import dataclass, field, replace
-from typing import Callable, Iterator, Optional
+from collections import Counter
+from dataclasses import replace
+from pathlib import Path
+from typing import Callable, Iterator, NamedTuple
 
-from ends import started, told
-from observed import PARAMS, Burst
-
-from client import ABeat, beats_of  # observed.py says where it stands
-from random_bench import ARITHMETIC, GET, INTENT, LOGICAL, PUT_FULL, PUT_PARTIAL, full_mask
+from ends import asked, started, told
+from model import GET, INTENT, PUT_FULL, PUT_PARTIAL, ABeat, a_line, full_mask
+from port_models import ATOMICS, AXI_RULES, NUMBERS, PARAMS, AxiPort, Port, Side, crosses
 
 LEAST = 1_000
-ATOMICS = (ARITHMETIC, LOGICAL)
 SPOILS = 16  # of so many beats 6 are legal, 7 have a field that isn't, 2 have two, and of one all fields are by lot
 
 # ---- TileLink ports, each a client's of a script of `check`
@@ -29,61 +24,6 @@ SPOILS = 16  # of so many beats 6 are legal, 7 have a field that isn't, 2 have t
 # The clients' levels and the largest size of a script's ports.
 PORTS = (("lh", 3), ("h", 6), ("lh", 12)) * 2
 LINES = 65_000
-
-
-@dataclass
-class Port:
-    """What has come of the message that has begun, and the sources of whole ones that weren't freed."""
-
-    level: str
-    largest: int
-    message: list = field(default_factory=list)
-    busy: set = field(default_factory=set)
-
-    def broken(self, beat: ABeat) -> Optional[str]:
-        """The first rule that a beat breaks."""
-        return next((name for name, breaks in (LATER if self.message else FIRST) if breaks(self, beat)), None)
-
-    def take(self, beat: ABeat) -> str:
-        """Takes a beat, or refuses it; answers the name of the rule, MORE or WHOLE."""
-        name = self.broken(beat)
-        if name:
-            return name
-        self.message.append(beat)
-        if len(self.message) < beats_of(beat.size, beat.opcode < GET):
-            return "MORE"
-        self.message.clear()
-        self.busy.add(beat.source)
-        return "WHOLE"
-
-
-def is_masked(beat: ABeat) -> bool:
-    full = full_mask(beat.size, beat.address)
-    return beat.mask | full == full if beat.opcode == PUT_PARTIAL else beat.mask == full
-
-
-def is_alike(beat: ABeat, first: ABeat) -> bool:
-    return all(getattr(beat, it) == getattr(first, it) for it in ("opcode", "param", "size", "source", "address"))
-
-
-# The rules on a first beat and on a later one, each in the order of its tests.
-Rule = tuple[str, Callable[[Port, ABeat], bool]]
-FIRST: tuple[Rule, ...] = (
-    ("OPCODE", lambda port, it: it.opcode > INTENT),
-    ("LEVEL", lambda port, it: port.level == "l" and (it.opcode in (*ATOMICS, INTENT) or it.size > 3)),
-    ("SIZE", lambda port, it: it.size > port.largest),
-    ("ATOMIC_SIZE", lambda port, it: it.opcode in ATOMICS and it.size > 3),
-    ("ALIGN", lambda port, it: it.address % 2**it.size != 0),
-    ("PARAM", lambda port, it: it.param >= PARAMS[it.opcode]),
-    ("MASK", lambda port, it: not is_masked(it)),
-    ("CORRUPT", lambda port, it: it.opcode >= GET and it.corrupt == 1),
-    ("SOURCE_BUSY", lambda port, it: it.source in port.busy),
-)
-LATER: tuple[Rule, ...] = (
-    ("BURST_CONTROL", lambda port, it: not is_alike(it, port.message[0])),
-    ("MASK", lambda port, it: not is_masked(it)),
-)
-NUMBERS = {name: number for number, name in enumerate((*(name for name, _ in FIRST), "BURST_CONTROL"), 1)}
 
 
 class Beats:
@@ -156,12 +96,6 @@ class Beats:
         return replace(beat, **rng.choice(changes)())
 
 
-def fields_of(client: int, it: ABeat) -> str:
-    """Those of an `a` line, as its trace has them."""
-    head = f"{client} {it.opcode} {it.param} {it.size} {it.source}"
-    return f"{head} {it.address:08x} {it.mask:02x} {it.payload:016x} {it.corrupt}"
-
-
 def offered(rng: random.Random, levels: str, largest: int, counts: Counter) -> tuple[str, str]:
     """A script of `check`, and its trace. Most sources are freed as soon as their message is whole."""
     ports = [Port(level, largest) for level in levels]
@@ -172,10 +106,10 @@ def offered(rng: random.Random, levels: str, largest: int, counts: Counter) -> t
         beat = Beats(rng, port).draw()
         answer = port.take(beat)
         counts[answer] += 1
-        fields = fields_of(client, beat)
+        line = a_line(client, beat)
         said = f"refused {NUMBERS[answer]} {answer}" if answer in NUMBERS else answer.lower()
-        lines.append(f"a {fields}")
-        trace += [f"A {fields}", f"= {said}"]
+        lines.append(line.replace("A", "a", 1))
+        trace += [line, f"= {said}"]
         if answer == "WHOLE" and (rng.random() < 0.75 or len(port.busy) > 2):
             freed = rng.choice(sorted(port.busy))
             port.busy.remove(freed)
@@ -184,7 +118,7 @@ def offered(rng: random.Random, levels: str, largest: int, counts: Counter) -> t
     return "\n".join(lines) + "\n", "\n".join(trace) + "\n"
 
 
-def of_ports(rng: random.Random, tlbridge: str) -> Iterator:
+def of_ports(rng: random.Random, tlbridge: Path) -> Iterator:
     counts = Counter()
     for levels, largest in PORTS:
         script, trace = offered(rng, levels, largest, counts)
@@ -204,8 +138,6 @@ def often(name: str, counts: Counter, answers: tuple) -> Iterator:
 # IDs, bursts of an ID that may be unanswered, and the bytes of the bus.
 AXI_PORTS = ((16, 4, 8), (4, 2, 8), (1, 1, 8), (5, 3, 4))
 AXI_BEATS = 100_000
-AXI_RULES = ("SIZE", "BURST_KIND", "CROSS_4K", "ID_RANGE", "DEPTH", "W_WITHOUT_AW", "STROBE", "WLAST", "B_WITHOUT_WRITE",
-             "R_WITHOUT_READ", "RLAST", "EXOKAY")
 RESPONSES = ("OKAY",) * 4 + ("EXOKAY",) * 2 + ("SLVERR", "DECERR")
 # The rules that a beat of each channel may break.
 BROKEN = {
@@ -214,127 +146,29 @@ BROKEN = {
     "B": ("ID_RANGE", "B_WITHOUT_WRITE", "EXOKAY"),
     "R": ("ID_RANGE", "R_WITHOUT_READ", "RLAST", "EXOKAY"),
 }
-AXI_ANSWERS = tuple(f"{channel}:{name}" for channel, names in BROKEN.items() for name in (*names, "TAKEN"))
-
-
-def crosses(address: int, len: int, size: int) -> bool:
-    """Whether the first and the last byte of a burst lie in different pages."""
-    last = (address >> size << size) + ((len + 1) << size) - 1
-    return address >> 12 != last >> 12
-
-
-@dataclass
-class Side:
-    """The outstanding bursts of a side: of each ID that has some, the oldest first."""
-
-    of_id: dict[int, deque[Burst]] = field(default_factory=dict)
-    count: int = 0
-
-    def depth(self, id: int) -> int:
-        return len(self.of_id.get(id, ()))
-
-    def oldest(self, id: int) -> Optional[Burst]:
-        return self.of_id[id][0] if id in self.of_id else None
-
-    def open(self, burst: Burst) -> None:
-        self.of_id.setdefault(burst.id, deque()).append(burst)
-        self.count += 1
-
-    def close(self, id: int) -> None:
-        """The oldest of an ID is answered."""
-        self.of_id[id].popleft()
-        self.count -= 1
-        if not self.of_id[id]:
-            del self.of_id[id]
-
-
-@dataclass
-class AxiPort:
-    """The outstanding bursts of both sides, and the writes that lack data, in the order of their address beats."""
-
-    ids: int
-    depth: int
-    width: int
-    writes: Side = field(default_factory=Side)
-    reads: Side = field(default_factory=Side)
-    lacking: deque[Burst] = field(default_factory=deque)
-
-    def address(self, side: Side, id: int, address: int, len: int, size: int, burst: int) -> Optional[str]:
-        """Takes an AW or an AR, and answers the first rule that it breaks. It opens its burst all the same if that is BURST_KIND, CROSS_4K or
-        DEPTH, it breaks no other, and fewer than twice the depth are open."""
-        broken = (2**size > self.width, burst != 1, crosses(address, len, size), id >= self.ids, side.depth(id) >= self.depth)
-        if not (broken[0] or broken[3] or side.depth(id) >= 2 * self.depth):
-            opened = Burst(id, address, len, size)
-            side.open(opened)
-            if side is self.writes:
-                self.lacking.append(opened)
-        return AXI_RULES[broken.index(True)] if any(broken) else None
-
-    def to_fill(self) -> Optional[Burst]:
-        """The oldest write that lacks data."""
-        return self.lacking[0] if self.lacking else None
-
-    def w(self, payload: int, strobes: int, last: int) -> Optional[str]:
-        burst = self.to_fill()
-        if burst is None:
-            return "W_WITHOUT_AW"
-        broken = strobes & ~burst.transfer(self.width)[2] != 0, bool(last) != burst.is_last()
-        if burst.is_last():
-            self.lacking.popleft()
-        burst.came += 1
-        return AXI_RULES[6 + broken.index(True)] if any(broken) else None
-
-    def b(self, id: int, resp: str) -> Optional[str]:
-        burst = self.writes.oldest(id)
-        if id >= self.ids:
-            return "ID_RANGE"
-        if burst is None or burst.came <= burst.len:
-            return "B_WITHOUT_WRITE"
-        if resp == "EXOKAY":
-            return "EXOKAY"
-        self.writes.close(id)
-        return None
-
-    def r(self, id: int, payload: int, resp: str, last: int) -> Optional[str]:
-        burst = self.reads.oldest(id)
-        if id >= self.ids:
-            return "ID_RANGE"
-        if burst is None:
-            return "R_WITHOUT_READ"
-        if bool(last) != burst.is_last():
-            return "RLAST"
-        if resp == "EXOKAY":
-            return "EXOKAY"
-        burst.came += 1
-        if last:
-            self.reads.close(id)
-        return None
+AXI_ANSWERS = tuple((channel, name) for channel, names in BROKEN.items() for name in (*names, "TAKEN"))
 
 
 class AxiBeats:
-    """Draws beats near what an AXI4 port takes, and has it take them."""
+    """Draws beats near what an AXI4 port takes."""
 
     def __init__(self, rng: random.Random, port: AxiPort):
         self.rng, self.port = rng, port
 
-    def draw(self) -> tuple[str, str, Optional[str]]:
-        """The channel of a beat, its line, and the rule that it breaks."""
+    def draw(self) -> tuple[str, list]:
+        """The channel of a beat, and its fields."""
         rng, port, kind = self.rng, self.port, self.rng.randrange(16)
         if kind < 4:
             channel, side = ("AW", port.writes) if kind < 2 else ("AR", port.reads)
-            id, address, *shape = beat = self.address(side)
-            return channel, f"{channel} {id} {address:08x} {' '.join(map(str, shape))}", port.address(side, *beat)
+            return channel, [*self.address(side)]
         if kind < 9:
-            payload, strobes, last = beat = self.data()
-            return "W", f"W {payload:016x} {strobes:02x} {last}", port.w(*beat)
+            return "W", [*self.data()]
         if kind < 11:
-            beat = self.id_of(port.writes), rng.choice(RESPONSES)
-            return "B", "B {} {}".format(*beat), port.b(*beat)
+            return "B", [self.id_of(port.writes), rng.choice(RESPONSES)]
         id = self.id_of(port.reads)
         burst = port.reads.oldest(id)
         last = (burst is not None and burst.is_last()) != (rng.random() < 0.25)
-        beat = id, rng.getrandbits(64), rng.choice(RESPONSES), int(last)
-        return "R", "R {} {:016x} {} {}".format(*beat), port.r(*beat)
+        return "R", [id, rng.getrandbits(64), rng.choice(RESPONSES), int(last)]
 
     def address(self, side: Side) -> tuple[int, int, int, int, int]:
         """ID, address, len, size and burst: those of a beat that breaks no rule but DEPTH, or with another field or two, or all by
@@ -368,7 +202,7 @@ class AxiBeats:
         kind = rng.randrange(16)
         if burst is None or kind == 15:
             return rng.getrandbits(64), rng.getrandbits(8), rng.getrandbits(1)
-        lanes = burst.transfer(self.port.width)[2]
+        lanes = burst.lanes(self.port.width)
         strobes = lanes if rng.random() < 0.5 else lanes & rng.getrandbits(8)
         other = 1 << rng.randrange(8) if kind in (8, 9, 10, 14) else 0
         return rng.getrandbits(64), strobes ^ other, int(burst.is_last() != (kind in (11, 12, 13, 14)))
@@ -383,44 +217,51 @@ class AxiBeats:
         return rng.choice([*side.of_id]) if side.of_id and kind != 1 else rng.randrange(self.port.ids)
 
 
-def observed(rng: random.Random, port: AxiPort, counts: Counter) -> tuple[str, str]:
-    """An observation, and what is said of it."""
-    lines = [f"config 1 1 {port.ids} {port.depth} 16 12 h {port.width}"]
-    said, beats = [], AxiBeats(rng, port)
-    for number in range(2, AXI_BEATS + 2):
-        channel, line, name = beats.draw()
-        counts[f"{channel}:{name or 'TAKEN'}"] += 1
-        lines.append(line)
+def line_of(channel: str, fields: list) -> str:
+    digits = {"AW": {1: "08x"}, "AR": {1: "08x"}, "W": {0: "016x", 1: "02x"}, "R": {1: "016x"}}.get(channel, {})
+    return " ".join((channel, *(format(it, digits.get(place, "")) for place, it in enumerate(fields))))
+
+
+class Observed(NamedTuple):
+    """An observation of beats by lot, what is said of it, how often each channel had each answer, and how many bursts were open at most."""
+
+    lines: bytes
+    said: bytes
+    counts: Counter
+    most: int
+
+
+def observed(port: AxiPort, draw: Callable[[], tuple[str, list]], count: int, longest: int) -> Observed:
+    """So many beats at an AXI4 port, and by the plain model of it the first rule that each breaks."""
+    lines, said, counts, most = [f"config 1 1 {port.ids} {port.depth} {longest} 12 h {port.width}"], [], Counter(), 0
+    for number in range(2, count + 2):
+        channel, fields = draw()
+        name = port.take(channel, fields)
+        lines.append(line_of(channel, fields))
+        counts[channel, name or "TAKEN"] += 1
+        most = max(most, port.opened())
         if name:
             said.append(f"= wrong {number} axi {AXI_RULES.index(name) + 1} {name}")
-    open_bursts = port.writes.count + port.reads.count
-    said.append(f"= judged {AXI_BEATS} wrong {len(said)} outstanding 0 open {open_bursts} compared 0 of 0")
-    return "\n".join(lines) + "\n", "\n".join(said) + "\n"
+    said.append(f"= judged {count} wrong {len(said)} outstanding 0 open {port.opened()} compared 0 of 0")
+    return Observed(*("".join(f"{it}\n" for it in them).encode() for them in (lines, said)), counts, most)
 
 
-def of_axi(rng: random.Random, tlscore: str) -> Iterator:
+def of_axi(rng: random.Random, tlscore: Path) -> Iterator:
     counts = Counter()
     for limits in AXI_PORTS:
-        lines, said = observed(rng, AxiPort(*limits), counts)
-        yield f"an AXI4 port of {limits}", started([tlscore], lines.encode()).wrong(1, said.encode(), b"")
+        port = AxiPort(*limits)
+        seen = observed(port, AxiBeats(rng, port).draw, AXI_BEATS, 16)
+        counts += seen.counts
+        yield f"an AXI4 port of {limits}", started([tlscore], seen.lines).wrong(1, seen.said, b"")
     yield from often("AXI4 port", counts, AXI_ANSWERS)
 
 
-def cases(tlscore: str, tlbridge: str, seed: str) -> Iterator:
-    print(f"seed {seed}")
-    rng = random.Random(seed)
-    yield from of_ports(rng, tlbridge)
-    yield from of_axi(rng, tlscore)
-
-
-def main() -> int:
-    asked = argparse.ArgumentParser(description=__doc__)
-    asked.add_argument("tlscore")
-    asked.add_argument("tlbridge")
-    asked.add_argument("--seed", default=secrets.token_hex(4))
-    given = asked.parse_args()
-    return told(cases(given.tlscore, given.tlbridge, given.seed))
+def cases(given: argparse.Namespace) -> Iterator:
+    print(f"seed {given.seed}")
+    rng = random.Random(given.seed)
+    yield from of_ports(rng, given.tlbridge)
+    yield from of_axi(rng, given.tlscore)
 
 
 if __name__ == "__main__":
-    sys.exit(main())
+    sys.exit(told(cases(asked(__doc__, "tlscore", "tlbridge", by_lot=True).parse_args())))

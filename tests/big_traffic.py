@@ -11,15 +11,15 @@ import random
 from dataclasses import dataclass, field, replace
 from typing import NamedTuple
 
-from big_memory import EACH, GETS, GOOD, PAGE, UNKNOWN, BigMemory, BigSetup
-from model import ARITHMETIC, GET, INTENT, LOGICAL, PUT_FULL, PUT_PARTIAL, DBeat
+from big_memory import EACH, GETS
+from model import (
+    ARITHMETIC, GET, GOOD, INTENT, LOGICAL, PAGE, PUT_FULL, PUT_PARTIAL, UNKNOWN, ABeat, DBeat, Memory, Setup, a_line, beats_of,
+    d_line, full_mask,
+)  # fmt: skip
+from port_models import ATOMICS, PARAMS
 
-from client import ABeat, beats_of  # model.py says where it stands
-from random_bench import full_mask
-
-PUTS, ATOMICS = (PUT_FULL, PUT_PARTIAL), (ARITHMETIC, LOGICAL)
+PUTS = (PUT_FULL, PUT_PARTIAL)
 OPCODES = [PUT_FULL] * 3 + [PUT_PARTIAL] * 2 + [ARITHMETIC, LOGICAL, INTENT] + [GET] * 6
-PARAMS = {ARITHMETIC: 5, LOGICAL: 4, INTENT: 2}
 SIZES = [0, 1, 2] * 8 + [3] * 60 + [4, 5, 6] * 8 + [7, 8, 9] * 2 + [10, 11, 12]
 WINDOW, RECENT, SOURCES = 128, 3, 32
 WINDOWS = 0, 0xA80, PAGE - WINDOW  # where most requests lie in their page
@@ -84,7 +84,7 @@ class Bytes:
 class Known(dict):
     """What is known of the bytes of the memory by what was given, by page."""
 
-    def __init__(self, setup: BigSetup) -> None:
+    def __init__(self, setup: Setup) -> None:
         super().__init__()
         self.setup = setup
 
@@ -141,9 +141,9 @@ class Known(dict):
 class Traffic:
     """What is seen of some requests: the lines, and what is known of those that tell data."""
 
-    def __init__(self, setup: BigSetup, asked: Asked, pages: int, requests: int, seed: str) -> None:
+    def __init__(self, setup: Setup, asked: Asked, pages: int, requests: int, seed: str) -> None:
         self.setup, self.asked, self.rng = setup, asked, random.Random(f"{seed} {asked}")
-        self.memory, self.sure = BigMemory(setup, seed), Known(setup)
+        self.memory, self.sure = Memory(setup, seed), Known(setup)
         self.lines = [*setup.lines, *asked.lines]
         self.flights: list[list[Flight]] = [[] for _ in range(setup.clients)]
         self.new, self.spare, self.twins = new_pages(self.rng, setup, pages), spare_pages(self.rng, setup), twins(setup)
@@ -228,7 +228,7 @@ class Traffic:
         """The beats of a request, each corrupt by lot."""
         rng = self.rng
         size, at = self.span(opcode, page)
-        param = rng.randrange(PARAMS.get(opcode, 1))
+        param = rng.randrange(PARAMS[opcode])
         source = rng.choice(sorted({*range(SOURCES)} - {it.first.source for it in self.flights[client]}))
         address, beats = page * PAGE + at, []
         full = full_mask(size, address)
@@ -257,9 +257,7 @@ class Traffic:
 
     def offer(self, flight: Flight) -> None:
         """The next beat of a message comes."""
-        it = flight.beats[flight.sent]
-        fields = f"{it.opcode} {it.param} {it.size} {it.source} {it.address:08x} {it.mask:02x} {it.payload:016x} {it.corrupt}"
-        self.say(f"A {flight.client} {fields}")
+        self.say(a_line(flight.client, flight.beats[flight.sent]))
         flight.sent += 1
         if flight.is_whole and self.asked.profile == "bridge":
             self.carry_out(flight)
@@ -308,7 +306,7 @@ class Traffic:
         if not flight.reply:
             self.carry_out(flight)
         it, beat = flight.reply[flight.told], flight.told
-        self.say(f"D {it.client} {it.opcode} 0 {it.size} {it.source} {it.denied} {self.shown(flight, it):016x} {it.corrupt}")
+        self.say(d_line(replace(it, payload=self.shown(flight, it))))
         flight.told += 1
         if it.opcode == 1:
             self.told += min(8, 2**it.size)
@@ -338,7 +336,7 @@ class Traffic:
             self.fresh[len(self.lines)] = free
 
 
-def new_pages(rng: random.Random, setup: BigSetup, count: int) -> list[int]:
+def new_pages(rng: random.Random, setup: Setup, count: int) -> list[int]:
     """Pages of TileLink's that lead to good ones, by lot: with those that a region for Gets leads to as well among them, and with some
     whose numbers differ in one bit, behind each other."""
     regions = [it for it in setup.regions if it[3] == EACH]
@@ -353,7 +351,7 @@ def new_pages(rng: random.Random, setup: BigSetup, count: int) -> list[int]:
     return [*found]
 
 
-def spare_pages(rng: random.Random, setup: BigSetup) -> list[int]:
+def spare_pages(rng: random.Random, setup: Setup) -> list[int]:
     """Pages of TileLink's of which a request fails: those for Gets alone, those that fail, are absent or in no region."""
     ends = [first + at for first, many, _, _ in setup.regions for at in (0, many - 1, many - 2)]
     others = [page for page in rng.sample(range(1 << 20), 64) if setup.place_of(page) is None]
@@ -361,7 +359,7 @@ def spare_pages(rng: random.Random, setup: BigSetup) -> list[int]:
     return [page for page in ends if setup.pages.get(setup.place_of(page)) != GOOD] + others[:8] + alone
 
 
-def twins(setup: BigSetup) -> dict[int, int]:
+def twins(setup: Setup) -> dict[int, int]:
     """By a page of the memory, the page of a region for Gets that leads there."""
     regions = [it for it in setup.regions if it[3] == GETS]
     return {to + at: first + at for first, many, to, _ in regions for at in range(many)}

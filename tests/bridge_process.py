@@ -10,10 +10,8 @@ installed is named.
     python3 tests/bridge_process.py TLBRIDGE [SCRIPTS] [--requests N] [--seed WORD] [--library FOLDER]
 """
 
-import argparse
 import os
 import random
-import secrets
 import subprocess
 import sys
 import tempfile
@@ -23,7 +21,7 @@ from pathlib import Path
 import script_cases
 import stored
 from c_programs import C, TOP, Part, c_compiler, compile_c, compiled, languages, library_of, watched, wrong_calls
-from ends import Ended, started, told
+from ends import Ended, asked, started, told
 from run_traces import SECONDS, Hostile, Interactive
 
 import random_bench
@@ -35,45 +33,6 @@ PIPED_STEPS = 2_000  # of the random testbench over pipes
 STEPS_A_REQUEST = 26  # of the random testbench, at most
 SETUP = script_cases.SETUP
 GET = ABeat(opcode=4, param=0, size=3, source=0, address=0x10)
-
-# Calls that aren't carried out, by the status and the text of each: what is given, and what may be.
-BYTES = "and not a number from 0 to 255"
-REFUSED = {
-    "a client over its range": (lambda it: it.offer(256, GET), Error.RANGE, f"client is 256, {BYTES}"),
-    "a client below 0": (lambda it: it.take(-1), Error.RANGE, f"client is -1, {BYTES}"),
-    "a client of 2^32": (lambda it: it.take(2**32), Error.RANGE, f"client is 4294967296, {BYTES}"),
-    "a client that is a text": (lambda it: it.take("0"), Error.RANGE, f"client is '0', {BYTES}"),
-    "a beat that is none": (lambda it: it.offer(0, None), Error.RANGE, "beat is None, and not an ABeat"),
-    "an opcode that is a text": (lambda it: it.offer(0, ABeat("4", 0, 3, 0, 0)), Error.RANGE, f"opcode is '4', {BYTES}"),
-    "a size of 3.0": (lambda it: it.offer(0, ABeat(4, 0, 3.0, 0, 0)), Error.RANGE, f"size is 3.0, {BYTES}"),
-    "a source of 256": (lambda it: it.offer(0, ABeat(4, 0, 3, 256, 0)), Error.RANGE, f"source is 256, {BYTES}"),
-    "an address of 2^32": (lambda it: it.offer(0, ABeat(4, 0, 3, 0, 2**32)), Error.RANGE, "address is 4294967296, and not a number from 0 to 0xffffffff"),
-    "a mask of 256": (lambda it: it.offer(0, ABeat(4, 0, 3, 0, 0, 256)), Error.RANGE, f"mask is 256, {BYTES}"),
-    "a payload of 65 bits": (lambda it: it.offer(0, ABeat(0, 0, 3, 0, 0, 255, 2**64)), Error.RANGE,
-                             f"payload is {2**64}, and not a number from 0 to 0xffffffffffffffff"),
-    "a payload of bytes": (lambda it: it.offer(0, ABeat(0, 0, 3, 0, 0, 255, b"1")), Error.RANGE,
-                           "payload is b'1', and not a number from 0 to 0xffffffffffffffff"),
-    "a corrupt of 2": (lambda it: it.offer(0, ABeat(0, 0, 3, 0, 0, 255, 0, 2)), Error.RANGE, "corrupt is 2, and neither True nor False"),
-    "a corrupt that is a word": (lambda it: it.offer(0, ABeat(0, 0, 3, 0, 0, 255, 0, "no")), Error.RANGE, "corrupt is 'no', and neither True nor False"),
-    "a serial of 2^64": (lambda it: it.perform(2**64, 0), Error.RANGE, f"serial is {2**64}, and not a number from 0 to 0xffffffffffffffff"),
-    "a beat of 65,536": (lambda it: it.perform(0, 65_536), Error.RANGE, "beat is 65536, and not a number from 0 to 0xffff"),
-    "an ID of 256": (lambda it: it.answer_r(256), Error.RANGE, f"id is 256, {BYTES}"),
-    "an ID of 2^32": (lambda it: it.answer_b(2**32), Error.RANGE, f"id is 4294967296, {BYTES}"),
-    "a byte at 2^32": (lambda it: it.byte(2**32), Error.RANGE, "address is 4294967296, and not a number from 0 to 0xffffffff"),
-    "a choice that isn't there": (lambda it: it.choose(0), Error.RANGE, "k is 0, and there are 0 steps to choose from"),
-    "a choice that is none": (lambda it: it.choose(None), Error.RANGE, "k is None, and not a number from 0 to 0xffffffffffffffff"),
-    "a step that is none": (lambda it: it.make(None), Error.RANGE, "step is None, and not one that choose gives"),
-    "a step that lacks a number": (lambda it: it.make(("do", 0)), Error.RANGE, "step is ('do', 0), and not one that choose gives"),
-    "a second set-up": (lambda it: it.setup("1 1 1 1 1 12 h"), Error.SETUP, "there is a set-up already"),
-    "no set-up": (lambda it: Bridge("", it._library), Error.WORD - 1, "script fault: line 1, word 1"),
-    "a set-up that is a number": (lambda it: Bridge(5, it._library), Error.RANGE, "setup is 5, and not a text"),
-    "regions that are a text": (lambda it: Bridge(library=it._library).setup("1 1 1 1 1 12 h", "0 4 10 gpah"), Error.RANGE,
-                                "the items of region are '0 4 10 gpah', and not a list of texts"),
-    "a call without a set-up": (lambda it: Bridge(library=it._library).drain(), Error.NULL,
-                                "there is no set-up: give one to Bridge, or call setup"),
-    "a zero byte in the set-up": (lambda it: Bridge("#\0", it._library), Error.WORD, "script fault: line 1, word 0"),
-    "a set-up that is refused": (lambda it: Bridge("config 2 4 99 2 16 12 hh", it._library), Error.SETUP, "set-up fault: BadConfig 0"),
-}  # fmt: skip
 # Lines that the scoreboard alone knows, as docs/SCOREBOARD.md has them ("Lines").
 SCOREBOARDS = "profile tilelink\n errors any\naxi strict\nx data\nfill 10000 1 2 3\ntime 5\nwaited A0 1\n= said\n"
 
@@ -175,15 +134,10 @@ def by_words(tlbridge, library):
 
 def in_python(library):
     """Wrong calls of the class, and what the program has no command for."""
-    for name, (call, status, text) in REFUSED.items():
+    for it in stored.blocks(TOP / "tests/calls/bridge.calls"):
         with Bridge(SETUP, library) as bridge:
-            try:
-                why = f"it gave {call(bridge)!r}"
-            except BridgeError as got:
-                why = None if (got.status, str(got)) == (status, text) else f"{got.status}, {got}"
-            except Exception as got:
-                why = f"it raised {type(got).__name__}: {got}"
-            yield name, why or (None if bridge.work() == 0 and bridge.choices() == 0 else "the bridge has changed")
+            why = it.refused({**globals(), "bridge": bridge, "library": library}, BridgeError, Error)
+            yield it.name, why or (None if bridge.work() == 0 and bridge.choices() == 0 else "the bridge has changed")
     try:
         yield "a bridge that was closed", f"it gave {bridge.drain()!r}"
     except BridgeError as got:
@@ -227,15 +181,16 @@ def example(folder, library):
         yield f"the example as {name}", why or (None if ran.status == 0 and b"11 22 33 44 55 66 77 88\n" in ran.text else f"{ran}")
 
 
-def cases(asked):
+def cases(given):
+    print(f"seed {given.seed}")
     if not c_compiler():
         print("skipped: the model in the process of a test, as there is no C compiler")
         return
-    folder, why = library_of(asked)
+    folder, why = library_of(given)
     if why:
         yield "the library", why
         return
-    tlbridge, rng = str(Path(asked.tlbridge).resolve()), random.Random(asked.seed)
+    tlbridge, rng = str(given.tlbridge), random.Random(given.seed)
     library = scoreboard.load(folder / "libzuldegei.so")
     with tempfile.TemporaryDirectory() as room:
         program = compiled("bridge_process", TOP / "tests/bridge_process.c", folder=Path(room), library=folder)
@@ -246,21 +201,13 @@ def cases(asked):
         yield from in_python(library)
         yield from refused(library)
         yield from by_words(tlbridge, folder)
-        yield from by_lot(program, tlbridge, library, rng, asked.scripts)
-        yield from benches(tlbridge, library, rng, asked.requests)
-
-
-def main():
-    asked = argparse.ArgumentParser(description=__doc__)
-    asked.add_argument("tlbridge")
-    asked.add_argument("scripts", nargs="?", type=int, default=1_000, help="how many scripts by lot (1,000)")
-    asked.add_argument("--requests", type=int, default=100_000, help="how many requests in the process (100,000)")
-    asked.add_argument("--seed", default=secrets.token_hex(4))
-    asked.add_argument("--library", help="where libzuldegei.a and libzuldegei.so stand (out, where they are built)")
-    given = asked.parse_args()
-    print(f"seed {given.seed}")
-    return told(cases(given))
+        yield from by_lot(program, tlbridge, library, rng, given.scripts)
+        yield from benches(tlbridge, library, rng, given.requests)
 
 
 if __name__ == "__main__":
-    sys.exit(main())
+    words = asked(__doc__, "tlbridge", by_lot=True)
+    words.add_argument("scripts", nargs="?", type=int, default=1_000, help="how many scripts by lot (1,000)")
+    words.add_argument("--requests", type=int, default=100_000, help="how many requests in the process (100,000)")
+    words.add_argument("--library", help="where libzuldegei.a and libzuldegei.so stand (out, where they are built)")
+    sys.exit(told(cases(words.parse_args())))

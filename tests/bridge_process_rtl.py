@@ -20,8 +20,10 @@ from concurrent.futures import ThreadPoolExecutor
 from pathlib import Path
 from typing import Iterator, List, NamedTuple, Optional, Tuple
 
-from ends import told
-from in_process_rtl import SYSTEMVERILOG, TOP, UNOPTIMIZED, Simulated, built, failed_wrong, long_setup, run, started
+import stored
+from ends import Case, asked, is_there, told
+from in_process_rtl import TOP, failed_wrong, long_setup
+from simulators import SYSTEMVERILOG, Simulated, by_icarus, by_verilator, run, started
 
 MEMORY, PREDICTOR = SYSTEMVERILOG / "zuldegei_axi_memory.sv", SYSTEMVERILOG / "zuldegei_predictor.sv"
 PACKAGE, BIND = SYSTEMVERILOG / "zuldegei_pkg.sv", SYSTEMVERILOG / "example_predictor_bind.sv"
@@ -34,7 +36,6 @@ TOLD = re.compile(r"(?m)^\[(\d+)\] %Error: .*zuldegei: (.*)$")
 ENDED = re.compile(r"(?m)^zuldegei: = predicted (\d+) wrong (\d+)$")
 REPLY = re.compile(r"(?m)^= wrong \d+ reply (?!9 ).* at (\d+)$")
 MANY = "+verilator+error+limit+1000000"
-Case = Tuple[str, Optional[str]]
 
 
 class Bench(NamedTuple):
@@ -67,11 +68,8 @@ def made(bench: Bench, library: Path, folder: Path) -> Path:
     room = Path(tempfile.mkdtemp(dir=folder))
     files = [it for it in run.FILES if it != "memory.sv"] + [str(MEMORY)]
     files += [str(it) for it in (PACKAGE, REPLIES, PREDICTOR, BIND, library / "libzuldegei.a")] if bench.predicts else []
-    words = ["verilator", "--cc", "--exe", "--main", "--timing", "-Wno-fatal", f"-DFREE_MEMORY={bench.order}"]
-    words += run.Bench(bench.bridge, run.Asked(), bug=bench.bug, habit=bench.habit).defines
-    built([*words, "--top-module", "testbench", "-Mdir", str(room), "-o", "bench", *files], run.HERE, bench.name)
-    built(["make", "-s", "-f", "Vtestbench.mk", *UNOPTIMIZED], room, bench.name)
-    return room / "bench"
+    defines = run.Bench(bench.bridge, run.Asked(), bug=bench.bug, habit=bench.habit).defines
+    return by_verilator(room, "testbench", files, f"-DFREE_MEMORY={bench.order}", *defines)
 
 
 def simulated(bench: Path, seed: int, *more: str) -> Tuple[int, str, str]:
@@ -107,24 +105,14 @@ def predicted_wrong(program: Path, seed: int, status: int, text: str, judged: st
 
 def words_tried(program: Path) -> Iterator[Case]:
     """Words of the run by which the predictor, or the memory, can't do its work; each with Verilator's limit of errors, and without."""
-    setup, folder = f"+zuldegei_setup={run.HERE / 'setup.lines'}", program.parent
+    folder = program.parent
+    shutil.copy(run.HERE / "setup.lines", folder)
     (folder / "unknown.lines").write_text("config 2 4 16 2 16 12 hh\nprofile tilelink\nregions\n")
-    for words, why in (
-        (["+zuldegei_setup=unknown.lines"], "no model: script fault: line 2, word 1 (-1001)"),
-        (["+zuldegei_setup=nofile"], "nofile can't be read"),
-        ([], "there is no set-up, neither by +zuldegei_setup=FILE nor by SETUP"),
-        ([setup, "+zuldegei_stop=x"], "+zuldegei_stop=x has no number of up to nine digits"),
-        ([setup, "+zuldegei_seed=x"], "+zuldegei_seed=x has no number of up to 18 digits"),
-        ([setup, "+zuldegei_seed"], "+zuldegei_seed= has no number of up to 18 digits"),
-        ([setup, "+zuldegei_errors=17"], "+zuldegei_errors=17 has no number of 0 to 16"),
-        ([setup, "+zuldegei_ready_waits=16"], "+zuldegei_ready_waits=16 has no number of 0 to 15"),
-        ([setup, "+zuldegei_b_waits"], "+zuldegei_b_waits= has no number of 0 to 15"),
-        ([setup, "+zuldegei_r_waits=x"], "+zuldegei_r_waits=x has no number of 0 to 15"),
-    ):
+    for it in stored.blocks(TOP / "tests/words/predictor.words"):
         for limit in ([MANY], []):
-            ran = started(program, *limit, *words)
-            is_told = f"zuldegei: the run failed: {why}\n" in ran.text and (ran.status == 1 if limit else ran.status != 0)
-            yield f"with {words} and {limit}", None if is_told else f"status {ran.status}: {ran.text[-300:]!r}"
+            ran = started(program, *limit, *it.words)
+            is_told = f"zuldegei: the run failed: {it.due}\n" in ran.text and (ran.status == 1 if limit else ran.status != 0)
+            yield f"with {it.given} and {limit}", None if is_told else f"status {ran.status}: {ran.text[-300:]!r}"
 
 
 def by_words(program: Path, score: str) -> Iterator[Case]:
@@ -166,23 +154,19 @@ def tried(bench: Bench, program: Path, given: argparse.Namespace) -> Iterator[Ca
 def calls(library: Path, folder: Path) -> Iterator[Case]:
     """The calls by DPI-C."""
     room = Path(tempfile.mkdtemp(dir=folder))
-    words = ["verilator", "--binary", "--timing", "-Wno-fatal", "--top-module", "bridge_process", "-Mdir", str(room), "-o", "bench"]
-    built([*words, str(PACKAGE), str(TOP / "tests/bridge_process.sv"), str(library / "libzuldegei.a")], room, "the calls")
-    ran = subprocess.run([room / "bench"], stdout=subprocess.PIPE, text=True, timeout=60, check=False)
+    bench = by_verilator(room, "bridge_process", (PACKAGE, TOP / "tests/bridge_process.sv", library / "libzuldegei.a"))
+    ran = subprocess.run([bench], stdout=subprocess.PIPE, text=True, timeout=60, check=False)
     lines = [it for it in ran.stdout.splitlines() if not it.startswith("- ")]
     yield "the calls by DPI-C", None if lines == ["looked at 44"] and ran.returncode == 0 else f"status {ran.returncode}: {lines[:3]}"
 
 
 def replies() -> Iterator[Case]:
     """The comparison of replies, by four states."""
-    if not shutil.which("iverilog"):
-        print("skipped: how the predictor compares replies with x, as iverilog isn't installed")
+    if not is_there("how the predictor compares replies with x", "iverilog"):
         return
     with tempfile.TemporaryDirectory() as room:
-        bench = Path(room, "replies.vvp")
-        words = ["iverilog", "-g2012", "-s", "replies", "-o", str(bench), str(REPLIES), str(TOP / "tests/replies.sv")]
-        built(words, Path(room), "the comparison of replies")
-        ran = subprocess.run(["vvp", "-n", bench], stdout=subprocess.PIPE, text=True, timeout=60, check=False)
+        words = by_icarus(Path(room, "replies.vvp"), "replies", (REPLIES, TOP / "tests/replies.sv"))
+        ran = subprocess.run(words, stdout=subprocess.PIPE, text=True, timeout=60, check=False)
     lines = ran.stdout.splitlines()
     is_well = lines == ["compared 4010"] and ran.returncode == 0
     yield "the comparison of replies", None if is_well else f"status {ran.returncode}, {len(lines)} lines: {lines[:3]}"
@@ -190,11 +174,10 @@ def replies() -> Iterator[Case]:
 
 def in_verilator(given: argparse.Namespace) -> Iterator[Case]:
     """What needs the library, in the simulator."""
-    if not shutil.which("verilator"):
-        print("skipped: the free memory and the predictor in the simulator, as verilator isn't installed")
+    if not is_there("the free memory and the predictor in the simulator", "verilator"):
         return
     with tempfile.TemporaryDirectory() as room, ThreadPoolExecutor(given.jobs) as pool:
-        folder, library = Path(room), Path(given.library or TOP / "out").resolve()
+        folder, library = Path(room), given.library
         yield from calls(library, folder)
         programs = [*pool.map(lambda it: made(it, library, folder), BENCHES)]
         yield from words_tried(programs[0])
@@ -209,14 +192,8 @@ def cases(given: argparse.Namespace) -> Iterator[Case]:
     yield from in_verilator(given)
 
 
-def main() -> int:
-    asked = argparse.ArgumentParser(description=__doc__)
-    asked.add_argument("score", metavar="TLSCORE", type=lambda it: Path(it).resolve())
-    asked.add_argument("--seeds", type=int, default=10, help="how many runs of each (10)")
-    asked.add_argument("--library", help="where libzuldegei.a stands (out)")
-    asked.add_argument("--jobs", type=int, default=os.cpu_count() or 1, help="how many at once (one a processor)")
-    return told(cases(asked.parse_args()))
-
-
 if __name__ == "__main__":
-    sys.exit(main())
+    words = asked(__doc__, "score", over_library=True)
+    words.add_argument("--seeds", type=int, default=10, help="how many runs of each (10)")
+    words.add_argument("--jobs", type=int, default=os.cpu_count() or 1, help="how many at once (one a processor)")
+    sys.exit(told(cases(words.parse_args())))

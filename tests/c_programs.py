@@ -6,9 +6,8 @@ import subprocess
 from pathlib import Path
 from typing import Iterator, NamedTuple, Tuple
 
-from ends import Ended, started
+from ends import TOP, Ended, is_there, started
 
-TOP = Path(__file__).resolve().parent.parent
 C = TOP / "interfaces/c"
 STRICT = ["-Wall", "-Wextra", "-Werror", "-O2", f"-I{C}"]
 WATCHED = ["-fsanitize=address,undefined", "-fno-sanitize-recover=all", "-g"]
@@ -75,8 +74,7 @@ def wrong_calls(part: Part, folder, library):
     refused = compiled(f"{part.name}-refused", TOP / f"tests/{part.name}_refused.c", wrap, folder=folder, library=library)
     yield silent("wrong calls", calls)
     yield silent("each malloc and realloc refused in turn", refused)
-    if not shutil.which("valgrind"):
-        print(f"skipped: the calls of the {part.what} under valgrind, as it isn't installed")
+    if not is_there(f"the calls of the {part.what} under valgrind", "valgrind"):
         return
     yield silent("wrong calls under valgrind", *VALGRIND, calls)
     yield silent("refused memory under valgrind", *VALGRIND, refused)

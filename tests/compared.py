@@ -4,14 +4,12 @@ said of it. Which beats are wrong is taken from there; what each reply may show 
 import re
 from dataclasses import dataclass, field
 
-from model import GET, INTENT, PUT_FULL, PUT_PARTIAL, Memory, Setup
-
+from model import GET, GOOD, INTENT, PUT_FULL, PUT_PARTIAL, UNKNOWN, ABeat, Memory, beats_of, setup_of
+from port_models import Burst, Side
 from unknown import doubted, is_unclear, known, lanes_in
 
-from client import ABeat, beats_of  # model.py says where it stands
-
 WRONG = re.compile(r"(?m)^= wrong (\d+) (\w+) (\d+)")
-UNKNOWN = (None, "request 17", "axi 13")  # what a beat is called that counts all the same, where nobody knows lanes of it alone
+COUNTING = (None, "request 17", "axi 13")  # what a beat is called that counts all the same, where nobody knows lanes of it alone
 WITHDRAWN = ("noclient", "refused", "notready", "exhausted")
 
 
@@ -57,37 +55,6 @@ class Client:
         return self.due + [self.begun] * (self.begun is not None)
 
 
-class Kinds:
-    """What the pages of ranges are: good, or slverr."""
-
-    def __init__(self, ranges):
-        self.ranges = ranges
-
-    def get(self, page):
-        kind = next((kind for pages, kind in self.ranges if page in pages), None)
-        return "good" if kind == "any" else kind
-
-    def __contains__(self, page):
-        return self.get(page) is not None
-
-    def items(self):
-        return ()
-
-
-class GoodPages(dict):
-    """The bytes of good pages, which take room when they are looked at."""
-
-    def __init__(self, kinds):
-        super().__init__()
-        self.kinds = kinds
-
-    def __contains__(self, page):
-        return self.kinds.get(page) == "good"
-
-    def __missing__(self, page):
-        return self.setdefault(page, bytearray(4096))
-
-
 class Counts:
     """Takes the lines of an input one after another, and counts the bytes that were told and compared."""
 
@@ -95,8 +62,10 @@ class Counts:
         self.wrong = {int(line): f"{kind} {rule}" for line, kind, rule in WRONG.findall(text)}
         self.told = self.compared = 0
         self.looked, self.due = {}, {}  # of a beat of a reply, by its line: the lanes that are compared, and the beat that is due
-        self.read_set_up(lines)
-        self.bursts = {"W": [], "R": []}
+        self.setup, _, profile, errors, _ = setup_of(lines)
+        self.real_time, self.any = profile == "tilelink", errors == "any"
+        self.memory, self.clients = Memory(self.setup), [Client() for _ in range(self.setup.clients)]
+        self.drained()
         self.written = {}  # whether a byte is indeterminate that isn't as it was at the start
         held = None
         for number, line in enumerate(lines, 1):
@@ -112,7 +81,7 @@ class Counts:
             elif channel in ("D", "AW", "AR", "B", "R"):
                 {"D": self.take_d, "AW": self.open, "AR": self.open, "B": self.answered, "R": self.answered}[channel](number, words)
             elif words[:2] == ["=", "drained"]:
-                self.bursts = {"W": [], "R": []}
+                self.drained()
             elif words[:2] == ["=", "reset"]:
                 self.reset()
             elif words[0] == "fill":
@@ -120,34 +89,10 @@ class Counts:
         if held:
             self.take_a(*held)
 
-    def read_set_up(self, lines):
-        self.real_time = self.any = False
-        self.pages, regions, bad, limits = [], [], [], None
-        for words in (line.split() for line in lines):
-            if words[:1] == ["config"]:
-                limits = words[1:]
-            elif words[:1] == ["region"]:
-                regions.append((int(words[1], 16), int(words[2]), int(words[3], 16), words[4]))
-            elif words[:1] == ["page"]:
-                self.pages.append((range(int(words[1], 16), int(words[1], 16) + int(words[2])), words[3]))
-            elif words[:1] == ["bad"]:
-                bad.append(int(words[1], 16) & ~7)
-            elif words[:1] == ["profile"]:
-                self.real_time = words[1] == "tilelink"
-            elif words[:1] == ["errors"]:
-                self.any = words[1] == "any"
-        clients, quota, ids, depth, longest, largest = map(int, limits[:6])
-        self.width = int(limits[7]) if limits[7:] else 8
-        kinds = Kinds(self.pages)
-        self.setup = Setup(clients, quota, ids, depth, longest, largest, 8, tuple(regions), kinds, tuple(bad))
-        self.memory = Memory(self.setup)
-        self.memory.pages = GoodPages(kinds)
-        self.clients = [Client() for _ in range(clients)]
-
     # ---- bytes
 
     def is_unsure(self, address):
-        return self.written.get(address, any(kind == "any" and address >> 12 in pages for pages, kind in self.pages))
+        return self.written.get(address, self.setup.pages.kind(address >> 12) == UNKNOWN)
 
     def fill(self, address, words):
         for at, word in enumerate(words, address):
@@ -157,7 +102,7 @@ class Counts:
     def place(self, beats):
         """Where a request may act on a good page: corrupt, if errors are told in any way."""
         at, is_spoiled = self.setup.leads(beats[0]), any(it.corrupt for it in beats) and not self.any
-        return at if at is not None and self.setup.pages.get(at >> 12) == "good" and not is_spoiled else None
+        return at if at is not None and self.setup.pages.get(at >> 12) == GOOD and not is_spoiled else None
 
     def alone(self, beats):
         first, at = beats[0], self.place(beats)
@@ -175,12 +120,12 @@ class Counts:
             if footprint.writes:
                 self.written.update(dict.fromkeys(footprint.span, True))
         self.clients = [Client() for _ in self.clients]
-        self.bursts = {"W": [], "R": []}
+        self.drained()
 
     # ---- channel A
 
     def take_a(self, number, words):
-        if self.wrong.get(number) not in UNKNOWN:
+        if self.wrong.get(number) not in COUNTING:
             return
         client = self.clients[int(words[1])]
         client.unknown.append(lanes_in(words))
@@ -297,26 +242,25 @@ class Counts:
 
     # ---- the AXI4 port
 
-    def open(self, number, words):
-        bursts, id, address, length, size = self.bursts[words[0][1]], int(words[1]), int(words[2], 16), int(words[3]), int(words[4])
-        if self.has_room(bursts, id, size):
-            last = address // 2**size * 2**size + (length + 1) * 2**size - 1
-            bursts.append((id, range(address, last + 1)))
+    def drained(self):
+        self.sides = {"W": Side(), "R": Side()}
 
-    def has_room(self, bursts, id, size):
-        """Whether transfers fit the bus, and fewer than twice DEPTH bursts are open of an ID of the port's: then an address opens its burst,
-        whatever else is wrong with it."""
-        return 2**size <= self.width and id < self.setup.ids and [it[0] for it in bursts].count(id) < 2 * self.setup.depth
+    def open(self, number, words):
+        """An address opens its burst, whatever is wrong with it, if its transfers fit the bus, and fewer than twice DEPTH bursts are open of
+        its ID, which is one of the port's."""
+        side, burst = self.sides[words[0][1]], Burst(int(words[1]), int(words[2], 16), int(words[3]), int(words[4]))
+        if 2**burst.size <= self.setup.width and burst.id < self.setup.ids and side.depth(burst.id) < 2 * self.setup.depth:
+            side.open(burst)
 
     def answered(self, number, words):
-        if self.wrong.get(number) not in UNKNOWN:
+        if self.wrong.get(number) not in COUNTING:
             return
-        bursts, resp = self.bursts["W" if words[0] == "B" else "R"], words[2 if words[0] == "B" else 3]
-        burst = next(it for it in bursts if it[0] == int(words[1]))
+        side, resp = (self.sides["W"], words[2]) if words[0] == "B" else (self.sides["R"], words[3])
+        burst = side.oldest(int(words[1]))
         if words[0] == "B" or words[4] == "1":
-            bursts.remove(burst)
+            side.close(burst.id)
         if self.any and resp in ("SLVERR", "DECERR"):
-            self.hit(burst[1])
+            self.hit(burst.span)
 
     def hit(self, span):
         for footprint in self.footprints():

@@ -24,50 +24,27 @@ from html.parser import HTMLParser
 from pathlib import Path
 from typing import Dict, Iterator, List, Optional, Tuple
 
-from ends import told
+from ends import TOP, Case, is_there, told
+from package import RTL, command
+from pictures import BROWSERS
 from score_cases import all_cases
-from waves import RTL, TOP, command
 from zuldegei.command import Fault
 from zuldegei.cover_bins import CORNERS, GROUPS, bins_of
 from zuldegei.cover_read import Reader
-from zuldegei.cover_report import FORMAT, Cover, cover_of, cover_of_json
+from zuldegei.cover_report import Cover, cover_of, cover_of_json
 from zuldegei.cover_setup import Setup, config_of
 from zuldegei.observation import Observation
 
-CASES, RUNS = TOP / "tests/cover", sorted((RTL / "runs").glob("*.lines"))
+CASES, COMMAND, RUNS = TOP / "tests/cover", TOP / "tests/commands/cover", sorted((RTL / "runs").glob("*.lines"))
 RULE = re.compile(r"(?m)^\| (\d+ [A-Z0-9_]+)[^|]*\| `crates/")  # of a row that has a rule's places
 GROUP = re.compile(r"(?m)^\| `([a-z-]+)` \| ")  # of a row of docs/COVERAGE.md
-BROWSERS = ("chromium", "chromium-browser", "google-chrome")
 LEAST_SPEED, SPEED_BEATS, TRIES = 30_000, 60_000, 8  # beats a second of a processor, of so many beats, the best of so many
 MOST_MORE = 1.2  # times the room that a run of a quarter takes
 MERGES = 40
 # A set-up in which each group and each rule has bins.
-WIDE = """config 2 4 4 4 16 6 lh
-region 0 4 10 gpah
-region 8 1 20 g---
-page 10 1 good
-page 11 1 slverr
-page 12 1 any
-bad 10010
-profile tilelink
-"""
-# Beats of channel A that break a rule each, behind which nothing of a request is reached.
-BROKEN = """A 0 6 0 3 0 00000000 ff 0 0
-A 0 4 0 4 0 00000000 ff 0 0
-A 0 2 0 3 0 00000000 ff 0 0
-A 1 4 0 7 0 00000000 ff 0 0
-A 1 2 0 4 0 00000000 ff 0 0
-A 1 4 0 3 0 00000004 ff 0 0
-A 1 4 1 3 0 00000000 ff 0 0
-A 1 2 5 3 0 00000000 ff 0 0
-A 1 4 0 3 0 00000000 7f 0 0
-A 1 1 0 1 0 00000000 07 0 0
-A 1 4 0 3 0 00000000 ff 0 1
-A 1 4 0 3 x 00000000 ff 0 0
-A 2 4 0 3 0 00000000 ff 0 0
-D 0 1 0 3 0 0 0 0
-"""
-Case = Tuple[str, Optional[str]]
+WIDE = (COMMAND / "wide.lines").read_text()
+# Beats that break a rule each, behind which nothing of a request is reached.
+BROKEN = (COMMAND / "broken.beats").read_text()
 
 
 def read(text: str) -> Reader:
@@ -266,8 +243,7 @@ def page(path: Path, bins: Dict[str, list], counts: "Counter[str]") -> Iterator[
 def lcov(folder: Path, bins: Dict[str, list]) -> Iterator[Case]:
     """What lcov and genhtml say of the .info file."""
     hit, groups = sum(it[0] > 0 for it in bins.values()), {it.partition("/")[0] for it in bins}
-    if not shutil.which("lcov") or not shutil.which("genhtml"):
-        print("skipped: lcov and genhtml: Debian's package lcov isn't installed", flush=True)
+    if not is_there("the file for lcov", "lcov", "genhtml"):
         return
     said = subprocess.run(["lcov", "--summary", "all.info"], cwd=folder, capture_output=True, text=True)
     due = f"({hit} of {len(bins)} lines)"
@@ -314,22 +290,9 @@ def fault(ran: subprocess.CompletedProcess, status: int, said: str) -> Optional[
 
 def faults(folder: Path) -> Iterator[Case]:
     """Calls that can't be carried out."""
-    odd = {
-        "empty.lines": "", "beat.lines": f"{WIDE}A 0 4\n", "late.lines": f"{WIDE}B 0 OKAY\nregion 20 1 30 gpah\n",
-        "two.lines": WIDE + WIDE, "range.lines": WIDE.replace("config 2 4 4 4", "config 2 4 4000000000 4"),
-        "levels.lines": WIDE.replace("lh", "lhl"), "port.lines": f"{WIDE}waited A9 3\n", "text.json": "{", "other.json": "{}",
-        "old.json": f'{{"{FORMAT}": 0}}',
-        "count.json": f'{{"{FORMAT}": 1, "runs": 1, "beats": 1, "bins": {{"id/AW/1": [-1, "a", 1]}}, "beside": {{}}}}',
-        "name.json": f'{{"{FORMAT}": 1, "runs": 1, "beats": 1, "bins": {{"../x": [0]}}, "beside": {{}}}}',
-    }  # fmt: skip
-    due = {
-        "empty.lines": "no config line", "beat.lines": "line 9", "late.lines": "line 10", "two.lines": "line 9",
-        "range.lines": "IDS is 4000000000", "levels.lines": "LEVELS", "port.lines": "line 9",
-    }  # fmt: skip
-    for name, text in odd.items():
-        (folder / name).write_text(text)
-        ran = command("cover", name, cwd=folder)
-        yield name, fault(ran, 2, due.get(name, f"{name} isn't what zuldegei-cover --json writes, or zuldegei-regress --cover"))
+    for said in sorted((COMMAND / "faults").glob("*.said")):
+        given = next(it for it in said.parent.glob(f"{said.stem}.*") if it != said)
+        yield given.name, fault(command("cover", given.name, cwd=given.parent), 2, said.read_text().strip())
     yield "no such file", fault(command("cover", "nothing.lines", cwd=folder), 3, "nothing.lines: No such file")
     yield "no words", fault(command("cover", cwd=folder), 6, "RUN")
     yield "a clock of nothing", fault(command("cover", "--clock", "0", RUNS[0], cwd=folder), 6, "--clock: '0'")

@@ -16,8 +16,8 @@ from pathlib import Path
 from typing import Dict, Iterator, List, Optional, Tuple
 
 from cover import CASES, RUNS, WIDE, read
-from ends import told
-from waves import RTL, TOP, command
+from ends import TOP, Case, is_there, told
+from package import RTL, command
 from zuldegei.cover_bins import GROUPS, bins_of
 from zuldegei.cover_groups import Covergroups, identifier
 from zuldegei.cover_report import Count, Cover, First, Shown, cover_of, cover_of_json
@@ -41,7 +41,6 @@ print map { $_->name . "\\n" } $netlist->modules_sorted();
 BENCH = "module testbench;\n    initial #10 $finish;\nendmodule\nbind testbench zuldegei_cover covered ();\n"
 COUNTED = re.compile(r"(?m)^([a-z-]+/\S+) (\d+)$")
 MOST = 1000  # samples of a bin
-Case = Tuple[str, Optional[str]]
 
 
 def module(cover: Cover) -> str:
@@ -108,8 +107,7 @@ def parsed(folder: Path) -> Iterator[Case]:
 
 def simulated(folder: Path) -> Iterator[Case]:
     """What is sampled in a simulation: the counts of zuldegei-cover, up to the most."""
-    if not shutil.which("verilator"):
-        print("skipped: covergroups in a simulation: Verilator isn't installed", flush=True)
+    if not is_there("covergroups in a simulation", "verilator"):
         return
     shutil.copy(RUNS[2], folder / "run.lines")
     shutil.copy(CASES / "wait.lines", folder / "other.lines")

@@ -14,18 +14,16 @@ import random
 import re
 import resource
 import shutil
-import struct
 import subprocess
 import sys
-import tempfile
-import zlib
 from collections import Counter
 from pathlib import Path
 from typing import Callable, Dict, Iterator, List, Optional, Tuple
 
-from ends import told
+from ends import TOP, Case, is_there, told_in_a_folder
+from package import RTL, command, one_line
+from pictures import BROWSERS, pictured
 from stored import observations
-from waves import RTL, TOP, command, one_line
 from zuldegei.causes import Explainer
 from zuldegei.history import History
 from zuldegei.observation import Observation, verdict_of
@@ -61,9 +59,7 @@ HEAD = "config 2 4 16 2 16 12 hh\nregion 0 4 10 gpah\npage 10 4 good\n"
 PUT, GET, DONE = "A 0 0 0 3 5 00000008 ff 1122334455667788 0", "A 1 4 0 3 7 00000008 ff 0000000000000000 0", "D 0 0 0 3 5 0 0000000000000000 0"
 AW, W, B = "AW 0 00010008 0 3 1", "W 1122334455667788 ff 1", "B 0 OKAY"
 READ_ZEROS = (GET, "AR 3 00010008 0 3 1", "R 3 0000000000000000 OKAY 1", "D 1 1 0 3 7 0 0000000000000000 0")
-BROWSERS = ("chromium", "chromium-browser", "google-chrome")
 COLOURS = ("cfe3ff", "d8f5d0", "9fc4f5", "aee3a0", "dd0000")  # of Puts, Gets, writes, reads and what is wrong
-Case = Tuple[str, Optional[str]]
 
 
 def run_of(name: str) -> Tuple[Path, Path]:
@@ -301,42 +297,6 @@ def drawn(text: str) -> Dict[str, int]:
     return {"requests": requests, "bursts": bursts, "beats": len(re.findall(r'class="beat ', text))}
 
 
-def pixels(path: Path) -> Counter:
-    """The colours of a PNG of 8 bits without interlace, by how many pixels have them."""
-    data, at, packed, width, depth = path.read_bytes(), 8, b"", 0, 0
-    while at < len(data):
-        (length,), kind = struct.unpack(">I", data[at : at + 4]), data[at + 4 : at + 8]
-        body = data[at + 8 : at + 8 + length]
-        if kind == b"IHDR":
-            width, _, _, colour = struct.unpack(">IIBB", body[:10])
-            depth = {2: 3, 6: 4}[colour]
-        packed += body if kind == b"IDAT" else b""
-        at += length + 12
-    return unfiltered(zlib.decompress(packed), width, depth)
-
-
-def unfiltered(data: bytes, width: int, depth: int) -> Counter:
-    """Undoes a PNG's filters, row by row."""
-    stride, before, found = width * depth, bytearray(width * depth), Counter()
-    for start in range(0, len(data), stride + 1):
-        kind, row = data[start], bytearray(data[start + 1 : start + 1 + stride])
-        for at in range(stride):
-            left = row[at - depth] if at >= depth else 0
-            corner = before[at - depth] if at >= depth else 0
-            row[at] = (row[at] + predicted(kind, left, before[at], corner)) & 255
-        found.update(bytes(row[at : at + 3]) for at in range(0, stride, depth))
-        before = row
-    return found
-
-
-def predicted(kind: int, left: int, above: int, corner: int) -> int:
-    """What a PNG's filter of this kind adds."""
-    if kind == 4:
-        estimate = left + above - corner
-        return min((abs(estimate - it), at, it) for at, it in enumerate((left, above, corner)))[2]
-    return (0, left, above, (left + above) // 2)[kind]
-
-
 def browsed(browser: str, folder: Path, score: str) -> Iterator[Case]:
     """The time lines of two runs in a browser."""
     for name in ("answered-early", "reply-lost"):
@@ -354,7 +314,7 @@ def browsed(browser: str, folder: Path, score: str) -> Iterator[Case]:
         yield f"{name}, its first wrong beat", None if marks and f"wrong {line} " in text else f"{len(marks)} marks of line {line}"
     yield from used(browser, folder)
     yield from rung_late(browser, folder)
-    yield from pictured(folder)
+    yield from pictured("timeline", COLOURS, 20, 1.25, folder)
     yield "100,000 beats", large(browser, folder, score)
 
 
@@ -407,20 +367,6 @@ def rung_late(browser: str, folder: Path) -> Iterator[Case]:
         yield f"rings of what took longer than {late}", None if is_well else f"around bars of lines {rung}; {ran.stdout[-100:]!r}"
 
 
-def pictured(folder: Path) -> Iterator[Case]:
-    """Whether docs/picture.py makes a picture with the bars' colours and red, and whether the one that is kept is like it."""
-    picture = folder / "picture.png"
-    ran = subprocess.run([sys.executable, TOP / "docs/picture.py", "timeline", picture], capture_output=True, text=True, timeout=300)
-    found = pixels(picture) if ran.returncode == 0 else Counter()
-    lacking = [it for it in COLOURS if found[bytes.fromhex(it)] < 20]
-    yield "a picture", f"it has hardly a pixel of {lacking}; {ran.stderr}" if lacking else None
-    kept = TOP / "docs/timeline.png"
-    stored = pixels(kept)
-    apart = [it for it in COLOURS if not 0.8 < stored[bytes.fromhex(it)] / max(1, found[bytes.fromhex(it)]) < 1.25]
-    is_large = kept.stat().st_size > 150_000 or sum(stored.values()) != sum(found.values())
-    yield "docs/timeline.png", f"it has {kept.stat().st_size} bytes, and others of {apart}" if apart or is_large else None
-
-
 def large(browser: str, folder: Path, score: str) -> Optional[str]:
     """A run of 100,000 beats whose last reply is wrong: it is explained, and the window shows its end."""
     text = ["config 2 4 16 2 16 12 hh", "region 0 4 10 gpah", "page 10 4 good"]
@@ -442,16 +388,15 @@ def large(browser: str, folder: Path, score: str) -> Optional[str]:
 
 def waved(folder: Path) -> Iterator[Case]:
     """The VCD of each stored run: a string for each beat, and one for each wrong line, at their times; and GTKWave's list of signals."""
+    is_packed = is_there("VCD files made FST", "vcd2fst")
     for name in SIDES:
         lines, verdict = run_of(name)
         vcd = folder / f"{name}.vcd"
         ran = command("wave_of", lines, verdict, vcd)
         yield f"a VCD of {name}", f"status {ran.returncode}, {ran.stderr}" if ran.returncode != 1 else misplaced(vcd, lines, verdict)
-        if shutil.which("vcd2fst"):
+        if is_packed:
             packed = subprocess.run(["vcd2fst", vcd, vcd.with_suffix(".fst")], capture_output=True, text=True)
             yield f"the VCD of {name} as an FST", packed.stderr if packed.returncode else None
-    if not shutil.which("vcd2fst"):
-        print("skipped: VCD files made FST, as vcd2fst isn't installed")
     yield "a VCD of a run without times", untimed(folder)
     ran = command("wave_of", lines, verdict, vcd, "--timescale", "3ns")
     yield "a unit that VCD hasn't", one_line(ran, named=("3ns",), status=6)
@@ -512,5 +457,4 @@ def cases(folder: Path, score: str) -> Iterator[Case]:
 
 
 if __name__ == "__main__":
-    with tempfile.TemporaryDirectory() as made:
-        sys.exit(told(cases(Path(made), sys.argv[1])))
+    sys.exit(told_in_a_folder(cases, sys.argv[1]))

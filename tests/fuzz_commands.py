@@ -28,12 +28,12 @@ import tempfile
 import traceback
 from collections import Counter
 from pathlib import Path
-from typing import Callable, Dict, Iterator, List, NamedTuple, Optional, Sequence, Tuple
+from typing import Dict, Iterator, List, NamedTuple, Optional, Sequence, Tuple
 from xml.etree import ElementTree
 
-from ends import told
-from waves import HAND, MAP, RTL, TOP, UNKNOWN, a_beat, command, hand
-from waves import WORDS as WORDS_OF_AN_IMAGE
+from ends import TOP, Case, asked, told
+from package import RTL, command
+from waves import HAND, MAP, UNKNOWN, a_beat, hand
 from zuldegei import vcd
 from zuldegei.command import Fault, Status
 from zuldegei.cover_read import Reader
@@ -58,7 +58,6 @@ NUMBERS = (0, 1, 2, 31, 32, 56, 0x7F, 0xFF, 0xFFFF, 0x7FFF_FFFF, 0x8000_0000, 0x
 # The status and what JUnit has of a run in each state; of all others these are 2 and an error.
 ENDS = {"right": (0, "system-out"), "waived": (0, "skipped"), "wrong": (1, "failure"), "slow": (1, "failure")}
 WAIVERS = b"# known\nreply PAYLOAD client 1 the old DMA\nreply UNANSWERED pages 0 8 lost\naxi CROSS_4K pages 10010 4 pages\naxi WLAST pages 0 99 w\n"
-Case = Tuple[str, Optional[str]]
 
 
 class Call(NamedTuple):
@@ -172,7 +171,7 @@ class Inputs:
         self.maps += [it.read_bytes() for it in sorted((TOP / "tests/dumps").glob("*.map"))]
         self.counts = cover_of("a run", Reader().read(self.runs[0][0].decode().splitlines(True))).json().encode()
         self.parts = parts_of(score, self.runs[: self.stored : 3])
-        self.images = [WORDS_OF_AN_IMAGE.encode(), b"\1\2\3" * 40]
+        self.images = [(TOP / "tests/images/words.hex").read_bytes(), b"\1\2\3" * 40]
         self.images += [elf(kind, order) for kind, order in itertools.product((1, 2), "<>")]
 
     def waves(self, lot: random.Random) -> Call:
@@ -574,16 +573,8 @@ def by_hand(inputs: Inputs) -> Iterator[Case]:
         vcd.SILENT, os.environ["PATH"] = kept, path
 
 
-def main() -> int:
-    asked = argparse.ArgumentParser(description=__doc__, formatter_class=argparse.RawDescriptionHelpFormatter)
-    asked.add_argument("tlscore")
-    asked.add_argument("--count", type=int, default=COUNT, help="how many cases of each command")
-    asked.add_argument("--seed", type=int, default=SEED)
-    asked.add_argument("--only", choices=COMMANDS)
-    asked.add_argument("--case", type=int, help="one case alone, of the command that --only names")
-    asked.add_argument("--keep", default="out/fuzz", help="the folder in which its files stay")
-    given = asked.parse_args()
-    inputs = Inputs(str(Path(given.tlscore).resolve()))
+def main(given: argparse.Namespace) -> int:
+    inputs = Inputs(str(given.tlscore))
     if given.case is not None:
         Path(given.keep).mkdir(parents=True, exist_ok=True)
         os.chdir(given.keep)
@@ -595,4 +586,10 @@ def main() -> int:
 
 
 if __name__ == "__main__":
-    sys.exit(main())
+    words = asked(__doc__, "tlscore")
+    words.add_argument("--count", type=int, default=COUNT, help="how many cases of each command")
+    words.add_argument("--seed", type=int, default=SEED)
+    words.add_argument("--only", choices=COMMANDS)
+    words.add_argument("--case", type=int, help="one case alone, of the command that --only names")
+    words.add_argument("--keep", default="out/fuzz", help="the folder in which its files stay")
+    sys.exit(main(words.parse_args()))

@@ -11,12 +11,9 @@ is named.
     python3 tests/in_process.py TLSCORE [BEATS] [--seed WORD] [--library FOLDER]
 """
 
-import argparse
 import os
 import random
 import re
-import secrets
-import shutil
 import subprocess
 import sys
 import tempfile
@@ -26,7 +23,7 @@ import in_process_python
 import score_cases
 import stored
 from c_programs import C, STRICT, TOP, Part, c_compiler, compile_c, compiled, languages, library_of, watched, wrong_calls
-from ends import started, told
+from ends import asked, is_there, started, told
 from scoreboard import Lot
 from script_cases import setup_of
 
@@ -129,11 +126,10 @@ def example(folder, library):
         built, why = compile_c(f"example-{name}", C / "example.c", *strict, folder=folder, library=library, compiler=compiler,
                                standard=standard)
         yield f"the example as {name}", why or started([built], b"").wrong(1, wanted, b"")
-    if not shutil.which("pkg-config"):
-        print("skipped: the example over the shared library, as pkg-config isn't installed")
+    if not is_there("the example over the shared library", "pkg-config"):
         return
-    asked = ["pkg-config", "--cflags", "--libs", "zuldegei"]
-    flags = subprocess.run(asked, env={**os.environ, "PKG_CONFIG_PATH": str(library)}, capture_output=True, text=True, check=False)
+    words = ["pkg-config", "--cflags", "--libs", "zuldegei"]
+    flags = subprocess.run(words, env={**os.environ, "PKG_CONFIG_PATH": str(library)}, capture_output=True, text=True, check=False)
     built, why = compile_c("example-shared", C / "example.c", folder=folder, behind=flags.stdout.split())
     yield "the example over the shared library", flags.stderr or why or started([built], b"").wrong(1, wanted, b"")
 
@@ -145,9 +141,7 @@ def declared():
 
 def shown(library):
     """Each call of the header is in the shared library, and nothing else; and versions agree."""
-    if not shutil.which("nm"):
-        print("skipped: what the shared library shows, as nm isn't installed")
-    else:
+    if is_there("what the shared library shows", "nm"):
         listed = subprocess.run(["nm", "-D", "--defined-only", library / "libzuldegei.so"], capture_output=True, text=True, check=True)
         apart = sorted({line.split()[-1] for line in listed.stdout.splitlines()} ^ declared())
         yield "what the shared library shows", f"the header has others: {', '.join(apart)}" if apart else None
@@ -159,15 +153,15 @@ def shown(library):
     yield "one version", None if len(versions) == 1 else f"there are {', '.join(sorted(versions))}"
 
 
-def cases(asked):
+def cases(given):
+    print(f"seed {given.seed}")
     if not c_compiler():
         print("skipped: the scoreboard in the process of a test, as there is no C compiler")
         return
-    library, why = library_of(asked)
+    library, why = library_of(given)
     if why:
         yield "the library", why
         return
-    tlscore = Path(asked.tlscore).resolve()
     with tempfile.TemporaryDirectory() as room:
         folder = Path(room)
         program = compiled("in_process", TOP / "tests/in_process.c", folder=folder, library=library)
@@ -176,21 +170,13 @@ def cases(asked):
         yield from ends(folder, library)
         yield from wrong_calls(BOARDS, folder, library)
         yield from watched(BOARDS, "numbers", rows(), folder, library)
-        yield from told_alike(program, tlscore)
-        yield from by_lot(program, tlscore, random.Random(asked.seed), asked.beats)
+        yield from told_alike(program, given.tlscore)
+        yield from by_lot(program, given.tlscore, random.Random(given.seed), given.beats)
         yield from in_process_python.cases(library)
 
 
-def main():
-    asked = argparse.ArgumentParser(description=__doc__)
-    asked.add_argument("tlscore")
-    asked.add_argument("beats", nargs="?", type=int, default=100_000)
-    asked.add_argument("--seed", default=secrets.token_hex(4))
-    asked.add_argument("--library", help="where libzuldegei.a and libzuldegei.so stand (out, where they are built)")
-    given = asked.parse_args()
-    print(f"seed {given.seed}")
-    return told(cases(given))
-
-
 if __name__ == "__main__":
-    sys.exit(main())
+    words = asked(__doc__, "tlscore", by_lot=True)
+    words.add_argument("beats", nargs="?", type=int, default=100_000)
+    words.add_argument("--library", help="where libzuldegei.a and libzuldegei.so stand (out, where they are built)")
+    sys.exit(told(cases(words.parse_args())))

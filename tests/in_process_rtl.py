@@ -21,18 +21,15 @@ import time
 from concurrent.futures import ThreadPoolExecutor
 from itertools import zip_longest
 from pathlib import Path
-from typing import Iterator, NamedTuple, Optional, Tuple
+from typing import Iterator, Optional, Tuple
 
-from ends import told
+import stored
+from ends import TOP, Case, asked, is_there, told
 
-TOP = Path(__file__).resolve().parent.parent
-sys.path += [str(TOP / "examples/testbench/rtl"), str(TOP / "python")]
-import run
+from simulators import QUICK, SYSTEMVERILOG, Simulated, built, run, started
 from zuldegei.latency import End, Latencies
 
-SYSTEMVERILOG = TOP / "interfaces/systemverilog"
 MODULES = [SYSTEMVERILOG / "zuldegei_pkg.sv", SYSTEMVERILOG / "zuldegei_monitor.sv", SYSTEMVERILOG / "example_bind.sv"]
-UNOPTIMIZED = ["OPT_FAST=-O0", "OPT_GLOBAL=-O0"]
 TOLD = re.compile(r"(?m)(= (?:wrong|judged) .*)$")
 TIMED = re.compile(r"(?m)^\[(\d+)\] %Error: .*zuldegei: (= wrong .*|the run failed: \d+ wrong)$")
 LATE = re.compile(r"zuldegei: late: no reply after \d+ to client (\d+) source (\d+), which asked at (\d+)")
@@ -43,15 +40,6 @@ LONG_LINES = ("# a line of a set-up\n", "fill 10000 00 00 00 00\n")
 ABORTED = -signal.SIGABRT  # as which Verilator ends a run, and a shell says 134
 LINES, SECONDS = 200_000, 10  # of a long set-up; in how many it is read on a busy machine, by a testbench that isn't optimized
 PIPED = (run.RIGHT, "REPLY_TWICE", "UNKNOWN_READ")
-Case = Tuple[str, Optional[str]]
-
-
-class Simulated(NamedTuple):
-    """A run: its status, what it printed, and the lines of the monitor that prints them."""
-
-    status: int
-    text: str
-    lines: str
 
 
 def made(bug: str, library: Path, folder: Path, runtime: Optional[Path]) -> Path:
@@ -64,27 +52,14 @@ def made(bug: str, library: Path, folder: Path, runtime: Optional[Path]) -> Path
     built(words, run.HERE, bug)
     for made_before in runtime.glob("verilated*.o") if runtime else ():
         shutil.copyfile(made_before, room / made_before.name)
-    built(["make", "-s", "-f", "Vtestbench.mk", *UNOPTIMIZED], room, bug)
+    built(["make", "-s", "-f", "Vtestbench.mk", *QUICK], room, bug)
     return room / "bench"
-
-
-def built(words: list, folder: Path, bug: str) -> None:
-    ran = subprocess.run(words, cwd=folder, capture_output=True, text=True, check=False)
-    if ran.returncode:
-        raise SystemExit(f"{bug}: {ran.stdout[-1000:]}{ran.stderr[-1000:]}")
 
 
 def simulated(bench: Path, seed: int, setup: Path, *more: str) -> Simulated:
     seen = bench.parent / f"seen-{setup.stem}-{seed}-{len(more)}.lines"
     ran = started(bench, f"+seed={seed}", f"+observed={seen}", f"+zuldegei_setup={setup}", "+zuldegei_end", *more)
     return ran._replace(lines=seen.read_text(errors="replace"))
-
-
-def started(bench: Path, *words: str) -> Simulated:
-    """A run by its words, of whose lines nobody asks."""
-    pipe = subprocess.PIPE
-    ran = subprocess.run([bench, *words], cwd=bench.parent, stdout=pipe, stderr=subprocess.STDOUT, text=True, timeout=300, check=False)
-    return Simulated(ran.returncode, ran.stdout, "")
 
 
 def whole_wrong(ran: Simulated, judged: str) -> Optional[str]:
@@ -178,32 +153,16 @@ def late_told(name: str, bench: Path, seed: int, setup: Path) -> Iterator[Case]:
 
 def words_tried(bench: Path) -> Iterator[Case]:
     """Words of the run by which nothing can be judged, and how that is said; each with Verilator's limit of errors, and without."""
-    folder, setup = bench.parent, f"+zuldegei_setup={run.HERE / 'setup.lines'}"
+    folder = bench.parent
+    shutil.copy(run.HERE / "setup.lines", folder)
     (folder / "empty.lines").touch()
     (folder / "refused.lines").write_text("config 2 4 999 2 16 12 hh\n")
-    no_number = "has no number of up to nine digits"
-    for words, why in (
-        (["+zuldegei_setup=nofile"], "nofile can't be read"),
-        (["+zuldegei_setup=nofile", "+zuldegei_stop=2"], "nofile can't be read"),
-        (["+zuldegei_setup=empty.lines"], "empty.lines has no set-up"),
-        (["+zuldegei_setup=refused.lines"], "no scoreboard: set-up fault: BadConfig 0 (-4)"),
-        (["+zuldegei_setup"], "the file of +zuldegei_setup= can't be read"),
-        ([], "there is no set-up, neither by +zuldegei_setup=FILE nor by SETUP"),
-        ([setup, "+zuldegei_stop=x"], f"+zuldegei_stop=x {no_number}"),
-        ([setup, "+zuldegei_stop=-1"], f"+zuldegei_stop=-1 {no_number}"),
-        ([setup, "+zuldegei_stop=1x"], f"+zuldegei_stop=1x {no_number}"),
-        ([setup, "+zuldegei_stop="], f"+zuldegei_stop= {no_number}"),
-        ([setup, "+zuldegei_stop"], f"+zuldegei_stop= {no_number}"),
-        ([setup, "+zuldegei_stop=1234567890"], f"+zuldegei_stop=1234567890 {no_number}"),
-        ([setup, "+zuldegei_late=0"], f"+zuldegei_late=0 {no_number} above 0"),
-        ([setup, "+zuldegei_late=1.5"], f"+zuldegei_late=1.5 {no_number} above 0"),
-        ([setup, "+zuldegei_late"], f"+zuldegei_late= {no_number} above 0"),
-    ):
-        ran = started(bench, NO_LIMIT, *words)
-        yield f"with {words}", failed_wrong(ran, 1, f"the run failed: {why}")
-        ran = started(bench, *words)
-        is_told = f"zuldegei: the run failed: {why}\n" in ran.text and ran.status == ABORTED
-        yield f"with {words}, and no limit of errors", None if is_told else f"status {ran.status}: {ran.text[-300:]!r}"
+    for it in stored.blocks(TOP / "tests/words/monitor.words"):
+        ran = started(bench, NO_LIMIT, *it.words)
+        yield f"with {it.given}", failed_wrong(ran, 1, f"the run failed: {it.due}")
+        ran = started(bench, *it.words)
+        is_told = f"zuldegei: the run failed: {it.due}\n" in ran.text and ran.status == ABORTED
+        yield f"with {it.given}, and no limit of errors", None if is_told else f"status {ran.status}: {ran.text[-300:]!r}"
 
 
 def long_setup(bench: Path, line: str, module: str = "scoreboard") -> Iterator[Case]:
@@ -247,15 +206,13 @@ def tried(bug: str, bench: Path, given: argparse.Namespace) -> Iterator[Case]:
 
 def in_process(given: argparse.Namespace) -> Iterator[Case]:
     """Each bridge under Verilator."""
-    if not shutil.which("verilator"):
-        print("skipped: the scoreboard in the simulator, as verilator isn't installed")
+    if not is_there("the scoreboard in the simulator", "verilator"):
         return
-    library = Path(given.library or TOP / "out").resolve()
     bugs = [given.only] if given.only else [run.RIGHT, *run.BUGS]
     with tempfile.TemporaryDirectory() as room, ThreadPoolExecutor(given.jobs) as pool:
         folder = Path(room)
-        first = made(bugs[0], library, folder, None)
-        benches = [first, *pool.map(lambda bug: made(bug, library, folder, first.parent), bugs[1:])]
+        first = made(bugs[0], given.library, folder, None)
+        benches = [first, *pool.map(lambda bug: made(bug, given.library, folder, first.parent), bugs[1:])]
         for found in pool.map(lambda it: [*tried(*it, given)], zip(bugs, benches)):
             yield from found
         yield from words_tried(first)
@@ -279,8 +236,7 @@ def piped(words: list, asked: run.Asked, score: Path, folder: Path) -> Tuple[str
 
 def by_pipe(given: argparse.Namespace) -> Iterator[Case]:
     """Bridges under Icarus, whose lines tlscore reads while they come."""
-    if not shutil.which("iverilog"):
-        print("skipped: tlscore behind a pipe from the simulator, as iverilog isn't installed")
+    if not is_there("tlscore behind a pipe from the simulator", "iverilog"):
         return
     for bug in PIPED:
         with tempfile.TemporaryDirectory() as room:
@@ -296,15 +252,9 @@ def cases(given: argparse.Namespace) -> Iterator[Case]:
     yield from by_pipe(given) if not given.only else ()
 
 
-def main() -> int:
-    asked = argparse.ArgumentParser(description=__doc__)
-    asked.add_argument("score", metavar="TLSCORE", type=lambda it: Path(it).resolve())
-    asked.add_argument("--seeds", type=int, default=3, help="how many runs of each, by each profile (3)")
-    asked.add_argument("--library", help="where libzuldegei.a stands (out)")
-    asked.add_argument("--only", help="this fault alone")
-    asked.add_argument("--jobs", type=int, default=os.cpu_count() or 1, help="how many at once (one a processor)")
-    return told(cases(asked.parse_args()))
-
-
 if __name__ == "__main__":
-    sys.exit(main())
+    words = asked(__doc__, "score", over_library=True)
+    words.add_argument("--seeds", type=int, default=3, help="how many runs of each, by each profile (3)")
+    words.add_argument("--only", help="this fault alone")
+    words.add_argument("--jobs", type=int, default=os.cpu_count() or 1, help="how many at once (one a processor)")
+    sys.exit(told(cases(words.parse_args())))

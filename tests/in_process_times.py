@@ -16,7 +16,8 @@ import time
 from pathlib import Path
 from typing import Callable, Dict, List, Tuple
 
-from in_process_rtl import MODULES, TOP, built, run
+from in_process_rtl import MODULES, TOP
+from simulators import built, run
 
 Times = Tuple[float, float]  # on the clock, and of processors
 REQUESTS = 20_000  # more than the testbench lets each client make before it ends

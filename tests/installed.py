@@ -18,10 +18,10 @@ import tempfile
 from pathlib import Path
 from typing import Dict, Iterator, List, Optional, Set, Tuple
 
-from ends import told
+import stored
+from ends import TOP, Case, is_there, told
 from page_commands import BLOCK, SHOWN
 
-TOP = Path(__file__).resolve().parent.parent
 VERSION = (TOP / "VERSION").read_text().strip()
 PROOF = (TOP / "examples/proof/README.md").read_text()
 PAGE = (TOP / "docs/INSTALL.md").read_text().replace("VERSION", VERSION).replace(f"/{VERSION}`", "/VERSION`")
@@ -31,30 +31,10 @@ NEEDED = {"verilator": "verilator", "g++": "g++", "pkg-config": "pkg-config", "i
           "prove.py": "berkeley-abc", "small_bridge.sv": "yosys"}  # fmt: skip
 LIST = "share/zuldegei/installed.list"
 MODULES = ("waves", "fill", "explain", "wave-of", "times", "regress", "cover", "stimulus")
-# A stand-in for rt, which puts what was given where rt puts what it builds.
-RT = """#!/bin/sh
-name=${PWD##*/}
-case $1 in
-version) echo 'stand-in 1' ;;
-doc) echo "$GIVEN/kit/READ.md" ;;
-run) mkdir -p out && cp "$GIVEN/$name" "out/$name" ;;
-lib) mkdir -p out && cp "$GIVEN/lib$name.a" "out/lib$name.a" ;;
-esac
-"""
 CRATES = "tlbridge:\ntlscore:\nzuldegei staticlib:\n"
-# Words that can't be, of each script: the status and the start of what is said.
-WRONG_WORDS = (
-    (("install", "--prefix"), 6, "usage: ./install"),
-    (("install", "here"), 6, "usage: ./install"),
-    (("install", "--uninstall", "--prefix", "/nowhere"), 3, "install: nothing is installed there"),
-    (("install", "--built", "/nowhere"), 3, "the tree can't be made"),
-    (("release", "--unknown"), 6, "usage: ./release"),
-    (("release", "one", "two"), 6, "usage: ./release"),
-)
 # What is said in Python of an answer that no write asked for.
 SETUP = "config 1 4 16 2 16 12 h\npage 10 4 good\n"
 SCOREBOARD = f"from zuldegei.scoreboard import Scoreboard; print(Scoreboard({SETUP!r}).b(id=0).text)"
-Case = Tuple[str, Optional[str]]
 
 
 def ran(words: List[str], cwd: Path = TOP, env: Optional[Dict[str, str]] = None, umask: int = -1) -> subprocess.CompletedProcess:
@@ -124,8 +104,7 @@ def manuals(root: Path) -> Iterator[Case]:
     odd = {f"{it}.1" for it in programs} ^ {*pages}
     yield "a manual page for each program", f"apart are {sorted(odd)}" if odd else None
     for tool, words in (("mandoc", ["mandoc", "-Tlint"]), ("man", ["man", "--warnings", "-E", "UTF-8", "-l", "-Tutf8", "-Z"])):
-        if not shutil.which(tool):
-            print(f"skipped: manual pages by {tool}, as it isn't installed")
+        if not is_there("manual pages by this tool", tool):
             continue
         for name, path in sorted(pages.items()):
             done = ran([*words, str(path)], env={**os.environ, "LC_ALL": "C.UTF-8", "MANROFFSEQ": "", "MANWIDTH": "80"})
@@ -154,8 +133,7 @@ def versions(root: Path) -> Iterator[Case]:
 
 def compiled(root: Path, room: Path) -> Iterator[Case]:
     """The examples in C, C++ and SystemC, by what pkg-config says, with the shared library and with the static one."""
-    if not (shutil.which("pkg-config") and shutil.which("cc") and shutil.which("c++")):
-        print("skipped: the examples in C and SystemC, as pkg-config or a compiler isn't installed")
+    if not is_there("the examples in C and SystemC", "pkg-config", "cc", "c++"):
         return
     env = {**BARE, "PKG_CONFIG_PATH": str(root / "lib/pkgconfig"), "TMPDIR": str(room), "LD_LIBRARY_PATH": str(root / "lib")}
     flags = ran(["pkg-config", "--cflags", "--libs", "zuldegei"], env=env).stdout.split()
@@ -227,9 +205,11 @@ def unlinked() -> Iterator[Case]:
 
 
 def words() -> Iterator[Case]:
-    for given, status, said in WRONG_WORDS:
-        done = ran([f"./{given[0]}", *given[1:]], env={**os.environ, "DESTDIR": "/nowhere"})
-        yield " ".join(given), why(done, status) or (None if done.stderr.startswith(said) else done.stderr)
+    """Words that can't be, of each script: the status and the start of what is said."""
+    for it in stored.blocks(TOP / "tests/words/scripts.words"):
+        status, _, said = it.due.partition(" ")
+        done = ran(["sh", "-c", f"./{it.given}"], env={**os.environ, "DESTDIR": "/nowhere"})
+        yield it.name, why(done, int(status)) or (None if done.stderr.startswith(said) else done.stderr)
 
 
 def copied(room: Path, name: str, given: Path) -> Tuple[Path, Dict[str, str]]:
@@ -241,8 +221,7 @@ def copied(room: Path, name: str, given: Path) -> Tuple[Path, Dict[str, str]]:
         (copy / f"crates/{crate}/src/main.rt").write_text("a source\n")
     (copy / "crates.txt").write_text(CRATES)
     (room / "path").mkdir(exist_ok=True)
-    (room / "path/rt").write_text(RT)
-    (room / "path/rt").chmod(0o755)
+    shutil.copy(TOP / "tests/stand_ins/rt_that_copies", room / "path/rt")
     return copy, {**os.environ, "PATH": f"{room / 'path'}:{os.environ['PATH']}", "GIVEN": str(given)}
 
 

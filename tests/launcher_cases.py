@@ -91,7 +91,7 @@ def cannot(answer, words):
     return None if all(it.startswith("tlbridge: ") for it in errors) else f"{errors!r} on standard error"
 
 
-def first_use(copy):
+def of_first_use(copy):
     status, output, errors, noted = copy.call()
     lanes = f"{LANES} processor{'s' if LANES > 1 else ''}"
     wanted = [
@@ -107,13 +107,13 @@ def first_use(copy):
     return runs((status, output, [], noted), builds=ALL) or runs(copy.call(), builds=NOTHING)
 
 
-def goes_on(copy):
+def of_a_build_that_goes_on(copy):
     """A library that was built before a build stopped isn't built again; how long it took then is known."""
     copy.call(does="stops")
     return runs(copy.call(), builds=PROGRAM)
 
 
-def interrupted(copy):
+def of_a_build_that_the_keyboard_stops(copy):
     """By the keyboard, once the library is built: nothing but a line is said, and the next call goes on there."""
     path = copy.path + b":" + os.environb[b"PATH"]
     env = {**os.environb, b"PATH": path, b"NOTED": copy.noted, b"DOES": b"waits", b"TREE": copy.root}
@@ -132,7 +132,7 @@ def interrupted(copy):
     return runs(copy.call(), builds=PROGRAM)
 
 
-def time_to_go(copy):
+def of_how_long_a_build_will_take(copy):
     """Of a chain all of it, by what each took before; by what it took here, where each was built here."""
     copy.source(".ci/seconds", "low 600\ntlbridge 9\n")
     copy.source("out/seconds", "low 1200\nother 30\ntlbridge 1200\n")
@@ -148,13 +148,13 @@ def time_to_go(copy):
     return None if table == "low 1\ntlbridge 1\n" else f"it noted {table!r}"
 
 
-def named_in_any_order(copy):
+def of_a_list_in_any_order(copy):
     """The list names a crate ahead of one that it stands on."""
     copy.source("crates.txt", "tlbridge: other low\nother: low\nlow:\n")
     return runs(copy.call(), builds=["lib low", "lib other", "run tlbridge"])
 
 
-def built_in_order(copy):
+def of_this_repositorys_own_list(copy):
     """By this repository's own list: what each program is built of stands behind all that it stands on."""
     code = "import build, sys; [print(it.name, *(below.name for below in it.below)) for it in build.crates_of(sys.argv[1])]"
     for program in ("tlbridge", "tlscore", "zuldegei"):
@@ -168,7 +168,7 @@ def built_in_order(copy):
     return None
 
 
-def times_noted(copy):
+def of_how_long_each_crate_took(copy):
     """While another command proves: of each crate, but not of its tests; of a processor by kind; the command's status stays."""
     copy.source("out/seconds", "other 40\n")
     copy.write(copy.file("prove"), (STAND_INS / "prover").read_text(), 0o755)
@@ -181,7 +181,7 @@ def times_noted(copy):
     return None if ran.returncode == 7 and is_right else f"status {ran.returncode}, {table}, {kinds}"
 
 
-def times_kept(copy):
+def of_how_long_a_whole_test_took(copy):
     """Those of a test that took nothing that was kept, and of no other."""
     noted = "300 90 proofs\n60 0 tests\n120 40 wrong bodies\n60 20 programs\n60 30 programs\n"
     copy.source("out/seconds", "low 600\ntlbridge 9\nother 5\n")
@@ -197,7 +197,7 @@ def times_kept(copy):
     return None if is_right else f"status {refused}, then {ran.stdout!r}, {seconds!r}, {took!r}"
 
 
-def time_of_a_test(copy):
+def of_how_long_a_whole_test_will_take(copy):
     """What ran alone on two processors, 20 minutes of 60, runs alone here; the other 80 minutes of a processor are shared."""
     ahead = [sys.executable, TOP / ".ci/took.py", "--ahead"]
     printed = lambda words: subprocess.run(words, cwd=copy.root, stdout=subprocess.PIPE, text=True, timeout=60).stdout
@@ -218,7 +218,7 @@ def time_of_a_test(copy):
     return None if "isn't known" in unknown else repr(unknown)
 
 
-def beside_each_other(copy):
+def of_commands_beside_each_other(copy):
     """Commands by .ci/beside.py: what they count is added up; a last line of another kind, or a status that no line explains, is a failure."""
     said = {"3 passed, 0 failed": 0, "one fails\\n2 passed, 1 failed": 1, "nothing": 0, "5 passed, 0 failed": 3}
     command = f"\t{sys.executable}\t-c\tprint('%s'); raise SystemExit(%d)\n"
@@ -229,7 +229,7 @@ def beside_each_other(copy):
     return None if is_right and sum(it.startswith("== ") for it in lines) == 4 else f"status {ran.returncode}, {lines}"
 
 
-def beside_each_other_all_right(copy):
+def of_commands_beside_each_other_none_of_which_fails(copy):
     copy.source("tries", f"\t{sys.executable}\t-c\tprint('3 passed, 0 failed')\n" * 9)
     ran = subprocess.run([sys.executable, TOP / ".ci/beside.py", "tries"], cwd=copy.root, stdout=subprocess.PIPE, text=True, timeout=60)
     return None if (ran.returncode, ran.stdout.splitlines()[-1]) == (0, "27 passed, 0 failed") else f"status {ran.returncode}, {ran.stdout!r}"
@@ -250,7 +250,7 @@ def unproved(answer, text="main 1", builds=None, tool="tlbridge"):
 TRIED = dict(words=(b"--unproved", b"run"))
 
 
-def unproved_use(copy):
+def of_a_program_that_isnt_proved(copy):
     """It is built once, and again where a source has changed."""
     why = unproved(copy.call(**TRIED), builds=UNPROVED) or unproved(copy.call(**TRIED), builds=NOTHING)
     copy.source("crates/low/src/lib.rt", "lib 2")
@@ -258,7 +258,7 @@ def unproved_use(copy):
     return why or unproved(copy.call(**TRIED), "main 2", UNPROVED) or unproved(copy.call(**TRIED), "main 2", NOTHING)
 
 
-def unproved_apart(copy):
+def of_a_program_that_isnt_proved_and_one_that_is(copy):
     """Neither is taken for the other, not even with its stamp."""
     why = unproved(copy.call(**TRIED)) or runs(copy.call(), builds=ALL)
     why = why or unproved(copy.call(**TRIED), builds=NOTHING) or runs(copy.call(), builds=NOTHING)
@@ -268,7 +268,7 @@ def unproved_apart(copy):
     return why or runs(copy.call(), builds=PROGRAM) or runs(copy.call(), builds=NOTHING)
 
 
-def unproved_fails(copy):
+def of_a_program_that_isnt_proved_and_cant_be_built(copy):
     """An older one stands there, and isn't run; nor is one whose sources changed during the build."""
     copy.call(**TRIED)
     copy.source("crates/tlbridge/src/main.rt", "main 2")
@@ -277,13 +277,13 @@ def unproved_fails(copy):
     return why or unproved(copy.call(**TRIED), "edited", UNPROVED)
 
 
-def unproved_as_a_word(copy):
+def of_the_word_for_it_behind_another(copy):
     """Behind the first word it is one of the program's."""
     status, output, _, noted = copy.call(words=(b"run", b"--unproved"))
     return None if (status, output, noted) == (3, made(words="run --unproved"), ALL) else f"{status}, {output!r}, {noted}"
 
 
-def unproved_scoreboard(copy):
+def of_a_scoreboard_that_isnt_proved(copy):
     """By the name of tlscore its own program."""
     copy.source("crates.txt", "low:\ntlbridge: low\ntlscore: low\n")
     copy.source("crates/tlscore/src/main.rt", "score 1")
@@ -292,7 +292,7 @@ def unproved_scoreboard(copy):
     return why or unproved(copy.call(**called), "score 1", NOTHING, "tlscore") or unproved(copy.call(**TRIED), builds=UNPROVED)
 
 
-def words_pass(copy):
+def of_the_words(copy):
     """Also while the program is built."""
     for _ in range(2):
         _, output, _, _ = copy.call(words=(b"a b", b"-x", b"\xff"))
@@ -301,44 +301,44 @@ def words_pass(copy):
     return None
 
 
-def edited(copy):
+def of_an_edited_source(copy):
     copy.call()
     copy.source("crates/tlbridge/src/main.rt", "main 2")
     return runs(copy.call(), made("main 2"), PROGRAM) or runs(copy.call(), made("main 2"), NOTHING)
 
 
-def edited_below(copy):
+def of_an_edited_source_of_a_library(copy):
     copy.call()
     copy.source("crates/low/src/lib.rt", "lib 2")
     return runs(copy.call(), builds=ALL)
 
 
-def edited_and_dated_back(copy):
+def of_an_edited_source_with_an_old_date(copy):
     copy.call()
     copy.source("crates/tlbridge/src/main.rt", "main 2")
     os.utime(copy.file("crates/tlbridge/src/main.rt"), (0, 0))
     return runs(copy.call(), made("main 2"), PROGRAM)
 
 
-def dated_in_the_future(copy):
+def of_a_source_dated_in_the_future(copy):
     os.utime(copy.file("crates/tlbridge/src/main.rt"), (time.time() + 10_000,) * 2)
     copy.call()
     return runs(copy.call(), builds=NOTHING)
 
 
-def deleted(copy):
+def of_a_deleted_source(copy):
     copy.call()
     os.remove(copy.file("crates/tlbridge/src/more.rt"))
     return runs(copy.call(), builds=PROGRAM) or runs(copy.call(), builds=NOTHING)
 
 
-def added(copy):
+def of_a_new_source(copy):
     copy.call()
     copy.source("crates/tlbridge/specs/New.antt", "")
     return runs(copy.call(), builds=PROGRAM)
 
 
-def list_edited(copy):
+def of_another_list_of_crates(copy):
     copy.call()
     copy.source("crates.txt", "low:\ntlbridge: low\n")
     return runs(copy.call(), builds=PROGRAM)
@@ -370,11 +370,11 @@ def fails(does, words):
     return case
 
 
-def makes_nothing(copy):
+def of_a_build_that_makes_nothing(copy):
     return cannot(copy.call(does="makes_nothing"), "tlbridge wasn't proved and built")
 
 
-def without_rt(copy):
+def of_no_rt(copy):
     """Over a path with what the launcher calls, and no more."""
     tools = os.path.join(copy.room, b"tools")
     os.makedirs(tools)
@@ -385,14 +385,14 @@ def without_rt(copy):
     return why or runs(copy.call(path=tools), builds=NOTHING)
 
 
-def program_changed(copy):
+def of_another_program_in_its_place(copy):
     """A program that this launcher didn't build, as one that rt made of other sources."""
     copy.call()
     copy.write(copy.file("crates/tlbridge/out/tlbridge"), "#!/bin/sh\necho other\n", 0o755)
     return runs(copy.call(), builds=PROGRAM)
 
 
-def program_gone(copy):
+def of_a_program_that_was_deleted(copy):
     copy.call()
     os.remove(copy.file("crates/tlbridge/out/tlbridge"))
     return runs(copy.call(), builds=PROGRAM)
@@ -405,7 +405,7 @@ def allow(folder, writing):
             os.chmod(it, 0o755 if writing else 0o555)
 
 
-def read_only(copy):
+def of_a_folder_that_cant_be_written(copy):
     """A folder that isn't the caller's: what is built runs, what isn't can't be. (root may write anywhere, and drops that.)"""
     drop = ["setpriv", "--reuid=65534", "--regid=65534", "--clear-groups"] if os.geteuid() == 0 else []
     allow(copy.root, False)
@@ -422,7 +422,7 @@ def read_only(copy):
     return why
 
 
-def linked(copy):
+def of_links(copy):
     links = os.path.join(copy.room, b"links")
     os.makedirs(links)
     os.symlink(copy.file("tlbridge"), os.path.join(links, b"far"))
@@ -437,7 +437,7 @@ def linked(copy):
     return runs(copy.call(called=b"links/near", cwd=copy.room), builds=NOTHING)
 
 
-def called_from(copy):
+def of_calls_from_elsewhere(copy):
     """Other folders, CDPATH, PATH, and sh with the file's name."""
     copy.call()
     path = copy.path + b":" + copy.root + b":" + os.environb[b"PATH"]
@@ -457,7 +457,7 @@ def called_from(copy):
     return None
 
 
-def descriptors(copy):
+def of_closed_descriptors(copy):
     """Closed ones come to the program as they are."""
     copy.call()
     shell = lambda line: copy.call(drop=["sh", "-c", line], words=())
@@ -468,7 +468,7 @@ def descriptors(copy):
     return None if (status, output) == (3, b"") else f"output closed: status {status}, {output!r}"
 
 
-def input_is_kept(copy):
+def of_the_script_while_it_is_built(copy):
     """What builds the program doesn't read the script."""
     return runs(copy.call(given=b"input\n"), builds=ALL)
 
@@ -489,6 +489,7 @@ def in_folder(name, program=None):
 
 
 def cases(program):
+    """Each function `of_..`, which is named by its case, and some that are made."""
     folders = {
         "spaces": b"a  b ",
         "bytes that aren't UTF-8": b"caf\xe9\x81\x88",
@@ -496,47 +497,15 @@ def cases(program):
         "a dash": b"-a",
         "a quote": b"a'\"$b\\n*",
     }
-    table = {
-        "first use": first_use,
-        "a build that goes on": goes_on,
-        "a build that the keyboard stops": interrupted,
-        "how long a build will take": time_to_go,
-        "a list in any order": named_in_any_order,
-        "this repository's own list": built_in_order,
-        "how long each crate took": times_noted,
-        "how long a whole test took": times_kept,
-        "how long a whole test will take": time_of_a_test,
-        "commands beside each other": beside_each_other,
-        "commands beside each other, none of which fails": beside_each_other_all_right,
-        "a program that isn't proved": unproved_use,
-        "a program that isn't proved, and one that is": unproved_apart,
-        "a program that isn't proved, and can't be built": unproved_fails,
-        "the word for it behind another": unproved_as_a_word,
-        "a scoreboard that isn't proved": unproved_scoreboard,
-        "the words": words_pass,
-        "an edited source": edited,
-        "an edited source of a library": edited_below,
-        "an edited source with an old date": edited_and_dated_back,
-        "a source dated in the future": dated_in_the_future,
-        "a deleted source": deleted,
-        "a new source": added,
-        "another list of crates": list_edited,
+    table = {name[3:].replace("_", " "): case for name, case in globals().items() if name.startswith("of_")}
+    table.update({
         "a source edited during the build": changed_during_the_build("edits"),
         "a source deleted during the build": changed_during_the_build("deletes"),
         "a build that fails": fails("fails", "tlbridge wasn't proved and built"),
         "a build that is stopped": fails("stops", "tlbridge wasn't proved and built"),
-        "a build that makes nothing": makes_nothing,
-        "no rt": without_rt,
-        "another program in its place": program_changed,
-        "a program that was deleted": program_gone,
-        "a folder that can't be written": read_only,
-        "links": linked,
-        "calls from elsewhere": called_from,
-        "closed descriptors": descriptors,
-        "the script while it is built": input_is_kept,
         **{f"a folder's name with {it}": in_folder(name) for it, name in folders.items()},
         **{f"the program in a folder's name with {it}": in_folder(name, program) for it, name in folders.items()},
-    }
+    })
     for name, case in table.items():
         yield f"launcher: {name}", lambda it=case: in_room(it)
 

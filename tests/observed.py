@@ -3,18 +3,13 @@ says of each port, and that replies are those of the accepted requests, carried 
 and that nobody knows some lanes of a beat where they tell something.
 It keeps every reading of what each client was told that is still possible; where none is left, the beat can't be right."""
 
-from dataclasses import dataclass, field, replace
+from dataclasses import dataclass, replace
 
-from model import GET, INTENT, LOGICAL, PUT_FULL, PUT_PARTIAL, Memory
-
+from model import GET, GOOD, INTENT, PUT_FULL, PUT_PARTIAL, Memory, beats_of
+from port_models import AxiPort, Port
 from unknown import doubted, given_lanes, lanes_of_mask
 
-from client import beats_of  # model.py says where it stands
-from random_bench import full_mask
-
-PARAMS = (1, 1, 5, 4, 1, 2)  # how many params each opcode has
 WITHDRAWN = ("noclient", "refused", "notready", "exhausted")
-RESPONSES = ("OKAY", "SLVERR", "DECERR")
 
 
 @dataclass(frozen=True)
@@ -67,34 +62,6 @@ class Client:
         return {replies[number][0].source for number in reading.due}
 
 
-@dataclass
-class Burst:
-    id: int
-    address: int
-    len: int
-    size: int
-    came: int = 0
-
-    def transfer(self, bus):
-        """The first and last byte of the next transfer, as AXI4 counts them, and its lanes."""
-        number = 2**self.size
-        aligned = self.address // number * number
-        begin = self.address if self.came == 0 else aligned + self.came * number
-        end = aligned + (self.came + 1) * number - 1
-        return begin, end, sum(1 << at % bus for at in range(begin, end + 1))
-
-    def is_last(self):
-        return self.came == self.len
-
-
-@dataclass
-class Side:
-    bursts: list = field(default_factory=list)
-
-    def of_id(self, number):
-        return [it for it in self.bursts if it.id == number]
-
-
 class Observation:
     """Beats are taken in the order observed. One that can't be right is left out, but that of a due reply counts as come, and a reply
     that ended early is over with the first beat of another; so does write data count; and an address opens its burst if its
@@ -108,13 +75,13 @@ class Observation:
         self.looked = []  # the lanes of their beats that are compared
         self.writes_at = []  # the bytes that each may write
         self.doubts = set()  # the bytes that aren't known
-        self.writes, self.reads = Side(), Side()
         self.taken = 0
         self.is_unknown = False  # whether the last beat would be right, if nobody knew everything of it
+        self.drained()
 
     def drained(self):
         """AXI4 beats went unseen, the last of every burst among them: both sides are as at the start."""
-        self.writes, self.reads = Side(), Side()
+        self.port = AxiPort(self.setup.ids, self.setup.depth, self.setup.width)
 
     def reset(self):
         """What had begun is gone, and nobody knows what a request in flight may have written."""
@@ -131,10 +98,9 @@ class Observation:
             return False
         if channel in "AD":
             is_right, looked = (self.asks if channel == "A" else self.tells)(self.clients[client], client, beat, lanes)
-        elif channel in "WR":
-            is_right, looked = (self.w if channel == "W" else self.r)(*beat)
         else:
-            is_right, looked = {"AW": self.aw, "AR": self.ar, "B": self.b}[channel](*beat), set()
+            looked = self.looked_at(channel, beat)
+            is_right = self.port.take(channel, beat) is None
         self.is_unknown = is_right and bool(looked & lanes)
         return is_right and not self.is_unknown
 
@@ -147,7 +113,7 @@ class Observation:
         return sum(len(next(iter(it.readings)).due) for it in self.clients)
 
     def open(self):
-        return len(self.writes.bursts) + len(self.reads.bursts)
+        return self.port.opened()
 
     # ---- channels A and D
 
@@ -155,7 +121,7 @@ class Observation:
 
     def asks(self, it, client, beat, lanes):
         message = (*it.message, beat)
-        if not is_spelled(message, it.level, self.setup.largest):
+        if Port(it.level, self.setup.largest, [*it.message]).broken(beat):
             return False, set()
         if not it.message:
             free = frozenset(told for told in it.readings if beat.source not in it.sources(told, self.replies))
@@ -175,7 +141,7 @@ class Observation:
         of its beats."""
         first, at = message[0], self.setup.place(message)
         is_put, reads_alone = first.opcode in (PUT_FULL, PUT_PARTIAL), first.opcode in (GET, INTENT)
-        span = range(at, at + 2**first.size) if at is not None and self.setup.pages.get(at >> 12) == "good" else range(0)
+        span = range(at, at + 2**first.size) if at is not None and self.setup.pages.get(at >> 12) == GOOD else range(0)
         unknown = set() if is_put else self.doubts & set(span)
         reply = self.memory.carry_out(client, message)
         self.replies.append(reply)
@@ -198,45 +164,13 @@ class Observation:
 
     # ---- the AXI4 port
 
-    def address(self, side, id, address, len, size, burst):
-        last = address // 2**size * 2**size + (len + 1) * 2**size - 1
-        opened = sum(it.id == id for it in side.bursts)
-        if 2**size > self.setup.width or id >= self.setup.ids or opened >= 2 * self.setup.depth:
-            return False
-        side.bursts.append(Burst(id, address, len, size))
-        return burst == 1 and address // 4096 == last // 4096 and opened < self.setup.depth
-
-    def aw(self, *beat):
-        return self.address(self.writes, *beat)
-
-    def ar(self, *beat):
-        return self.address(self.reads, *beat)
-
-    def w(self, strobes, last):
-        burst = next((it for it in self.writes.bursts if it.came <= it.len), None)
-        if burst is None:
-            return False, set()
-        _, _, lanes = burst.transfer(self.setup.width)
-        is_right = not strobes & ~lanes and bool(last) == burst.is_last()
-        burst.came += 1
-        return is_right, lanes_of_mask(strobes)
-
-    def b(self, id, resp):
-        mine = self.writes.of_id(id)
-        if id >= self.setup.ids or not mine or mine[0].came <= mine[0].len or resp not in RESPONSES:
-            return False
-        self.writes.bursts.remove(mine[0])
-        return True
-
-    def r(self, id, resp, last):
-        mine = self.reads.of_id(id)
-        if id >= self.setup.ids or not mine or bool(last) != mine[0].is_last() or resp not in RESPONSES:
-            return False, set()
-        _, _, lanes = mine[0].transfer(self.setup.width)
-        mine[0].came += 1
-        if mine[0].came > mine[0].len:
-            self.reads.bursts.remove(mine[0])
-        return True, lanes_of_mask(lanes)
+    def looked_at(self, channel, beat):
+        """The lanes of a beat's payload that are looked at, if it is right."""
+        if channel == "W":
+            _, strobes, _ = beat
+            return lanes_of_mask(strobes)
+        burst = self.port.reads.oldest(beat[0]) if channel == "R" else None
+        return lanes_of_mask(burst.lanes(self.setup.width)) if burst else set()
 
 
 def lanes_at(due, k, told, span):
@@ -246,22 +180,3 @@ def lanes_at(due, k, told, span):
     first = span[0] // 8 * 8 + 8 * k if told else 0
     return {lane for lane in range(8) if first + lane in told}
 
-
-def is_spelled(message, level, largest):
-    """Whether beats spell a message of a level, or begin one."""
-    first, last = message[0], message[-1]
-    if len(message) > 1:
-        same = ("opcode", "param", "size", "source", "address")
-        return all(getattr(first, it) == getattr(last, it) for it in same) and is_masked(last, True)
-    if first.opcode > INTENT or first.param >= PARAMS[first.opcode] or first.size > largest or first.address % 2**first.size:
-        return False
-    if level == "l" and (first.opcode not in (0, 1, GET) or first.size > 3):
-        return False
-    if first.opcode in (LOGICAL - 1, LOGICAL) and first.size > 3:
-        return False
-    return is_masked(first, False) and not (first.opcode >= GET and first.corrupt)
-
-
-def is_masked(beat, later):
-    full = 0xFF if later else full_mask(beat.size, beat.address)
-    return not beat.mask & ~full if beat.opcode == PUT_PARTIAL else beat.mask == full

@@ -15,18 +15,16 @@ import sys
 import tempfile
 from itertools import zip_longest
 from pathlib import Path
-from typing import Iterator, Optional, Tuple
+from typing import Iterator, Optional
 
-from ends import told
+from ends import TOP, Case, told
 
-TOP = Path(__file__).resolve().parent.parent
 PAGES = ("README.md", "docs/TESTBENCH.md", "docs/COVERAGE.md", "docs/STIMULUS.md", "python/README.md", "interfaces/README.md")
 BLOCK = re.compile(r"(?ms)^```shell\n(.*?)^```\n\n```printed (\d+)\n(.*?)^```$")
 SHOWN = re.compile(r"(?m)^```shell$")
 TOOLS = ("waves", "fill", "explain", "wave-of", "times", "regress", "cover", "stimulus")
 NEEDED = ("iverilog", "verilator", "fst2vcd", "vcd2fst", "cc", "chromium")  # of Debian, where a block names one
 NEEDS_LIBRARY = re.compile(r"libzuldegei|inside/bench|import .*(?:Scoreboard|Bridge)")
-Case = Tuple[str, Optional[str]]
 
 
 def installed(folder: Path, score: str) -> dict:

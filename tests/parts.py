@@ -11,17 +11,18 @@ import json
 import os
 import random
 import re
+import shutil
 import signal
 import subprocess
 import sys
-import tempfile
 from pathlib import Path
 from typing import Dict, Iterator, List, Optional, Sequence, Tuple
 
-from ends import told
+from ends import TOP, Case, told_in_a_folder
 from fuzz_commands import called
-from regress import KNOWN, begun, stopped, taken
-from waves import RTL, TOP, command
+from package import RTL, begun, command
+from regress import KNOWN, stopped, taken
+from stored import blocks
 from zuldegei import regress
 from zuldegei.parts import merged
 from zuldegei.reports import Asked, Part
@@ -42,7 +43,6 @@ OTHERS = {
     "a clock": (["--clock", "7"], "--clock"),
 }
 CUTS = 40
-Case = Tuple[str, Optional[str]]
 
 
 def here(folder: Path, *words: object) -> subprocess.CompletedProcess:
@@ -233,7 +233,7 @@ def ended_early(folder: Path, score: str) -> Iterator[Case]:
     words = ["--command", text, "--seeds", "1-5", "-j", 1, "--score", score, "--cover", "night.cover"]
     for by, left, why in ((signal.SIGTERM, 2, "of its 3 runs 2 weren't judged"), (signal.SIGKILL, 3, "missing")):
         (folder / "again").unlink(missing_ok=True)
-        with begun(folder, *words, "--part", "1/2", "--json", "part-1.json", stdout=subprocess.DEVNULL) as program:
+        with begun(folder, "regress", *words, "--part", "1/2", "--json", "part-1.json", stdout=subprocess.DEVNULL) as program:
             stopped(folder, program, by)
         (folder / "again").touch()
         part(folder, 2, 2, words)
@@ -277,49 +277,19 @@ def said_of(*words: str) -> Tuple[int, str]:
 
 def worded() -> Iterator[Case]:
     """Words that can't be."""
-    for text in ("9/8", "0/8", "1/0", "-1/8", "8", "1/8/2", "a/b", "", "1/10001", "1/ 8", "\u0661/8"):
-        status, said = said_of("run.lines", "--json", "it", f"--part={text}")
-        yield f"the part {text!r}", None if (status, said.count("\n")) == (6, 1) and "--part" in said else f"{status}, {said!r}"
-    for words in (
-        ["run.lines", "--part", "1/2"],
-        ["run.lines", "--part", "1/2", "--json", "it", "--slurm", "2", "--parts", "there"],
-        ["run.lines", "--slurm", "2"],
-        ["run.lines", "--slurm", "0", "--parts", "there"],
-        ["run.lines", "--slurm", "10001", "--parts", "there"],
-        ["run.lines", "--parts", "there"],
-        ["run.lines", "--sbatch", "x"],
-        ["run.lines", "--slurm", "2", "--parts", "there", "--sbatch", "'x"],
-        ["run.lines", "--merge", "a.json", "--seeds", "1"],
-        ["--merge", "a.json", "--keep", "there"],
-        ["--merge", "a.json", "--json", "./a.json"],
-        ["run.lines", "-j", "0"],
-        ["--merge"],
-    ):
-        status, said = said_of(*words)
-        yield f"the words {' '.join(words)}", None if (status, said.count("\n")) == (6, 1) else f"{status}, {said!r}"
-
-
-SBATCH = """#!/bin/sh
-for word; do case $word in --array=1-*) of=${word#--array=1-};; --output=*) logs=${word#--output=};; esac; done
-logs=$(echo "${logs%AT.log}" | sed 's/PERPER/PER/g')
-for told; do echo "$told"; done >called
-AHEAD
-echo 7
-number=0
-while [ $number -lt $of ]; do
-    number=$((number + 1))
-    SLURM_ARRAY_TASK_ID=$number sh "$word" >"$logs$number.log" 2>&1
-done
-""".replace("AT", "%a").replace("PER", "%")
+    for it in blocks(TOP / "tests/words/regress.words"):
+        status, said = said_of(*(os.fsdecode(word) for word in it.words))
+        yield f"the words {it.given}", it.one_line(subprocess.CompletedProcess(it.words, status, "", said), "zuldegei-regress")
 
 
 def stand_ins(folder: Path, ahead: str = "") -> Dict[str, str]:
-    """Stand-ins for Slurm's commands; sbatch makes the parts here, one behind the other. They are first on PATH."""
+    """Stand-ins for Slurm's commands, and for what the page's lines call: first on PATH, and with what they do by their variables."""
     (folder / "bin").mkdir(exist_ok=True)
-    for name, text in (("sbatch", SBATCH.replace("AHEAD", ahead)), ("scancel", '#!/bin/sh\necho "$1" >>cancelled\n'), ("squeue", "#!/bin/sh\n")):
-        (folder / "bin" / name).write_text(text)
-        (folder / "bin" / name).chmod(0o755)
-    return {"PATH": f"{folder / 'bin'}:/usr/bin:/bin"}
+    for name in ("sbatch", "scancel", "squeue", "bsub", "ssh", "zuldegei-regress"):
+        shutil.copy(TOP / "tests/stand_ins" / name, folder / "bin")
+    shutil.copy(TOP / "tests/stand_ins/simulate", folder)
+    variables = {"AHEAD": ahead, "RIGHT": str(RIGHT), "PYTHON": sys.executable, "PACKAGE": str(TOP / "python")}
+    return {"PATH": f"{folder / 'bin'}:/usr/bin:/bin", **variables}
 
 
 def by_stand_ins(folder: Path, score: str) -> Iterator[Case]:
@@ -350,36 +320,12 @@ def by_stand_ins(folder: Path, score: str) -> Iterator[Case]:
     yield "no sbatch", refused(ran, 3, "sbatch can't be run")
 
 
-# Stand-ins for what the page's lines call: bsub makes the jobs of an array here, and ssh does what a machine is told.
-PAGE = {
-    "zuldegei-regress": f'#!/bin/sh\nPYTHONPATH={TOP}/python PYTHONDONTWRITEBYTECODE=1 exec {sys.executable} -m zuldegei.regress "$@"\n',
-    "ssh": """#!/bin/sh
-[ "$1" = -n ] && echo "$2" >>machines && cd / && exec sh -c "$3"
-""",
-    "bsub": """#!/bin/sh
-of=1
-while [ $# -gt 1 ]; do
-    case $1$2 in "-Jnight[1-8]") of=8;; -wended*) [ -e night/part-8.log ] || exit 9;; esac
-    [ "$1" != -o ] || log=$2
-    shift 2
-done
-for LSB_JOBINDEX in $(seq $of); do
-    export LSB_JOBINDEX
-    sh -c "$1" >"$(echo "$log" | sed "s/%I/$LSB_JOBINDEX/")" 2>&1
-done
-""",
-    "../simulate": "#!/bin/sh\n[ $1 = 17 ] || exec cat RIGHT\n",
-}
-
-
 def on_the_page(folder: Path, score: str) -> Iterator[Case]:
     """The lines of the page for LSF and ssh, by stand-ins: the files are those of one call."""
     variables = {**stand_ins(folder), "TLSCORE": score}
-    for name, text in PAGE.items():
-        (folder / "bin" / name).write_text(text.replace("RIGHT", str(RIGHT)))
-        (folder / "bin" / name).chmod(0o755)
     text = (TOP / "python/README.md").read_text()
-    one = command("regress", "--seeds", "1-20", "--command", "./simulate {seed}", "--junit", "one.xml", "--score", score, cwd=folder)
+    words = ("--seeds", "1-20", "--command", "./simulate {seed}", "--junit", "one.xml", "--score", score)
+    one = command("regress", *words, cwd=folder, environment={"RIGHT": str(RIGHT)})
     due = TIMES.sub("", (folder / "one.xml").read_text())
     for name in ("LSF", "ssh"):
         lines = re.search(rf"(?m)^    # {name}: .*\n((?:    .*\n)+)", text)[1].replace("1-200", "1-20")
@@ -403,5 +349,4 @@ def cases(folder: Path, score: str) -> Iterator[Case]:
 
 
 if __name__ == "__main__":
-    with tempfile.TemporaryDirectory() as made_in:
-        sys.exit(told(cases(Path(made_in), str(Path(sys.argv[1]).resolve()))))
+    sys.exit(told_in_a_folder(cases, str(Path(sys.argv[1]).resolve())))

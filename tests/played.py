@@ -6,32 +6,26 @@ the midst of bursts. Where Verilator isn't installed that is said, and nothing i
     python3 tests/played.py TLSCORE [--library FOLDER]
 """
 
-import argparse
 import re
-import shutil
 import sys
 import tempfile
 from pathlib import Path
-from typing import Iterator, Optional, Tuple
+from typing import Iterator, Optional
 
-from ends import told
-from in_process_rtl import NO_LIMIT, SYSTEMVERILOG, TOLD, TOP, UNOPTIMIZED, built, run, started
+from ends import Case, asked, is_there, told
+from in_process_rtl import NO_LIMIT, TOLD, TOP
+from simulators import SYSTEMVERILOG, by_verilator, run, started
 from stored import observations
 from systemc import AT_PORTS, END, by_hand, parts
 
 FILES = [SYSTEMVERILOG / f"zuldegei_{it}.sv" for it in ("pkg", "reply_pkg", "monitor", "predictor")]
 PREDICTED = re.compile(r"%Error: .*zuldegei: (.*)$|^zuldegei: (= predicted .*)$", re.M)
 ENDLESS = AT_PORTS / "predictor/a-get.lines"
-Case = Tuple[str, Optional[str]]
 
 
 def bench(folder: Path, *files: Path) -> Path:
     """A testbench, in a folder of its own."""
-    room = Path(tempfile.mkdtemp(dir=folder))
-    words = ["verilator", "--cc", "--exe", "--main", "--timing", "-Wno-fatal", "--top-module", "testbench", "-Mdir", str(room), "-o", "bench"]
-    built([*words, *map(str, files)], room, files[-1].name)
-    built(["make", "-s", "-f", "Vtestbench.mk", *UNOPTIMIZED], room, files[-1].name)
-    return room / "bench"
+    return by_verilator(Path(tempfile.mkdtemp(dir=folder)), "testbench", files)
 
 
 def played(program: Path, setup: str, lines: str, *words: str) -> str:
@@ -75,8 +69,7 @@ def memory(program: Path) -> Iterator[Case]:
 
 
 def cases(score: Path, library: Path) -> Iterator[Case]:
-    if not shutil.which("verilator"):
-        print("skipped: the monitor and the predictor by hand, as verilator isn't installed")
+    if not is_there("the monitor and the predictor by hand", "verilator"):
         return
     with tempfile.TemporaryDirectory() as folder:
         program = bench(Path(folder), *FILES, library / "libzuldegei.a", TOP / "tests/played.sv")
@@ -85,13 +78,6 @@ def cases(score: Path, library: Path) -> Iterator[Case]:
         yield from memory(bench(Path(folder), SYSTEMVERILOG / "zuldegei_axi_memory.sv", TOP / "tests/free_memory.sv"))
 
 
-def main() -> int:
-    asked = argparse.ArgumentParser(description=__doc__)
-    asked.add_argument("score", metavar="TLSCORE", type=lambda it: Path(it).resolve())
-    asked.add_argument("--library", help="where libzuldegei.a stands (out)")
-    given = asked.parse_args()
-    return told(cases(given.score, Path(given.library or TOP / "out").resolve()))
-
-
 if __name__ == "__main__":
-    sys.exit(main())
+    given = asked(__doc__, "score", over_library=True).parse_args()
+    sys.exit(told(cases(given.score, given.library)))

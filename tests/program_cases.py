@@ -63,25 +63,6 @@ def refused(script, fault):
     return ["threads"], script, 5, b"", b"thread fault: %b\n" % fault
 
 
-# Words that tlbridge refuses.
-REFUSED_WORDS = {
-    "an unknown word": ["walk"],
-    "an empty word": [""],
-    "a word in capitals": ["RUN"],
-    "a file's name after run": ["run", "examples/first.script"],
-    "a second word after check": ["check", "run"],
-    "a second word after threads": ["threads", "4"],
-    "run twice": ["run", "run"],
-    "help": ["help"],
-    "-h": ["-h"],
-    "--help": ["--help"],
-    "--help after run": ["run", "--help"],
-    "--version": ["--version"],
-    "a word that isn't UTF-8": [b"r\xfcn"],
-    "a second word that isn't UTF-8": ["run", b"\xff"],
-    "a word of 100,000 bytes": ["x" * 100_000],
-}
-
 # What is given and what is wanted, where it is an example with other ends of its lines or has many lines: the words, standard input, the
 # status, the text, and the line on standard error.
 TABLE = {
@@ -138,31 +119,15 @@ REDIRECTED = {
     "all three closed": ('exec "$0" run <&- >&- 2>&-', b"", 3, b"", b""),
 }
 
-# Words that tlscore refuses.
-REFUSED_SCORE_WORDS = {
-    "a word": ["run"],
-    "an empty word": [""],
-    "a word that --version begins with": ["--versio"],
-    "a word that begins with --version": ["--version="],
-    "--version in capitals": ["--VERSION"],
-    "version": ["version"],
-    "-V": ["-V"],
-    "-h": ["-h"],
-    "--help": ["--help"],
-    "--": ["--"],
-    "--version twice": ["--version", "--version"],
-    "a second word after --version": ["--version", "x"],
-    "an empty word after --version": ["--version", ""],
-    "-- before --version": ["--", "--version"],
-    "--version and two words": ["--version", "x", "y"],
-    "a word that isn't UTF-8": [b"r\xfcn"],
-    "a second word that isn't UTF-8": ["--version", b"\xff"],
-    "a word of 100,000 bytes": ["x" * 100_000],
-}
+
+def refused_words(program):
+    """Words that a program refuses, and one that is very long."""
+    yield from ((it.name, it.words) for it in stored.blocks(TOP / f"tests/words/{program}.words"))
+    yield "a word of 100,000 bytes", ["x" * 100_000]
 
 
 def of_table(program):
-    for name, words in REFUSED_WORDS.items():
+    for name, words in refused_words("tlbridge"):
         yield name, lambda w=words: started([program, *w], FIRST).wrong(6, b"", USAGE)
     for name, (words, given, *wanted) in TABLE.items():
         yield name, lambda w=words, g=given, x=wanted: started([program, *w], g).wrong(*x)
@@ -256,7 +221,7 @@ def of_scores(program):
         given, name = row.read_bytes(), f"tlscore: {row.stem}"
         yield name, lambda g=given, x=wanted: started([score], g).wrong(*x)
         yield f"{name} with CR LF", lambda g=given.replace(b"\n", b"\r\n"), x=wanted: started([score], g).wrong(*x)
-    for name, words in REFUSED_SCORE_WORDS.items():
+    for name, words in refused_words("tlscore"):
         given = (TOP / "examples/scoreboard/right.in").read_bytes()
         yield f"tlscore: {name}", lambda w=words, g=given: started([score, *w], g).wrong(6, b"", SCORE_USAGE)
     for name, word, script, _, trace, line in stored.scripts():

@@ -6,20 +6,18 @@ did before. Where yosys, ABC or Icarus isn't installed that is said.
     python3 tests/proof.py TLSCORE [--depth N]
 """
 
-import argparse
 import re
-import shutil
 import subprocess
 import sys
 import tempfile
 from concurrent.futures import ThreadPoolExecutor
 from pathlib import Path
-from typing import Dict, Iterator, List, Optional, Tuple
+from typing import Dict, Iterator, List, Optional
 
-from ends import told
-from waves import command
+from ends import TOP, Case, asked, is_there, told
+from package import command
+from simulators import by_icarus
 
-TOP = Path(__file__).resolve().parent.parent
 PROOF, RTL, RULES = TOP / "examples/proof", TOP / "examples/testbench/rtl", TOP / "interfaces/systemverilog/zuldegei_rules.sv"
 FILES = [PROOF / "small_bridge.sv", PROOF / "word.sv", PROOF / "small_proof.sv", RULES]
 # The faults of the small bridge, and the assertion that fails first: of a reply that nobody waits for it may be another of channel D, since the
@@ -38,7 +36,6 @@ FAULTS = {
     "AW_WITHDRAWN": r"port\.AW_STAYS",
 }
 CLOCK = 10  # how long a clock is in the dump
-Case = Tuple[str, Optional[str]]
 
 
 def proved(*words: object, environment: Optional[Dict[str, str]] = None) -> subprocess.CompletedProcess:
@@ -99,10 +96,9 @@ def of_words(folder: Path) -> Iterator[Case]:
 
 def seen_of(folder: Path, words: List[str], files: List[Path]) -> str:
     """What the monitor prints of a run of the testbench with these files."""
-    bench, seen = folder / "bench.vvp", folder / "seen.lines"
-    made = ["iverilog", "-g2012", f"-I{RTL}", *words, "-s", "testbench", "-o", str(bench), *map(str, files)]
-    subprocess.run(made, check=True, timeout=120)
-    subprocess.run(["vvp", "-n", str(bench), "+seed=5", f"+observed={seen}"], check=True, timeout=120, stdout=subprocess.DEVNULL)
+    seen = folder / "seen.lines"
+    runs = by_icarus(folder / "bench.vvp", "testbench", files, f"-I{RTL}", *words)
+    subprocess.run([*runs, "+seed=5", f"+observed={seen}"], check=True, timeout=120, stdout=subprocess.DEVNULL)
     return seen.read_text()
 
 
@@ -118,30 +114,20 @@ def of_flattened(folder: Path) -> Iterator[Case]:
 
 
 def cases(score: str, depth: int) -> Iterator[Case]:
-    lacking = [it for it in ("yosys", "berkeley-abc") if not shutil.which(it)]
     with tempfile.TemporaryDirectory() as name:
         folder = Path(name)
-        if lacking:
-            print(f"skipped: the bounded proof, as {' and '.join(lacking)} isn't installed")
-        else:
+        if is_there("the bounded proof", "yosys", "berkeley-abc"):
             yield from of_words(folder)
             with ThreadPoolExecutor() as pool:
                 waiting = [pool.submit(of_right, folder, depth)]
                 waiting += [pool.submit(of_fault, score, folder, bug, label) for bug, label in FAULTS.items()]
                 yield from (it.result() for it in waiting)
-        if shutil.which("iverilog"):
+        if is_there("the flattened bridges", "iverilog"):
             yield from of_flattened(folder)
-        else:
-            print("skipped: the flattened bridges, as iverilog isn't installed")
-
-
-def main() -> int:
-    asked = argparse.ArgumentParser(description=__doc__, formatter_class=argparse.RawDescriptionHelpFormatter)
-    asked.add_argument("score", metavar="TLSCORE")
-    asked.add_argument("--depth", type=int, default=11, help="how many clocks are looked at of the right bridge (11: those in which each fault fails)")
-    given = asked.parse_args()
-    return told(cases(given.score, given.depth))
 
 
 if __name__ == "__main__":
-    sys.exit(main())
+    words = asked(__doc__, "score")
+    words.add_argument("--depth", type=int, default=11, help="how many clocks are looked at of the right bridge (11: those in which each fault fails)")
+    given = words.parse_args()
+    sys.exit(told(cases(given.score, given.depth)))

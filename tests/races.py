@@ -8,22 +8,19 @@ replied to before they are whole.
     python3 tests/races.py TLSCORE [HISTORIES] [--seed WORD]
 """
 
-import argparse
 import random
 import re
-import secrets
 import sys
 from collections import Counter
-from dataclasses import dataclass
+from dataclasses import dataclass, replace
 
 from compared import compared
-from ends import started, told
-from model import ARITHMETIC, GET, INTENT, LOGICAL, PUT_FULL, PUT_PARTIAL, Memory, Setup
+from ends import asked, started, told
+from model import (
+    ARITHMETIC, GET, GOOD, INTENT, LOGICAL, PUT_FULL, PUT_PARTIAL, ABeat, DBeat, Memory, Ranges, Setup, a_line, applied, beats_of, d_line, full_mask,
+)  # fmt: skip
 
-from client import ABeat, beats_of  # model.py says where it stands
-from random_bench import applied, full_mask
-
-SETUP = Setup(3, 4, 16, 2, 16, 12, 8, ((0, 4, 0x10, "gpah"),), {0x10: "good"}, ())
+SETUP = Setup(3, 4, 16, 2, 16, 12, 8, ((0, 4, 0x10, "gpah"),), Ranges([(0x10, 1, GOOD)]), ())
 PUTS, GIVES_NONE = (PUT_FULL, PUT_PARTIAL), (GET, INTENT)
 # Opcodes, params and sizes of requests: of each kind, and of those that show which came first, a sum or a Put of one of its bytes.
 ALL = [(PUT_FULL, 0, 4), (PUT_FULL, 0, 0), (PUT_PARTIAL, 0, 4), (GET, 0, 3), (GET, 0, 3), (GET, 0, 4)] * 3 + [(PUT_FULL, 0, 3)] * 2
@@ -177,9 +174,7 @@ class History:
 
     def offer(self, request):
         """The next beat of a message comes."""
-        it = request.beats[request.came]
-        fields = f"{it.opcode} {it.param} {it.size} {it.source} {it.address:x} {it.mask:x} {it.payload:x} {it.corrupt}"
-        self.lines.append(f"A {request.client} {fields}")
+        self.lines.append(a_line(request.client, request.beats[request.came]))
         request.came += 1
         if request.came == len(request.beats):
             request.reply = self.memory.carry_out(request.client, request.beats)
@@ -189,12 +184,12 @@ class History:
         """The next beat of a reply comes, or the only one, before its request is whole."""
         if not request.reply:
             self.early += 1
-            self.lines.append(f"D {request.client} 0 0 {request.first.size} {request.first.source} 0 {0:016x} 0")
+            self.lines.append(d_line(DBeat(request.client, 0, 0, request.first.size, request.first.source, 0, 0, 0)))
             request.replied = 1
             return
         due = request.reply[request.replied]
         payload = self.read(request, due, spoiled) if due.opcode == 1 else 0
-        self.lines.append(line_of(due, payload))
+        self.lines.append(d_line(replace(due, payload=payload)))
         request.replied += 1
         if request.replied == len(request.reply):
             request.ended = len(self.lines)
@@ -211,12 +206,8 @@ class History:
         payload = int.from_bytes(bytes(shown), "little") << 8 * (request.first.address % 8)
         is_sure = any(is_settled(self.requests, request, it) for it in wrong)
         said = {"raced": not wrong and payload != due.payload, "wrong": wrong, "surely wrong": is_sure}
-        self.told[len(self.lines) + 1] = line_of(due, due.payload), {it for it in said if said[it]}
+        self.told[len(self.lines) + 1] = d_line(due), {it for it in said if said[it]}
         return payload
-
-
-def line_of(beat, payload):
-    return f"D {beat.client} {beat.opcode} {beat.param} {beat.size} {beat.source} {beat.denied} {payload:016x} {beat.corrupt}"
 
 
 def fault_of(program, history, counts):
@@ -254,13 +245,7 @@ def cases(given):
         yield f"seed {given.seed}: beats that are {what}", None if count >= least else f"{count}, not {least}"
 
 
-def main():
-    asked = argparse.ArgumentParser(description=__doc__)
-    asked.add_argument("tlscore")
-    asked.add_argument("histories", nargs="?", type=int, default=300)
-    asked.add_argument("--seed", default=secrets.token_hex(4))
-    return told(cases(asked.parse_args()))
-
-
 if __name__ == "__main__":
-    sys.exit(main())
+    words = asked(__doc__, "tlscore", by_lot=True)
+    words.add_argument("histories", nargs="?", type=int, default=300)
+    sys.exit(told(cases(words.parse_args())))

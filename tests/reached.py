@@ -9,22 +9,20 @@ With --runs 20 it makes the whole of which the pages tell, some 4,000 requests o
 """
 
 import argparse
-import os
 import shutil
 import subprocess
 import sys
 import tempfile
-from collections import Counter
 from pathlib import Path
-from typing import Callable, Iterator, List, NamedTuple, Optional, Tuple
+from typing import Callable, Iterator, List, NamedTuple
 
-from ends import told
-from explain import BROWSERS, pixels
-from waves import RTL, TOP
+from ends import Case, asked, told
+from package import RTL
+from pictures import BROWSERS, pictured
+from simulators import run
 
 sys.path.append(str(RTL.parent))
 import random_bench  # noqa: E402
-import run  # noqa: E402
 from zuldegei.client import Interactive  # noqa: E402
 from zuldegei.cover_read import Reader  # noqa: E402
 from zuldegei.cover_report import Cover, Shown, cover_of, withouts_of  # noqa: E402
@@ -33,7 +31,6 @@ RESETS, STEPS = 3, 5_000  # of a run of the RTL; of one of random_bench.py
 WHOLE, OF_THE_WHOLE = 20, 97  # runs, and how many per cent they have to reach
 MOST_WITHOUT = 45
 COLOURS = ("c00020", "e8a33d", "2f9e6b")  # of bins that were never, seldom and often reached
-Case = Tuple[str, Optional[str]]
 
 
 class Testbench(NamedTuple):
@@ -109,21 +106,8 @@ def left_out(bench: Testbench, shown: Shown) -> Iterator[Case]:
     yield f"how many {bench.name} can't reach", None if count <= MOST_WITHOUT else str(count)
 
 
-def pictured(score: str, folder: Path) -> Iterator[Case]:
-    """Whether docs/picture.py makes a picture with squares of each kind, and whether the one that is kept is like it."""
-    picture, kept = folder / "coverage.png", TOP / "docs/coverage.png"
-    words = [sys.executable, TOP / "docs/picture.py", "coverage", picture]
-    ran = subprocess.run(words, env={**os.environ, "TLSCORE": score}, capture_output=True, text=True, timeout=300, check=False)
-    found, stored = pixels(picture) if ran.returncode == 0 else Counter(), pixels(kept)
-    lacking = [it for it in COLOURS if found[bytes.fromhex(it)] < 200]
-    yield "a picture of what was reached", f"it has hardly a pixel of {lacking}; {ran.stderr}" if lacking else None
-    apart = [it for it in COLOURS if not 0.9 < stored[bytes.fromhex(it)] / max(1, found[bytes.fromhex(it)]) < 1.1]
-    is_large = kept.stat().st_size > 150_000 or sum(stored.values()) != sum(found.values())
-    yield "docs/coverage.png", f"it has {kept.stat().st_size} bytes, and others of {apart}" if apart or is_large else None
-
-
 def cases(given: argparse.Namespace) -> Iterator[Case]:
-    simulator, score = run.installed(), str(Path(given.score).resolve())
+    simulator, score = run.installed(), str(given.score)
     yield from reached(python(given.bridge), given.runs, score)
     with tempfile.TemporaryDirectory() as folder:
         if simulator:
@@ -131,18 +115,12 @@ def cases(given: argparse.Namespace) -> Iterator[Case]:
         else:
             print(f"skipped: what the bridge in RTL reaches, as neither {' nor '.join(run.SIMULATORS)} is installed")
         if shutil.which("iverilog") and any(map(shutil.which, BROWSERS)):
-            yield from pictured(score, Path(folder))
+            yield from pictured("coverage", COLOURS, 200, 1.1, Path(folder), TLSCORE=score)
         else:
             print("skipped: the picture of what runs reached: Chromium and iverilog aren't both installed")
 
 
-def main() -> int:
-    asked = argparse.ArgumentParser(description=__doc__)
-    asked.add_argument("score", metavar="TLSCORE")
-    asked.add_argument("bridge", metavar="TLBRIDGE")
-    asked.add_argument("--runs", type=int, default=WHOLE // 10, help=f"how many runs of each ({WHOLE // 10})")
-    return told(cases(asked.parse_args()))
-
-
 if __name__ == "__main__":
-    sys.exit(main())
+    words = asked(__doc__, "score", "bridge")
+    words.add_argument("--runs", type=int, default=WHOLE // 10, help=f"how many runs of each ({WHOLE // 10})")
+    sys.exit(told(cases(words.parse_args())))

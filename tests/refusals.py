@@ -15,15 +15,13 @@ that fails is told, and what was written is a front of the text; one that is int
 
 import errno
 import sys
-from pathlib import Path
 
 import stored
-from ends import MEMORY, READ, SPAWN, USAGE, WRITE, told
+from ends import MEMORY, READ, SPAWN, TOP, USAGE, WRITE, told
 from script_cases import setup_of
 from scripts import SCRIPTS, SETUP, Script
 from shim import Shim
 
-TOP = Path(__file__).resolve().parent.parent
 # In this order.
 LINES = {6: USAGE, 4: MEMORY, 5: SPAWN}
 # Where no command comes the world is made at the input's end.

@@ -9,22 +9,21 @@ that can't count are named; junitparser reads how much it was, where that is ins
 
 import json
 import os
-import pty
 import random
 import re
 import resource
 import signal
 import subprocess
 import sys
-import tempfile
 import threading
 import time
 from pathlib import Path
 from typing import Iterator, List, Optional, Tuple
 from xml.etree import ElementTree
 
-from ends import told
-from waves import RTL, TOP, command
+from ends import TOP, Case, told_in_a_folder
+from package import RTL, begun, command, on_a_terminal
+from stored import blocks
 from zuldegei.beside import Beside, Helpers, Request
 from zuldegei.regress import Runner
 from zuldegei.reports import Job, Outcome, State
@@ -36,7 +35,6 @@ for suite in junitparser.JUnitXml.fromfile(sys.argv[1]):
     print(*(f"{it.name}: {it.value}" for it in suite.properties()), *(it.system_out for it in suite), sep="\\n")
 """
 RUNS = sorted((RTL / "runs").glob("*.lines"))
-Case = Tuple[str, Optional[str]]
 
 
 class Made:
@@ -100,14 +98,6 @@ def states(folder: Path, score: str) -> Iterator[Case]:
     yield "seeds without a place", ended(Made(folder, score, "--command", "true", "--seeds", "1-3"), 6, "{seed}")
 
 
-def begun(folder: Path, *words: object, **more: object) -> subprocess.Popen:
-    """A call that goes on in the background."""
-    environment = {**os.environ, "PYTHONPATH": str(TOP / "python"), "PYTHONDONTWRITEBYTECODE": "1"}
-    words = [sys.executable, "-m", "zuldegei.regress", *map(str, words)]
-    signal.signal(signal.SIGINT, signal.default_int_handler)  # a shell has a command in the background ignore it, and what that starts
-    return subprocess.Popen(words, cwd=folder, env=environment, stderr=subprocess.PIPE, text=True, **more)
-
-
 def stopped(folder: Path, program: subprocess.Popen, by: int) -> Tuple[str, str]:
     """What a call prints that gets a signal once a command of it has begun, which makes a file `began`."""
     while program.poll() is None and not (folder / "began").exists():
@@ -120,7 +110,7 @@ def stopped(folder: Path, program: subprocess.Popen, by: int) -> Tuple[str, str]
 def interrupted(folder: Path, score: str) -> Optional[str]:
     """Whether a call that is interrupted ends, with its command."""
     words = ["--command", "touch began; sleep 60; touch ended", "--score", score]
-    with begun(folder, *words, stdout=subprocess.DEVNULL) as program:
+    with begun(folder, "regress", *words, stdout=subprocess.DEVNULL) as program:
         _, said = stopped(folder, program, signal.SIGINT)
     return None if program.returncode == 130 and said.strip().endswith("interrupted") else f"status {program.returncode}, {said!r}"
 
@@ -218,7 +208,7 @@ def full(folder: Path, score: str) -> Iterator[Case]:
         yield f"{word} on a full disc", None if is_well else f"status {ran.returncode}, {ran.stderr[-300:]!r}, {ran.stdout[-300:]}"
     with open("/dev/full", "w") as nowhere:
         words = [RUNS[0], "--json", "other", "--score", score]
-        with begun(folder, *words, stdout=nowhere) as program:
+        with begun(folder, "regress", *words, stdout=nowhere) as program:
             _, said = program.communicate(timeout=60)
     is_well = program.returncode == 3 and "standard output: No space left" in said and '"wrong"' in taken(folder / "other")
     yield "the table on a full disc", None if is_well else f"status {program.returncode}, {said[-300:]!r}"
@@ -259,7 +249,7 @@ def halfway(folder: Path, score: str) -> Iterator[Case]:
     for by in (signal.SIGINT, signal.SIGTERM):
         for name in files.values():
             (folder / name).unlink(missing_ok=True)
-        with begun(folder, *words, stdout=subprocess.PIPE) as program:
+        with begun(folder, "regress", *words, stdout=subprocess.PIPE) as program:
             printed, said = stopped(folder, program, by)
         yield f"{by.name} in mid-run", lacking(folder, program.returncode, printed, said)
 
@@ -311,67 +301,33 @@ def lists(folder: Path, score: str) -> Iterator[Case]:
 
 
 # Two clients, each of which gets a reply with other bytes than those that it put (lines 9 and 16), and a burst over the end of a page (18).
-KNOWN = """config 2 4 16 2 16 12 hh
-region 0 4 10 gpah
-page 10 4 good
-time 10
-A 0 0 0 3 5 00000008 ff 1122334455667788 0
-D 0 0 0 3 5 0 0000000000000000 0
-A 0 4 0 3 5 00000008 ff 0000000000000000 0
-time 20
-D 0 1 0 3 5 0 0000000000000001 0
-A 1 4 0 3 7 00001008 ff 0000000000000000 0
-time 30
-A 1 0 0 3 9 00001008 ff 1122334455667788 0
-D 1 1 0 3 7 0 0000000000000000 0
-D 1 0 0 3 9 0 0000000000000000 0
-A 1 4 0 3 7 00001008 ff 0000000000000000 0
-D 1 1 0 3 7 0 0000000000000001 0
-time 85
-AW 0 00011ff8 1 3 1
-"""
-# A file of waivers, how the run ends by it, how many wrong lines are left, the first of these, and how many each waiver waived.
-WAIVERS = {
-    "a client": ("reply PAYLOAD client 0 the old DMA", "wrong", 2, 16, [1]),
-    "the other client": ("reply PAYLOAD client 1 new", "wrong", 2, 9, [1]),
-    "a client of whom nothing is": ("reply PAYLOAD client 2 none", "wrong", 3, 9, [0]),
-    "another rule": ("reply SIZE client 0 none", "wrong", 3, 9, [0]),
-    "TileLink's page of a reply": ("reply PAYLOAD pages 1 1 a page", "wrong", 2, 9, [1]),
-    "both of its pages": ("reply PAYLOAD pages 0 2 two pages", "wrong", 1, 18, [2]),
-    "the pages of the other side": ("reply PAYLOAD pages 10 4 none", "wrong", 3, 9, [0]),
-    "the page of a burst": ("axi CROSS_4K pages 11 1 bursts", "wrong", 2, 9, [1]),
-    "a page beside that of a burst": ("axi CROSS_4K pages 12 1 bursts\naxi CROSS_4K pages 10 1 bursts", "wrong", 3, 9, [0, 0]),
-    "all": ("# known\n\nreply PAYLOAD client 0 a\r\n  reply PAYLOAD client 1 b\naxi CROSS_4K pages 11 1 c", "waived", 0, None, [1, 1, 1]),
-    "the first that fits": ("reply PAYLOAD pages 0 2 two\nreply PAYLOAD client 1 none", "wrong", 1, 18, [2, 0]),
-    "no waiver": ("# none", "wrong", 3, 9, []),
-}
-# Files that aren't waivers: a line, and what is told of it.
-NO_WAIVERS = {
-    "a word": ("PAYLOAD", "a line is `KIND RULE client N REASON`"),
-    "no place": ("reply PAYLOAD the old DMA", "a line is `KIND RULE client N REASON`"),
-    "a rule that isn't there": ("reply PAYLOADS client 0 the old DMA", "no rule reply PAYLOADS"),
-    "a rule of another kind": ("axi PAYLOAD pages 0 1 the old DMA", "no rule axi PAYLOAD"),
-    "no reason": ("reply PAYLOAD client 0", "it has no reason"),
-    "no reason behind pages": ("reply PAYLOAD pages 0 1", "it has no reason"),
-    "a client of a rule of the port": ("axi WLAST client 0 the old DMA", "name pages"),
-    "a client beyond 7": ("reply PAYLOAD client 8 the old DMA", "a client is 0 to 7"),
-    "a client that is none": ("reply PAYLOAD client x the old DMA", "a client is 0 to 7"),
-    "no page": ("reply PAYLOAD pages 0 0 the old DMA", "FIRST is a page"),
-    "a page beyond the last": ("reply PAYLOAD pages fffff 2 the old DMA", "FIRST is a page"),
-    "an address": ("reply PAYLOAD pages 0x10 2 the old DMA", "FIRST is a page"),
-    "bytes that are no text": ("reply PAYLOAD client 0 f\udcfcr", "it isn't UTF-8"),
-}
+KNOWN = (TOP / "tests/commands/waivers/known.lines").read_text()
+WAIVED = re.compile(r"(\w+): (\d+) left, the first in line (\d+); waived (.*)")
+# Waivers that no line of a file of cases can hold: what is given, the state, how many wrong lines are left, and how many each one waived.
+ODD_WAIVERS = (
+    ("all", "# known\n\nreply PAYLOAD client 0 a\r\n  reply PAYLOAD client 1 b\naxi CROSS_4K pages 11 1 c", "waived", 0, None, [1, 1, 1]),
+    ("no waiver", "# none", "wrong", 3, 9, []),
+)
+
+
+def waivers() -> Iterator[Tuple[str, str, str, int, Optional[int], List[int]]]:
+    """Files of waivers, how the run ends by each, how many wrong lines are left, the first of these, and how many each waiver waived."""
+    for it in blocks(TOP / "tests/commands/waivers/waived.blocks"):
+        state, left, line, counts = WAIVED.fullmatch(it.due).groups()
+        yield it.name, it.given, state, int(left), int(line), [*map(int, counts.split())]
+    yield from ODD_WAIVERS
 
 
 def waived(folder: Path, score: str) -> Iterator[Case]:
     """Wrong lines that are known: how many are left, by each rule and place; and what each waiver waived, in the table and both files."""
     (folder / "known.lines").write_text(KNOWN)
-    for name, (text, state, left, line, counts) in WAIVERS.items():
+    for name, text, state, left, line, counts in waivers():
         (folder / "known.waivers").write_text(text)
         made = Made(folder, score, "known.lines", "--waive", "known.waivers")
         yield f"waived: {name}", made.wrong(int(state == "wrong"), [state]) or waiving(folder, made, left, line, counts)
-    for name, (text, said) in NO_WAIVERS.items():
-        (folder / "no.waivers").write_bytes(b"# known\nreply SIZE client 0 ok\n" + text.encode(errors="surrogateescape"))
+    refused = [(it.name, it.given.encode(), it.due) for it in blocks(TOP / "tests/commands/waivers/refused.blocks")]
+    for name, text, said in (*refused, ("bytes that are no text", b"reply PAYLOAD client 0 f\xfcr", "it isn't UTF-8")):
+        (folder / "no.waivers").write_bytes(b"# known\nreply SIZE client 0 ok\n" + text)
         made = Made(folder, score, "known.lines", "--waive", "no.waivers")
         yield f"no waiver: {name}", ended(made, 2, "no.waivers line 3") or (None if said in made.ran.stderr else made.ran.stderr)
     yield "waivers that aren't there", ended(Made(folder, score, "known.lines", "--waive", "none"), 3, "none: No such file")
@@ -529,14 +485,8 @@ def setup_of(folder: Path) -> Path:
 
 def progress(folder: Path, score: str) -> Optional[str]:
     """Whether a terminal is told how many runs have ended."""
-    parent, child = pty.openpty()
-    environment = {**os.environ, "PYTHONPATH": str(TOP / "python"), "PYTHONDONTWRITEBYTECODE": "1"}
-    words = [sys.executable, "-m", "zuldegei.regress", str(RIGHT), str(RUNS[0]), "--score", score, "-j", "1"]
-    ran = subprocess.run(words, stdout=subprocess.DEVNULL, stderr=child, env=environment, cwd=folder, timeout=60)
-    os.close(child)
-    said = os.read(parent, 4096)
-    os.close(parent)
-    return None if re.search(rb"2 of 2, 1 not right", said) and ran.returncode == 1 else repr(said)
+    status, said = on_a_terminal("regress", RIGHT, RUNS[0], "--score", score, "-j", 1, cwd=folder)
+    return None if b"2 of 2, 1 not right" in said and status == 1 else repr(said)
 
 
 def cases(folder: Path, score: str) -> Iterator[Case]:
@@ -558,5 +508,4 @@ def cases(folder: Path, score: str) -> Iterator[Case]:
 
 
 if __name__ == "__main__":
-    with tempfile.TemporaryDirectory() as made_in:
-        sys.exit(told(cases(Path(made_in), str(Path(sys.argv[1]).resolve()))))
+    sys.exit(told_in_a_folder(cases, str(Path(sys.argv[1]).resolve())))

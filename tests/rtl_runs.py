@@ -19,7 +19,7 @@ import sys
 import tempfile
 from pathlib import Path
 
-from ends import told
+from ends import asked, told
 
 sys.path.append(str(Path(__file__).resolve().parent.parent / "examples/testbench/rtl"))
 import run
@@ -69,19 +69,19 @@ def idle(traffic):
     return [name for name, is_there in counts.items() if not is_there]
 
 
-def cases(asked):
+def cases(asked_for):
     """Each testbench, and what the right ones did."""
     simulator = run.installed()
-    yield from ((f"the stored run {name}", why) for name, why in runs.compared(simulator, Path(asked.tlscore).resolve()))
+    yield from ((f"the stored run {name}", why) for name, why in runs.compared(simulator, asked_for.tlscore))
     for stored in runs.without_x(simulator) if simulator else ():
         print(f"skipped: to simulate the stored run {stored.name} anew, as {simulator} has no x")
     if not simulator:
         print(f"skipped: the bridges in RTL, as neither {' nor '.join(run.SIMULATORS)} is installed")
         return
-    given = argparse.Namespace(simulator=simulator, score=Path(asked.tlscore).resolve(), jobs=os.cpu_count() or 1)
+    given = argparse.Namespace(simulator=simulator, score=asked_for.tlscore, jobs=os.cpu_count() or 1)
     for pages in run.PAGES:
         seen, wrong = [], [*blamed(pages)]
-        plan, left_out = run.shown_in(plan_of(pages, asked.right), simulator)
+        plan, left_out = run.shown_in(plan_of(pages, asked_for.right), simulator)
         for bench in left_out:
             print(f"skipped: {name_of(bench)}, as {simulator} has no x")
         with tempfile.TemporaryDirectory() as folder:
@@ -100,12 +100,7 @@ def name_of(bench):
     return f"{bench.device} in RTL{fault}, by profile {asked.profile} and errors {asked.errors}, {asked.pages} pages{resets}"
 
 
-def main():
-    asked = argparse.ArgumentParser(description=__doc__)
-    asked.add_argument("tlscore")
-    asked.add_argument("--right", type=int, default=20, help="how many runs of the right bridges, by each kind of pages (20)")
-    return told(cases(asked.parse_args()))
-
-
 if __name__ == "__main__":
-    sys.exit(main())
+    words = asked(__doc__, "tlscore")
+    words.add_argument("--right", type=int, default=20, help="how many runs of the right bridges, by each kind of pages (20)")
+    sys.exit(told(cases(words.parse_args())))

@@ -12,23 +12,20 @@ tlscore finds. One shape of the ports is played by Verilator too, and yosys read
 import argparse
 import random
 import re
-import secrets
-import shutil
 import subprocess
 import sys
 import tempfile
 from collections import Counter, deque
-from dataclasses import dataclass, field, replace
+from dataclasses import dataclass, field
 from pathlib import Path
 from typing import Deque, Dict, Iterator, List, NamedTuple, Optional, Tuple
 
-from beats import AXI_RULES, NUMBERS, AxiPort, Beats, Port, crosses
-from ends import started, told
+from beats import Beats
+from ends import TOP, Case, asked, is_there, started, told
+from model import INTENT, ABeat, beats_of
+from port_models import AXI_RULES, NUMBERS, AxiPort, Port, crosses
+from simulators import by_icarus, by_verilator
 
-from client import ABeat, beats_of  # observed.py says where it stands
-from random_bench import GET, INTENT
-
-TOP = Path(__file__).resolve().parent.parent
 RULES, RTL = TOP / "interfaces/systemverilog/zuldegei_rules.sv", TOP / "examples/testbench/rtl"
 LEAST = 50
 REPLY_RULES = ("UNASKED", "INTERLEAVED", "OPCODE", "SIZE", "DENIED", "CORRUPT")
@@ -50,7 +47,6 @@ TOLD = re.compile(r"zuldegei: (\w+) (?:(\d+) )?(\w+) at (\d+) \(\S*?(\w+)\)")
 # Which channel a label is of, where it doesn't begin with its name.
 CHANNELS = {"W_WITHOUT_AW": "W", "STROBE": "W", "WLAST": "W", "EARLY_STROBE": "AW", "EARLY_WLAST": "AW", "B_WITHOUT_WRITE": "B",
             "R_WITHOUT_READ": "R", "RLAST": "R"}  # fmt: skip
-Case = Tuple[str, Optional[str]]
 Wires = Tuple[int, ...]  # a beat's fields, in the order of FIELDS
 
 
@@ -270,7 +266,7 @@ class Lot:
         rng, burst, bus = self.rng, self.axi.to_fill(), self.shape.bus_bytes
         if burst is None and not self.is_rare(3 if self.is_flooded else 10):
             return None
-        lanes = burst.transfer(bus)[2] if burst else rng.getrandbits(bus)
+        lanes = burst.lanes(bus) if burst else rng.getrandbits(bus)
         strobes = lanes if self.is_rare(2) else lanes & rng.getrandbits(bus)
         strobes ^= self.is_rare(16) << rng.randrange(bus)
         last = int((burst.is_last() if burst else self.is_rare(3)) != self.is_rare(16))
@@ -385,7 +381,7 @@ def by_score(score: str, shape: Shape, clocks: List[Clock]) -> Verdicts:
     ran = started([score], ("\n".join(lines) + "\n").encode())
     found = re.findall(r"(?m)^= wrong (\d+) (\w+ \d+ \w+)", ran.text.decode())
     if ran.status not in (0, 1):
-        raise SystemExit(f"tlscore ended with status {ran.status}: {ran.fault.decode()}")
+        raise SystemExit(f"tlscore ended with status {ran.status}: {ran.line.decode()}")
     return {places[int(line)]: rule for line, rule in found}
 
 
@@ -405,21 +401,13 @@ class Simulator(NamedTuple):
         """The words that run it for ports of a shape."""
         names = {it.upper(): value for it, value in shape._asdict().items()}
         program = self.folder / f"{self.name}-{'-'.join(map(str, names.values()))}"
-        files = [str(RULES), str(TOP / "tests/rules.sv")]
+        files = (RULES, TOP / "tests/rules.sv")
         if self.name == "iverilog":
             given = [f"-Ptestbench.{name}={value}" for name, value in names.items()]
-            words, runs = ["iverilog", "-g2012", "-s", "testbench", *given, "-o", str(program), *files], ["vvp", "-n", str(program)]
-        else:
-            given = [f"-G{name}={value}" for name, value in names.items()]
-            fast = ["-MAKEFLAGS", "OPT_FAST=-O0 OPT_SLOW=-O0 OPT_GLOBAL=-O0"]  # it is made in less time than it would save
-            words = ["verilator", "--binary", "--timing", "--assert", *fast, *given, "--top-module", "testbench", "-Mdir", str(program), "-o", "bench"]
-            words, runs = [*words, *files], [str(program / "bench"), "+verilator+error+limit+1000000"]
-        if program.exists():
-            return runs
-        done = subprocess.run(words, capture_output=True, text=True, timeout=600, check=False)
-        if done.returncode:
-            raise SystemExit(f"{self.name} ended with status {done.returncode}: {(done.stdout + done.stderr)[-2000:]}")
-        return runs
+            return ["vvp", "-n", str(program)] if program.exists() else by_icarus(program, "testbench", files, *given)
+        given = [f"-G{name}={value}" for name, value in names.items()]
+        bench = program / "bench" if program.exists() else by_verilator(program, "testbench", files, "--assert", *given, is_strict=True)
+        return [str(bench), "+verilator+error+limit+1000000"]
 
     def played(self, shape: Shape, clocks: List[Clock]) -> List[Tuple[int, str, str]]:
         """What the assertions tell, in order: the clock, the label, and what they say is broken."""
@@ -482,7 +470,7 @@ def of_lots(rng: random.Random, score: str, simulator: Simulator, many: int, rou
             yield compared(f"{simulator.name}, round {number}, {shape}", clocks, due, simulator.played(shape, clocks))
 
 
-def by_verilator(given: argparse.Namespace, folder: Path) -> Iterator[Case]:
+def in_verilator(given: argparse.Namespace, folder: Path) -> Iterator[Case]:
     """Lots by one shape, which is compiled anew: that takes longer than to play them. Bound to the testbench, the rules are only read."""
     files = [*sorted(RTL.glob("*.sv")), RULES, RULES.with_name("example_rules.sv")]
     words = ["verilator", "--lint-only", "--timing", "--assert", "-Wno-fatal", f"-I{RTL}", "--top-module", "testbench", *map(str, files)]
@@ -545,12 +533,11 @@ BENCHES = ("-DBRIDGE=streaming_bridge", "-DBUG=NONE", "-DBUG=OTHER_SOURCE", "-DB
 def of_benches(score: str, folder: Path) -> Iterator[Case]:
     """The assertions beside the testbench of examples/testbench/rtl by plain lots, as examples/proof/README.md shows them: all that they tell, with its
     time, is what tlscore finds wrong of the lines that the monitor prints."""
-    seen, bench = folder / "seen.lines", str(folder / "bench.vvp")
+    seen = folder / "seen.lines"
     files = [*sorted(RTL.glob("*.sv")), RULES, RULES.with_name("example_rules.sv")]
     for given in BENCHES:
-        made = ["iverilog", "-g2012", given, f"-I{RTL}", "-s", "testbench", "-s", "example_rules", "-o", bench, *map(str, files)]
-        subprocess.run(made, check=True, timeout=120)
-        text = subprocess.run(["vvp", "-n", bench, "+seed=3", "+corners=0", f"+observed={seen}"], capture_output=True, text=True, timeout=120, check=True).stdout
+        words = by_icarus(folder / "bench.vvp", "testbench", files, given, f"-I{RTL}", "-s", "example_rules")
+        text = subprocess.run([*words, "+seed=3", "+corners=0", f"+observed={seen}"], capture_output=True, text=True, timeout=120, check=True).stdout
         found = sorted((int(at), f"{port} {number} {name}") for port, number, name, at, _ in TOLD.findall(text))
         lines = (RTL / "setup.lines").read_text().replace("axi strict\n", "profile tilelink\nerrors any\n") + seen.read_text()
         said = started([score], lines.encode()).text.decode()
@@ -643,7 +630,7 @@ def cases(given: argparse.Namespace) -> Iterator[Case]:
     print(f"seed {given.seed}")
     counts: Counter = Counter()
     with tempfile.TemporaryDirectory() as folder:
-        if shutil.which("iverilog"):
+        if is_there("the assertions by Icarus", "iverilog"):
             simulator = Simulator("iverilog", Path(folder))
             rng = random.Random(given.seed)
             yield from of_lots(rng, given.score, simulator, given.clocks, given.rounds, counts)
@@ -652,26 +639,14 @@ def cases(given: argparse.Namespace) -> Iterator[Case]:
             yield from of_wires(simulator)
             yield from of_unknown(simulator)
             yield from of_benches(given.score, Path(folder))
-        else:
-            print("skipped: the assertions by Icarus, as iverilog isn't installed")
-        if shutil.which("verilator"):
-            yield from by_verilator(given, Path(folder))
-        else:
-            print("skipped: the assertions by Verilator, as it isn't installed")
-    if shutil.which("yosys"):
+        if is_there("the assertions by Verilator", "verilator"):
+            yield from in_verilator(given, Path(folder))
+    if is_there("the assertions by yosys", "yosys"):
         yield from by_yosys()
-    else:
-        print("skipped: the assertions by yosys, as it isn't installed")
-
-
-def main() -> int:
-    asked = argparse.ArgumentParser(description=__doc__, formatter_class=argparse.RawDescriptionHelpFormatter)
-    asked.add_argument("score", metavar="TLSCORE")
-    asked.add_argument("--seed", default=secrets.token_hex(4))
-    asked.add_argument("--clocks", type=int, default=6_000, help="of each case (6000)")
-    asked.add_argument("--rounds", type=int, default=1, help="how often each shape of the ports is tried (1)")
-    return told(cases(asked.parse_args()))
 
 
 if __name__ == "__main__":
-    sys.exit(main())
+    words = asked(__doc__, "score", by_lot=True)
+    words.add_argument("--clocks", type=int, default=6_000, help="of each case (6000)")
+    words.add_argument("--rounds", type=int, default=1, help="how often each shape of the ports is tried (1)")
+    sys.exit(told(cases(words.parse_args())))

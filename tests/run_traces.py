@@ -6,19 +6,17 @@ told are just the lines where such a lane is looked at.
     python3 tests/run_traces.py TLSCORE TLBRIDGE [SCRIPTS] [--seed WORD]
 """
 
-import argparse
 import random
 import re
-import secrets
 import subprocess
 import sys
 from collections import Counter
 from dataclasses import dataclass, field, replace
 
 from compared import Counts, compared
-from ends import told
+from ends import asked, told
 from model import GET
-from observed import Burst
+from port_models import Burst, Side
 from unknown import PAYLOADS, given_lanes, lanes_in, lanes_of_mask, with_unknown
 
 from client import Interactive  # model.py says where it stands
@@ -213,21 +211,21 @@ class Reads:
     """The bursts of a right observation that were not read whole."""
 
     def __init__(self, width):
-        self.width, self.bursts = width, []
+        self.width, self.side = width, Side()
 
     def take(self, words):
         """Takes a line; of an R line it gives the lanes of its transfer."""
         if words[:2] == ["=", "drained"]:
-            self.bursts = []
+            self.side = Side()
         elif words[0] == "AR":
-            self.bursts.append(Burst(int(words[1]), int(words[2], 16), int(words[3]), int(words[4])))
+            self.side.open(Burst(int(words[1]), int(words[2], 16), int(words[3]), int(words[4])))
         if words[0] != "R":
             return set()
-        burst = next(it for it in self.bursts if it.id == int(words[1]))
-        lanes = lanes_of_mask(burst.transfer(self.width)[2])
+        burst = self.side.oldest(int(words[1]))
+        lanes = lanes_of_mask(burst.lanes(self.width))
         burst.came += 1
         if burst.came > burst.len:
-            self.bursts.remove(burst)
+            self.side.close(burst.id)
         return lanes
 
 
@@ -256,7 +254,7 @@ def wrong_of_unknown(program, lines, changed):
     """Tells in one line how the scoreboard says something else of a right trace, changed so that nobody knows some lanes, than what they
     tell; or nothing."""
     counts = Counts(changed, "")
-    wanted = [*told_of(changed, counts, counts.width)]
+    wanted = [*told_of(changed, counts, counts.setup.width)]
     ending = rf" wrong {len(wanted)} \1 compared {counts.compared} of {counts.told}"
     found = re.sub(r" wrong 0 (.*) compared .*", ending, judged(program, lines)[1])
     ran, text = judged(program, changed)
@@ -283,14 +281,7 @@ def cases(given):
         yield f"seed {given.seed}: {what}", None if count >= least else f"{count} times, not {least}"
 
 
-def main():
-    asked = argparse.ArgumentParser(description=__doc__)
-    asked.add_argument("tlscore")
-    asked.add_argument("tlbridge")
-    asked.add_argument("scripts", nargs="?", type=int, default=300)
-    asked.add_argument("--seed", default=secrets.token_hex(4))
-    return told(cases(asked.parse_args()))
-
-
 if __name__ == "__main__":
-    sys.exit(main())
+    words = asked(__doc__, "tlscore", "tlbridge", by_lot=True)
+    words.add_argument("scripts", nargs="?", type=int, default=300)
+    sys.exit(told(cases(words.parse_args())))

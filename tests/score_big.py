@@ -17,14 +17,14 @@ import argparse
 import functools
 import random
 import re
-import secrets
 import sys
 from collections import Counter
 from typing import Iterator, NamedTuple
 
-from big_memory import GOOD, KINDS, PAGE, SHAPES, UNKNOWN
+from big_memory import KINDS, SHAPES
 from big_traffic import Asked, Traffic, new_pages
-from ends import told
+from ends import asked, told
+from model import GOOD, PAGE, UNKNOWN
 from score_memory import PROFILES, Line, Script, growths
 from shim import Ran, Shim
 
@@ -179,16 +179,10 @@ def cases(given: argparse.Namespace) -> Iterator[tuple[str, str | None]]:
     yield from ((f"seed {given.seed}, {name}", why) for name, why in of_refusals(shim, given))
 
 
-def main() -> int:
-    asked = argparse.ArgumentParser(description=__doc__)
-    asked.add_argument("tlscore")
-    asked.add_argument("pages", nargs="?", type=int, default=3000, help="how many are touched in each run (3000; with fewer the board itself weighs more than 6 KiB a page)")
-    asked.add_argument("requests", nargs="?", type=int, default=6000, help="how many there are in each run (6000)")
-    asked.add_argument("--kinds", nargs="*", choices=KINDS, default=KINDS, help="what the pages are (good any)")
-    asked.add_argument("--every", action="store_true", help="each growth of memory is refused, and not some of them")
-    asked.add_argument("--seed", default=secrets.token_hex(4))
-    return told(cases(asked.parse_args()))
-
-
 if __name__ == "__main__":
-    sys.exit(main())
+    words = asked(__doc__, "tlscore", by_lot=True)
+    words.add_argument("pages", nargs="?", type=int, default=3000, help="how many are touched in each run (3000; with fewer the board itself weighs more than 6 KiB a page)")
+    words.add_argument("requests", nargs="?", type=int, default=6000, help="how many there are in each run (6000)")
+    words.add_argument("--kinds", nargs="*", choices=KINDS, default=KINDS, help="what the pages are (good any)")
+    words.add_argument("--every", action="store_true", help="each growth of memory is refused, and not some of them")
+    sys.exit(told(cases(words.parse_args())))

@@ -24,28 +24,7 @@ OTHERS = {
 }
 
 # Rows of examples/scoreboard of which `profile tilelink` says the same.
-STORED = (
-    "right",
-    "wrong-payload",
-    "wrong-denied",
-    "reply-to-nobody",
-    "reply-twice",
-    "reply-too-early",
-    "replies-interleaved",
-    "reply-cut-short",
-    "source-busy",
-    "beats-swapped",
-    "bad-word",
-    "x-in-a-given-byte",
-    "x-in-a-later-beat",
-    "x-in-idle-lanes",
-    "x-in-write-data",
-    "x-in-read-data",
-    "x-in-a-reply",
-    "x-in-a-control-field",
-    "x-and-z-as-simulators-print-them",
-    "x-in-an-atomic",
-)
+STORED = (TOP / "tests/either_profile.rows").read_text().split()
 
 # Inputs with a line of many bytes, or behind many lines: what is given, and the fault.
 CONFIG = b"config 1 1 1 1 1 12 h\n"

@@ -9,16 +9,16 @@ is wanted for the words and the line alone, and nothing is read.
     python3 tests/score_memory.py TLSCORE
 """
 
+import re
 import sys
-from pathlib import Path
 from typing import NamedTuple
 
-from ends import MEMORY, SCORE_USAGE, told
+from ends import MEMORY, SCORE_USAGE, TOP, told
 from shim import Shim
 
-VERSION = (Path(__file__).resolve().parent.parent / "VERSION").read_text().strip()
+VERSION = (TOP / "VERSION").read_text().strip()
 SETUP = "config 2 4 16 2 16 12 hh", "region 0 4 10 gpah", "page 10 4 good"
-BRIDGE, TILELINK = PROFILES = "bridge", "tilelink"
+PROFILES = "bridge", "tilelink"
 
 
 class Line(NamedTuple):
@@ -29,33 +29,12 @@ class Line(NamedTuple):
     takes_room: tuple = ()
 
 
-# A beat on channel A is judged at the line behind it.
-LINES = (
-    # What a page began with.
-    Line("fill 11ffe 5 6", "", PROFILES),
-    Line("mem 11fff", "= mem 06"),
-    Line("mem 10008", "= mem 00"),
-    # A Get gives no byte.
-    Line("A 0 4 0 3 1 1000 ff 0 0"),
-    Line("mem 11000", "= mem 00"),
-    # The first bytes of a page.
-    Line("A 0 0 0 3 5 8 ff 1122334455667788 0"),
-    Line("mem 10008", "= mem 88", PROFILES),
-    # A Put of two beats on another page.
-    Line("A 1 0 0 4 6 2000 ff 1122334455667788 0"),
-    Line("mem 12000", "= mem 00", (TILELINK,)),
-    Line("A 1 0 0 4 6 2000 ff 99aabbccddeeff00 0"),
-    Line("mem 12008", "= mem 00", (BRIDGE,)),
-    # A corrupt Put gives none, nor does one of a page that isn't there.
-    Line("A 1 0 0 3 7 3000 ff 1122334455667788 1"),
-    Line("mem 13000", "= mem 00"),
-    Line("A 1 0 0 3 4 4000 ff 1122334455667788 0"),
-    # A page that has room, and the fourth at the input's end.
-    Line("mem 1000f", "= mem 11"),
-    Line("A 0 2 4 3 6 18 ff 1 0"),
-    Line("mem 10018", "= mem 01"),
-    Line("A 0 2 4 3 7 3000 ff 1 0"),
-)
+
+# A line of a script, its text behind an arrow, and ahead of it by which profiles a page takes room there. A beat on channel A is judged at the
+# line behind it.
+ENTRY = re.compile(r"(?m)^(?:# room by (.*)\n)?([A-Za-z].*)\n(?:-> (.*)\n)?")
+ENTRIES = ENTRY.findall((TOP / "tests/score_memory.lines").read_text())
+LINES = tuple(Line(given, text, tuple(rooms.split(" and ")) if rooms else ()) for rooms, given, text in ENTRIES)
 LAST = Line("", "= judged 8 wrong 0 outstanding 7 open 0 compared 0 of 0", PROFILES)
 
 

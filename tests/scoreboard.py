@@ -5,52 +5,21 @@ beats by lot.
     python3 tests/scoreboard.py TLSCORE TLBRIDGE [MUTATED] [BEATS] [--seed WORD]
 """
 
-import argparse
 import random
 import re
-import secrets
 import subprocess
 import sys
-import time
-from pathlib import Path
 
 from compared import Counts
-from model import GET, LOGICAL, PUT_PARTIAL, Setup
+from ends import TOP, asked, told
+from model import GET, LOGICAL, PUT_PARTIAL, ABeat, DBeat, full_mask, setup_of
 from observed import WITHDRAWN, Observation
 from unknown import DIGITS, PAYLOADS, is_unclear, known, lanes_in, with_unknown
 
-from client import ABeat, DBeat, beats_of  # model.py says where it stands
-from random_bench import full_mask
-
-TOP = Path(__file__).resolve().parent.parent
 KINDS = {"A": "request", "D": "reply", "AW": "axi", "W": "axi", "B": "axi", "AR": "axi", "R": "axi"}
 FIELDS = {"A": 9, "D": 8, "AW": 5, "AR": 5, "W": 3, "B": 2, "R": 4}
 HEX = {"A": (6, 7, 8), "D": (7,), "AW": (2,), "AR": (2,), "W": (1, 2), "B": (), "R": (2,)}
 RESPONSES = ("OKAY", "EXOKAY", "SLVERR", "DECERR")
-
-
-def setup_of(lines):
-    """The set-up that lines say, and how many of them there are."""
-    regions, pages, bad, limits, count = [], {}, [], None, 0
-    for line in lines:
-        words = [] if line.lstrip().startswith("#") else line.split()
-        if words and words[0] not in ("config", "region", "page", "bad"):
-            break
-        count += 1
-        if not words:
-            continue
-        if words[0] == "config":
-            limits = words[1:]
-        elif words[0] == "region":
-            regions.append((int(words[1], 16), int(words[2]), int(words[3], 16), words[4]))
-        elif words[0] == "page":
-            pages.update({int(words[1], 16) + at: words[3] for at in range(int(words[2]))})
-        else:
-            bad.append(int(words[1], 16) & ~7)
-    clients, quota, ids, depth, longest, largest = map(int, limits[:6])
-    width = int(limits[7]) if len(limits) > 7 else 8
-    setup = Setup(clients, quota, ids, depth, longest, largest, width, tuple(regions), pages, tuple(bad))
-    return setup, limits[6], count
 
 
 def taken(board, words):
@@ -69,10 +38,6 @@ def beat_of(words):
         return channel, ABeat(*values[1:]), values[0]
     if channel == "D":
         return channel, DBeat(*values), values[0]
-    if channel == "W":
-        return channel, values[1:], None
-    if channel == "R":
-        return channel, (values[0], values[2], values[3]), None
     return channel, values, None
 
 
@@ -93,8 +58,8 @@ class Judging:
     """Takes the lines behind a set-up one after another, and keeps which of them are wrong and of which kind."""
 
     def __init__(self, lines):
-        setup, levels, self.first = setup_of(lines)
-        self.board, self.wrong, self.held = Observation(setup, levels), [], None
+        said = setup_of(lines)
+        self.board, self.wrong, self.held, self.first = Observation(said.setup, said.levels), [], None, said.count
 
     def take(self, number, words):
         """A line that isn't empty, and no comment."""
@@ -270,83 +235,66 @@ class Lot:
         return f"D {client} {it.opcode} {it.param} {it.size} {it.source} {it.denied} {it.payload:x} {it.corrupt}"
 
     def axi(self):
-        rng, board = self.rng, self.board
-        lacks = next((it for it in board.writes.bursts if it.came <= it.len), None)
-        whole = [it for it in board.writes.bursts if it.came > it.len]
+        rng, port = self.rng, self.board.port
+        lacks, whole = port.to_fill(), [it for it in port.writes.bursts() if it.came > it.len]
         kind = rng.randrange(5)
         if kind == 0 or kind == 1 and lacks is None:
             size = rng.randrange(4)
             burst = f"{rng.randrange(4)} {rng.randrange(8192):x} {rng.choice((0, 0, 1, 3, 15))} {size} 1"
             return rng.choice(("AW", "AR")) + " " + burst
         if kind == 1:
-            lanes = lacks.transfer(8)[2] & rng.getrandbits(8)
+            lanes = lacks.lanes(8) & rng.getrandbits(8)
             return f"W {rng.getrandbits(64):x} {lanes:x} {int(lacks.is_last())}"
         if kind == 2 and whole:
             return f"B {rng.choice(whole).id} {rng.choice(('OKAY', 'OKAY', 'SLVERR', 'DECERR'))}"
-        if board.reads.bursts:
-            first = rng.choice(board.reads.bursts)
-            first = next(it for it in board.reads.bursts if it.id == first.id)
+        if port.reads.count:
+            first = port.reads.oldest(rng.choice(port.reads.bursts()).id)
             return f"R {first.id} {rng.getrandbits(64):x} {rng.choice(('OKAY', 'SLVERR'))} {int(first.is_last())}"
         return f"B {rng.randrange(5)} OKAY"
 
 
-def main():
-    asked = argparse.ArgumentParser(description=__doc__)
-    asked.add_argument("tlscore")
-    asked.add_argument("tlbridge")
-    asked.add_argument("mutated", nargs="?", type=int, default=1000)
-    asked.add_argument("beats", nargs="?", type=int, default=1_000_000)
-    asked.add_argument("--seed", default=secrets.token_hex(4))
-    given = asked.parse_args()
+def differs(wanted, got):
+    """The first line that one of them finds wrong and the other doesn't, or the last lines; nothing where they are the same."""
+    first = min(set(wanted[0]) ^ set(got[0]), default=None)
+    return f"line {first[0]}, {first[1]}" if first else None if wanted == got else f"{wanted[1]} and {got[1]}"
+
+
+def cases(given):
     print(f"seed {given.seed}")
-    rng, began, failed, tried = random.Random(given.seed), time.monotonic(), 0, 0
-
-    def compare(what, lines, judge=judged):
-        nonlocal failed, tried
-        tried += 1
-        wanted, got = judge(lines), answered(given.tlscore, lines)
-        if wanted != got:
-            failed += 1
-            print(f"{what}: {differs(wanted, got)}")
-        return wanted
-
-    traces = observations(given.tlbridge)
+    rng, traces, found = random.Random(given.seed), observations(), 0
     for name, lines in traces.items():
-        wrong, _ = compare(name, lines)
-        if wrong:
-            failed += 1
-            print(f"{name}: a right trace is found wrong at line {wrong[0][0]}")
-    names, found = sorted(traces), 0
+        wanted = judged(lines)
+        why = f"a right trace is found wrong at line {wanted[0][0][0]}" if wanted[0] else None
+        yield name, differs(wanted, answered(given.tlscore, lines)) or why
     for _ in range(given.mutated):
-        name = rng.choice(names)
-        _, _, first = setup_of(traces[name])
-        found += bool(compare(f"{name}, changed", changed(rng, traces[name], first))[0])
+        name = rng.choice(sorted(traces))
+        lines = changed(rng, traces[name], setup_of(traces[name]).count)
+        wanted = judged(lines)
+        found += bool(wanted[0])
+        yield f"{name}, changed", differs(wanted, answered(given.tlscore, lines))
     print(f"{found} of {given.mutated} changed traces are wrong")
     lot = Lot(rng)
     for _ in range(given.beats):
         lot.draw()
-    wrong, counts = compare("beats by lot", lot.set_up + lot.drawn, lot.judging.ended)
-    print(f"{len(wrong)} of {counts[0]} beats by lot are wrong; {time.monotonic() - began:.0f} s")
-    print(f"{tried - failed} passed, {failed} failed")
-    return failed > 0
+    lines = lot.set_up + lot.drawn
+    wrong, counts = wanted = lot.judging.ended(lines)
+    yield "beats by lot", differs(wanted, answered(given.tlscore, lines))
+    print(f"{len(wrong)} of {counts[0]} beats by lot are wrong")
 
 
-def differs(wanted, got):
-    """The first line that one of them finds wrong and the other doesn't, or the last lines."""
-    first = min(set(wanted[0]) ^ set(got[0]), default=None)
-    return f"line {first[0]}, {first[1]}" if first else f"{wanted[1]} and {got[1]}"
-
-
-def observations(program):
-    """The stored traces that `run` prints, each behind its set-up, and a long one."""
+def observations():
+    """The stored traces that `run` prints, each behind its set-up."""
     found = {}
     for script in sorted((TOP / "examples").glob("*.script")):
         trace = script.with_suffix(".trace").read_text().splitlines()
         lines = script.read_text().splitlines()
         if any(it.startswith(("= accepted", "= refused")) for it in trace):
-            found[script.stem] = [*lines[: setup_of(lines)[2]], *trace]
+            found[script.stem] = [*lines[: setup_of(lines).count], *trace]
     return found
 
 
 if __name__ == "__main__":
-    sys.exit(main())
+    words = asked(__doc__, "tlscore", "tlbridge", by_lot=True)
+    words.add_argument("mutated", nargs="?", type=int, default=1000)
+    words.add_argument("beats", nargs="?", type=int, default=1_000_000)
+    sys.exit(told(cases(words.parse_args())))

@@ -1,26 +1,15 @@
 """Scripts of `run` that are made here, what each prints and its fault: each front of the first script, inputs of as many lines as may be,
 and Gets in their bursts. Those that are kept as files stand in tests/rows."""
 
+from ends import TOP
+from stored import blocks
+
 CONFIG = "config 1 1 1 1 1 12 h"
 SETUP = "config 2 4 16 2 16 12 hh\nregion 0 4 10 gpah\npage 10 4 good\n"
 
 # The first script, line by line: the line; for each number of its bytes the word at fault where the input ends there, with X
 # for ten, or a dot where that part may stand as a line; and the line's trace.
-FIRST = (
-    ("config 2 4 16 2 16 12 hh", "11111223344555667778888.", ""),
-    ("region 0 4 10 gpah", "21111223344555555.", ""),
-    ("page 10 4 good", "1112233344444.", ""),
-    (
-        "a 0 0 0 3 5 8 ff 1122334455667788 0",
-        "22334455667788999XXXXXXXXXXXXXXXXX.",
-        "A 0 0 0 3 5 00000008 ff 1122334455667788 0\n= accepted 0\n",
-    ),
-    ("pump", "111.", "= sent 0\nAW 0 00010008 0 3 1\nW 1122334455667788 ff 1\n"),
-    ("do 0 0", "12233.", "= done\n"),
-    ("b 0", "22.", "B 0 OKAY\n"),
-    ("take 0", "11122.", "= reply 0\nD 0 0 0 3 5 0 0000000000000000 0\n"),
-    ("mem 10008", "1122.....", "= mem 88\n"),
-)
+FIRST = [(*it.given.split("\n"), f"{it.due}\n" if it.due else "") for it in blocks(TOP / "tests/first_script.blocks")]
 
 # Empty lines, of which an input may have 65,536 lines, and the line and word at fault.
 LONG = {

@@ -27,9 +27,8 @@ from pathlib import Path
 from typing import Dict, Iterator, List, NamedTuple, Optional, Set, Tuple
 
 import body_edits
-from ends import told
+from ends import TOP, told
 
-TOP = Path(__file__).resolve().parent.parent
 SLIPS = TOP / "tests/slips"
 TESTS, BUT = re.compile(r"^tests: (.+)$", re.M), re.compile(r"^but: (.+)$", re.M)
 # In ./test: a list of tests that are called alike, and a call.

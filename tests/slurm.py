@@ -5,7 +5,6 @@ judged. Slurm is one of the test's own, on this machine, with its sockets, ports
     python3 tests/slurm.py TLSCORE [--seeds N] [--in N]
 """
 
-import argparse
 import contextlib
 import json
 import os
@@ -15,51 +14,21 @@ import signal
 import socket
 import subprocess
 import sys
-import tempfile
 import time
 from pathlib import Path
-from typing import Dict, Iterator, List, Optional, Tuple
+from typing import Dict, Iterator, List, Optional
 
-from ends import told
+from ends import TOP, Case, asked, told_in_a_folder
+from package import RTL, begun, command
 from parts import Made, apart
-from regress import begun, stopped
-from waves import RTL, command
+from regress import stopped
 
 PROGRAMS = ("munged", "slurmctld", "slurmd", "sbatch", "scancel", "squeue", "sinfo")
 SECONDS, MOST = 60, 600  # in which the daemons are there, or have ended; and in which all has, but for 2 for each seed
-CONFIG = """ClusterName=test
-SlurmctldHost={host}(127.0.0.1)
-SlurmctldPort={ports[0]}
-SlurmdPort={ports[1]}
-SlurmUser={user}
-SlurmdUser={user}
-AuthType=auth/munge
-AuthInfo=socket={folder}/munge.socket
-CredType=cred/munge
-StateSaveLocation={folder}/state
-SlurmdSpoolDir={folder}/spool
-SlurmctldPidFile={folder}/slurmctld.pid
-SlurmdPidFile={folder}/slurmd.pid
-SlurmdParameters=config_overrides
-ProctrackType=proctrack/pgid
-TaskPlugin=task/none
-SwitchType=switch/none
-MpiDefault=none
-SelectType=select/cons_tres
-SelectTypeParameters=CR_CPU
-JobAcctGatherType=jobacct_gather/none
-AccountingStorageType=accounting_storage/none
-JobCompType=jobcomp/none
-ReturnToService=2
-SchedulerParameters=batch_sched_delay=0,sched_interval=1,sched_min_interval=0
-MinJobAge=4
-NodeName=node NodeHostname={host} NodeAddr=127.0.0.1 CPUs=4 State=UNKNOWN
-PartitionName=all Nodes=ALL Default=YES MaxTime=INFINITE State=UP
-"""
+CONFIG = (TOP / "tests/slurm.conf").read_text()
 PATH = f"{os.environ['PATH']}:/usr/sbin:/sbin"  # where the daemons may be
 USER = pwd.getpwuid(os.getuid()).pw_name
 RUNS = sorted((RTL / "runs").glob("*.lines"))
-Case = Tuple[str, Optional[str]]
 
 
 class Cluster:
@@ -167,7 +136,7 @@ def interrupted(folder: Path, score: str, cluster: Cluster) -> Iterator[Case]:
     began = "touch came.{seed}; [ -e came.3 ] && [ -e came.4 ] && touch began; sleep 300"
     text = f"case {{seed}} in [12]) cat '{RUNS[0]}';; *) {began};; esac"
     words = ["--command", text, "--seeds", "1-6", "--score", score, "--slurm", 2, "--parts", "parts", "--json", "runs.json"]
-    with begun(folder, *words, stdout=subprocess.PIPE) as program:
+    with begun(folder, "regress", *words, stdout=subprocess.PIPE) as program:
         printed, said = stopped(folder, program, signal.SIGINT)
     states = [it["status"] for it in json.loads((folder / "runs.json").read_text())["runs"]]
     is_well = program.returncode == 130 and states == ["wrong"] * 2 + ["unjudged"] * 4 and said.strip().endswith("interrupted")
@@ -209,10 +178,8 @@ def cases(folder: Path, score: str, seeds: int, of: int) -> Iterator[Case]:
 
 
 if __name__ == "__main__":
-    asked = argparse.ArgumentParser(description=__doc__, formatter_class=argparse.RawDescriptionHelpFormatter)
-    asked.add_argument("tlscore")
-    asked.add_argument("--seeds", type=int, default=8, help="how many runs the night has")
-    asked.add_argument("--in", type=int, default=4, dest="of", help="in how many parts")
-    given = asked.parse_args()
-    with tempfile.TemporaryDirectory() as made_in:
-        sys.exit(told(cases(Path(made_in), str(Path(given.tlscore).resolve()), given.seeds, given.of)))
+    words = asked(__doc__, "tlscore")
+    words.add_argument("--seeds", type=int, default=8, help="how many runs the night has")
+    words.add_argument("--in", type=int, default=4, dest="of", help="in how many parts")
+    given = words.parse_args()
+    sys.exit(told_in_a_folder(cases, str(given.tlscore), given.seeds, given.of))

@@ -16,8 +16,10 @@ from collections import Counter
 from pathlib import Path
 from typing import Iterator, List, NamedTuple, Optional, Sequence, Set, Tuple
 
-from ends import told
-from waves import RTL, TOP
+from ends import TOP, Case, asked, told
+import package
+from package import RTL
+from stored import blocks
 
 sys.path[:0] = [str(RTL.parent), str(TOP / "python")]
 import random_bench  # noqa: E402
@@ -31,7 +33,6 @@ from zuldegei.player import Player, Port  # noqa: E402
 from zuldegei.stimulus import Stimulus, Wanted  # noqa: E402
 from zuldegei.stimulus_cards import CARDS, Cards  # noqa: E402
 
-COMMAND = [sys.executable, "-m", "zuldegei.stimulus"]
 EXAMPLE = (RTL / "setup.lines").read_text()
 WIDE = """config 3 4 4 4 16 7 lhh
 region 0 4 10 gpah
@@ -49,7 +50,6 @@ errors any
 BY_CLIENTS = {it: 1 for it in ("request", "param", "lane", "mask", "edge", "standing", "corrupt", "bad-word")}
 BY_CLIENTS.update({"conflict": 12, "after-ack": 12, "flight": 12, "source": 12, "order": 60})
 MOST_CLOCKS, SOURCES, BY_LOT = 20_000, 16, 60
-Case = Tuple[str, Optional[str]]
 
 
 # ---- a bridge that answers in any order
@@ -216,8 +216,7 @@ def refusals(trace: str) -> List[str]:
 
 
 def called(folder: Path, *words: object) -> "subprocess.CompletedProcess[str]":
-    environment = {**os.environ, "PYTHONPATH": str(TOP / "python"), "COLUMNS": "100"}
-    return subprocess.run([*COMMAND, *map(str, words)], cwd=folder, env=environment, capture_output=True, text=True, timeout=120, check=False)
+    return package.command("stimulus", *words, cwd=folder, environment={"COLUMNS": "100"})
 
 
 def deals(printed: str) -> List[str]:
@@ -259,7 +258,7 @@ def command(folder: Path) -> Iterator[Case]:
     sources = {it.split()[5] for it in called(folder, *base, "--sources", 2, "--weights", "source=99").stdout.splitlines() if it.startswith("a ")}
     yield "two sources", None if sources == {"*", "0", "1"} else f"{sources}"
     yield from missed(folder, base, names)
-    yield from at_fault(folder, base)
+    yield from at_fault(folder)
 
 
 def missed(folder: Path, base: Sequence[str], names: Set[str]) -> Iterator[Case]:
@@ -280,27 +279,13 @@ def missed(folder: Path, base: Sequence[str], names: Set[str]) -> Iterator[Case]
     yield "nothing was missed", None if is_well else printed[:99]
 
 
-def at_fault(folder: Path, base: Sequence[str]) -> Iterator[Case]:
+def at_fault(folder: Path) -> Iterator[Case]:
     """Words and files that can't be: a status, and one line that says why."""
     (folder / "no.lines").write_text("region 0 1 0 gpah\n")
     (folder / "odd.cover").write_text("{}\n")
     (folder / "odd.lines").write_text("without edge/*\n")
-    for name, words, status, said in (
-        ("no set-up", (), 6, "--setup"),
-        ("a set-up that isn't there", ("--setup", "none.lines"), 3, "none.lines: No such file"),
-        ("a set-up without config", ("--setup", "no.lines"), 2, "no.lines: no config line"),
-        ("a file of counts that is none", (*base, "--missed", "odd.cover"), 2, "odd.cover isn't what"),
-        ("a line without a reason", (*base, "--without", "odd.lines"), 2, "line 1 of odd.lines"),
-        ("a group that isn't there", (*base, "--weights", "edges=1"), 6, "'edges=1' isn't GROUP=N"),
-        ("a group without cards", (*base, "--weights", "reset=1"), 6, "no client can reach reset"),
-        ("no request", (*base, "--requests", "0"), 6, "0 is none of 1 to"),
-        ("a seed below 0", (*base, "--seed", "-1"), 6, "--seed"),
-        ("lots of 17", (*base, "--lots", "17"), 6, "17 is none of 0 to 16"),
-        ("a word that isn't known", (*base, "--hurry"), 6, "--hurry"),
-    ):
-        ran = called(folder, *words)
-        is_well = ran.returncode == status and said in ran.stderr and ran.stderr.count("\n") == 1 and ran.stderr.startswith("zuldegei-stimulus: ")
-        yield name, None if is_well else f"status {ran.returncode}, {ran.stderr[-300:]}"
+    for it in blocks(TOP / "tests/words/stimulus.words"):
+        yield it.name, it.one_line(called(folder, *map(os.fsdecode, it.words)), "zuldegei-stimulus")
 
 
 # ---- the player
@@ -413,7 +398,7 @@ def at_the_model(program: str) -> Iterator[Case]:
 def cases(given: argparse.Namespace) -> Iterator[Case]:
     yield from by_hand()
     yield from cards(given.seed)
-    program = str(Path(given.bridge).resolve())
+    program = str(given.bridge)
     yield from legal(program, given.seed)
     yield from carried_out(program, given.seed)
     yield from at_the_model(program)
@@ -421,12 +406,7 @@ def cases(given: argparse.Namespace) -> Iterator[Case]:
         yield from command(Path(folder))
 
 
-def main() -> int:
-    asked = argparse.ArgumentParser(description=__doc__)
-    asked.add_argument("bridge", metavar="TLBRIDGE")
-    asked.add_argument("--seed", default="1")
-    return told(cases(asked.parse_args()))
-
-
 if __name__ == "__main__":
-    sys.exit(main())
+    words = asked(__doc__, "bridge")
+    words.add_argument("--seed", default="1")
+    sys.exit(told(cases(words.parse_args())))

@@ -9,16 +9,15 @@ tell faults in corners; the right bridge isn't blamed. A simulator that isn't in
 import argparse
 import os
 import re
-import shutil
 import subprocess
 import sys
 import tempfile
 from pathlib import Path
-from typing import Iterator, List, NamedTuple, Optional, Tuple
+from typing import Iterator, List, NamedTuple
 
-from ends import told
-from in_process_rtl import UNOPTIMIZED, built
-from waves import RTL
+from ends import Case, asked, is_there, told
+from package import RTL
+from simulators import by_verilator
 
 sys.path.append(str(RTL))
 import cards  # noqa: E402
@@ -29,7 +28,6 @@ REQUESTS, TENTH = 150, 2  # of a run; runs of a night
 LEAST, TOLD_IN_CORNERS = 92, 3  # per cent of the bins behind such a night, and faults in corners that one run of each has to tell
 JUDGED = re.compile(r"(?m)^= judged \d+ wrong 0 outstanding 0 open 0 ")
 GET = "a {} 4 0 3 * 8 ff 0 0\n"
-Case = Tuple[str, Optional[str]]
 
 
 class Played(NamedTuple):
@@ -127,10 +125,8 @@ def clocks_kept(program: List[object], folder: Path) -> Iterator[Case]:
 def alike(program: List[object], folder: Path) -> Iterator[Case]:
     """Both simulators show the same beats."""
     bench = run.Bench("bridge", run.Asked(), is_played=True)
-    words = ["verilator", "--cc", "--exe", "--main", "--timing", "-Wno-fatal", *bench.defines, "--top-module", "testbench", "-Mdir", str(folder)]
-    built([*words, "-o", "bench", *map(str, bench.files)], run.HERE, "played")
-    built(["make", "-s", "-f", "Vtestbench.mk", *UNOPTIMIZED], folder, "played")
-    both = [played(it, folder, lines_of(3)) for it in (program, [folder / "bench"])]
+    made = by_verilator(folder, "testbench", bench.files, *bench.defines)
+    both = [played(it, folder, lines_of(3)) for it in (program, [made])]
     is_well = both[0].seen == both[1].seen and both[0].seen.count("\n") > REQUESTS
     is_well = is_well and sorted(both[0].played.splitlines()) == sorted(both[1].played.splitlines())
     yield "Icarus and Verilator", None if is_well else f"{len(both[0].seen)} and {len(both[1].seen)} bytes were seen; {both[1].text[-300:]}"
@@ -156,7 +152,6 @@ def tenth(simulator: str, given: argparse.Namespace, folder: Path) -> Iterator[C
 
 
 def cases(given: argparse.Namespace) -> Iterator[Case]:
-    given.score, given.bridge = (str(Path(it).resolve()) for it in (given.score, given.bridge))
     simulator = run.installed()
     if not simulator:
         print(f"skipped: a stimulus in a simulator, as neither {' nor '.join(run.SIMULATORS)} is installed")
@@ -169,19 +164,10 @@ def cases(given: argparse.Namespace) -> Iterator[Case]:
         yield from within_messages(program, folder, given)
         yield from at_fault(program, folder)
         yield from clocks_kept(program, folder)
-        if all(map(shutil.which, run.SIMULATORS)):
+        if is_there("a stimulus in both simulators", *run.SIMULATORS):
             yield from alike(program, Path(tempfile.mkdtemp(dir=folder)))
-        else:
-            print("skipped: a stimulus in both simulators, as they aren't both installed")
         yield from tenth(simulator, given, folder)
 
 
-def main() -> int:
-    asked = argparse.ArgumentParser(description=__doc__)
-    asked.add_argument("score", metavar="TLSCORE")
-    asked.add_argument("bridge", metavar="TLBRIDGE")
-    return told(cases(asked.parse_args()))
-
-
 if __name__ == "__main__":
-    sys.exit(main())
+    sys.exit(told(cases(asked(__doc__, "score", "bridge").parse_args())))

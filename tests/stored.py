@@ -4,13 +4,20 @@ NAME.lines is an observation, of which tlscore says NAME.told; NAME.script is a 
 with that word, and else by `run`, with NAME.trace. NAME.fault is the line on standard error, where there is one. NAME.ends has ends of an
 input, each a block of lines: comments, which say what it is, lines that are given behind those of NAME.lines or NAME.script, if that is
 there, and behind arrows what is printed, the line on standard error last.
+
+A file of `words`, `calls` or `commands` has cases by such blocks too: behind `#` what a case is, what is given, and behind an arrow what
+has to come of it (the README.md of its folder says what each of them is).
 """
 
 import re
+import shlex
+from enum import IntEnum
 from pathlib import Path
-from typing import Iterator, List, NamedTuple, Optional
+from subprocess import CompletedProcess
+from typing import Dict, Iterator, List, NamedTuple, Optional, Type
 
-TOP = Path(__file__).resolve().parent.parent
+from ends import TOP, unlike
+
 TEXT = {".lines": ".told", ".script": ".trace"}
 # The status of a fault, and what a text has that ends with status 1, by the word of a run: what is found wrong, or refused.
 FAULTS = {b"script": 2, b"set-up": 2, b"thread": 5}
@@ -88,6 +95,44 @@ def observations(folder: Path) -> List[Path]:
     if not found:
         raise FileNotFoundError(f"{folder} has no observation")
     return found
+
+
+class Block(NamedTuple):
+    """A case that is some lines of a file: what it is, what is given, and behind an arrow what has to come of it."""
+
+    name: str
+    given: str
+    due: str
+
+    @property
+    def words(self) -> List[bytes]:
+        """The words of a call, as a shell takes them, in quotes also bytes by their numbers."""
+        return [it.encode().decode("unicode_escape").encode("latin-1") for it in shlex.split(self.given)]
+
+    def one_line(self, ran: "CompletedProcess[str]", name: str) -> Optional[str]:
+        """How a call of a command, by its name, doesn't end with the status that is due, and one line that has what is due behind it."""
+        status, _, said = self.due.partition(" ")
+        is_well = ran.returncode == int(status) and ran.stderr.startswith(f"{name}: ") and said in ran.stderr and ran.stderr.count("\n") == 1
+        return None if is_well else f"status {ran.returncode}, {ran.stderr[-300:]!r}"
+
+    def refused(self, names: Dict[str, object], error: Type[Exception], statuses: Type[IntEnum]) -> Optional[str]:
+        """How a call in Python, among these names, doesn't raise an error with the status and the text that are due."""
+        status, _, text = self.due.partition(": ")
+        try:
+            return f"it gave {eval(self.given, names)!r}"
+        except error as why:
+            return unlike((why.status, str(why)), (eval(status, dict(statuses.__members__)), text))
+        except Exception as why:
+            return f"it raised {type(why).__name__}: {why}"
+
+
+def blocks(file: Path) -> Iterator[Block]:
+    """The cases of a file of them. One that isn't named is so by what is given."""
+    for block in file.read_text().strip().split("\n\n"):
+        lines = block.splitlines()
+        names, due = ([it.removeprefix(mark) for it in lines if it.startswith(mark)] for mark in ("# ", "-> "))
+        given = "\n".join(it for it in lines if not it.startswith(("# ", "-> ")))
+        yield Block("".join(names) or given, given, "\n".join(due))
 
 
 def scripts() -> Iterator[Case]:

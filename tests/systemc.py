@@ -14,10 +14,9 @@ import tempfile
 from pathlib import Path
 from typing import Dict, Iterator, List, Optional, Tuple
 
-from ends import told
+from ends import TOP, Case, told
 from stored import observations
 
-TOP = Path(__file__).resolve().parent.parent
 RUNS = TOP / "examples/testbench/rtl/runs"
 REPORTED = re.compile(r"(?m)^Error: (?:\(\w+\) )?zuldegei: (= wrong .*(?:\n= wrong .*)*)$")
 FORETOLD = re.compile(r"(?m)^Error: (?:\(\w+\) )?zuldegei: D .*\nIn file: .*\nIn process: .* @ (\d+) ns$")
@@ -34,7 +33,6 @@ EXAMPLE = {
         "9 beats judged, 1 wrong\n",
     ),
 }
-Case = Tuple[str, Optional[str]]
 
 
 def judged(tlscore: str, text: str) -> Tuple[List[str], Tuple[str, str]]:

@@ -7,27 +7,23 @@ A seed makes the scripts and their words; the schedule is the machine's. A run m
 200,000 if it isn't told otherwise. --rates tells how many requests and steps a second 1, 2, 4 and 8 clients make.
 """
 
-import argparse
 import random
-import secrets
 import subprocess
 import sys
 import time
 from dataclasses import dataclass
-from pathlib import Path
 
-from ends import told
-from model import ARITHMETIC, GET, INTENT, LOGICAL, PUT_FULL, PUT_PARTIAL, Memory, Setup
+from ends import asked, told
+from model import ARITHMETIC, GET, GOOD, INTENT, LOGICAL, PUT_FULL, PUT_PARTIAL, ABeat, Memory, Ranges, Setup, a_line, beats_of, full_mask
 
-from client import ABeat, beats_of, byte_of, reply_of  # model.py says where it stands
-from random_bench import full_mask
+from client import byte_of, reply_of  # model.py says where it stands
 
 SECONDS = 120
 MOST_BEATS = 4096
 # TileLink pages 0 to 3 lead to good pages, 4 to one that answers with an error, 5 to one that isn't there. Pages 6 and 7 lead
 # to good pages too, 6 for Gets alone; page 8 is in no region.
 REGIONS = ((0, 6, 0x10, "gpah"), (6, 1, 0x10, "g---"), (7, 1, 0x11, "gpah"))
-PAGES = {0x10: "good", 0x11: "good", 0x12: "good", 0x13: "good", 0x14: "slverr"}
+PAGES = Ranges([(0x10, 4, GOOD), (0x14, 1, "slverr")])
 # Half of all requests lie in these bytes, by way of a page or of another.
 SHARED, ROOM = 0x400, 256
 BAD = (0x10000 + SHARED + 0x48, 0x10000 + SHARED + 0xC0, 0x11000, 0x11FF8, 0x13000)
@@ -69,10 +65,6 @@ def request(rng):
     return tuple(beats)
 
 
-def offer_line(client, it):
-    return f"a {client} {it.opcode} {it.param} {it.size} {it.source} {it.address:x} {it.mask:x} {it.payload:x} {it.corrupt}"
-
-
 @dataclass(frozen=True)
 class Load:
     """What the clients ask for."""
@@ -110,7 +102,7 @@ def load(seed, clients, width, memories, most):
     requests, beats, steps = requests_of(rng, setup, most)
     words = [(rng.getrandbits(64), memories - 1)] + [(rng.getrandbits(64), rng.randrange(memories)) for _ in range(500)]
     lines = [[f"word {word} {memory}" for word, memory in words]]
-    lines += [[offer_line(client, beat) for it in own for beat in it] for client, own in enumerate(requests)]
+    lines += [[a_line(client, beat).lower() for it in own for beat in it] for client, own in enumerate(requests)]
     order = [which for which, own in enumerate(lines) for _ in own]
     rng.shuffle(order)
     rows = [iter(own) for own in lines]
@@ -205,19 +197,12 @@ def cases(program, runs, seed, most):
         yield f"seed {own}, width {width}, {memories} memory threads", soak(program, own, width, memories, most)
 
 
-def main():
-    words = argparse.ArgumentParser(description="eight clients at once against a plain memory")
-    words.add_argument("program")
+if __name__ == "__main__":
+    words = asked(__doc__, "program", by_lot=True)
     words.add_argument("runs", nargs="?", type=int, default=3)
-    words.add_argument("--seed", default=secrets.token_hex(4))
     words.add_argument("--steps", type=int, default=200_000)
     words.add_argument("--rates", action="store_true")
     given = words.parse_args()
-    program = str(Path(given.program).resolve())
     if given.rates:
-        rates(program, given.seed, given.steps)
-    return told(cases(program, given.runs, given.seed, given.steps))
-
-
-if __name__ == "__main__":
-    sys.exit(main())
+        rates(given.program, given.seed, given.steps)
+    sys.exit(told(cases(given.program, given.runs, given.seed, given.steps)))

@@ -9,24 +9,20 @@ import argparse
 import json
 import random
 import re
-import resource
-import secrets
 import subprocess
 import sys
-import tempfile
 from collections import Counter
 from pathlib import Path
 from typing import Dict, Iterator, List, NamedTuple, Optional, Sequence, Tuple
 
-from ends import told
-from stored import observations
-from waves import RTL, TOP, command
+from ends import TOP, Case, asked, told_in_a_folder
+from package import RTL, command, one_line
+from stored import blocks, observations
 
 SETUP = "config 2 4 16 2 16 12 hh\nregion 0 4 10 gpah\npage 10 4 good\n"
 ZEROS = "0000000000000000"
 BEATS_OF_A_RUN = ("A", "D", "AW", "AR", "B", "R")
 BEATS_A_SECOND, BEATS, ROOM = 30_000, 200_000, 3 << 20  # bytes that a run ten times as long may take more
-Case = Tuple[str, Optional[str]]
 
 # A Put of 100 to 130 and an atomic of 120 to 180 by client 0, a Get of 110 to 180 and an Intent of 190 to 200 by client 1, a write of 110
 # to 130 and a read of 120 to 160: 11 clocks of 10.
@@ -34,19 +30,6 @@ HAND = TOP / "tests/commands"
 EACH, ITS_TABLES = ((HAND / f"times/requests-and-bursts-of-each-kind.{it}").read_text() for it in ("lines", "tables"))
 GET, TOLD = f"A 0 4 0 3 {{}} 00000008 ff {ZEROS} 0\n", f"D 0 1 0 3 {{}} 0 {ZEROS} 0\n"
 READ, DATA = "AR {} 00010008 0 3 1\n", f"R {{}} {ZEROS} OKAY 1\n"
-# Observations and words that are refused: the status, and what the line on standard error has.
-REFUSED = {
-    "no time": (SETUP + GET.format(1), "", 2, "seen.lines: line 4 of the observation, 'A 0 4 0 3 1 00000008 ff 0000000000000000 0', has no time"),
-    "no time ahead of the first beat": (f"{SETUP}{GET.format(1)}time 5\n{TOLD.format(1)}", "", 2, "line 4 of the observation"),
-    "no beat": (f"{SETUP}time 5\n= end\n", "", 2, "seen.lines: it has no beat"),
-    "a time that goes back": (f"{SETUP}time 5\n{GET.format(1)}time 4\n{TOLD.format(1)}", "", 2, "goes back to 4, and it was 5"),
-    "a beat with a word too few": (f"{SETUP}time 5\nA 0 4 0 3\n", "", 2, "line 5 of the observation, 'A 0 4 0 3', isn't what tlscore reads"),
-    "a time that is none": (f"{SETUP}time now\n", "", 2, "line 4 of the observation, 'time now', isn't what tlscore reads"),
-    "no units": (EACH, "--late 0", 6, "--late"),
-    "a word for a number": (EACH, "--late soon", 6, "--late"),
-    "no clock": (EACH, "--clock -1", 6, "--clock"),
-    "a file that can't be written": (EACH, "--json none/file", 3, "none/file"),
-}
 
 
 def called(folder: Path, lines: str, words: str = "") -> "subprocess.CompletedProcess[str]":
@@ -66,10 +49,13 @@ def by_hand(folder: Path) -> Iterator[Case]:
     ran = called(folder, EACH, "--clock 20")  # 6 clocks
     yield "another clock", None if " 5.333\n" in ran.stdout and "with a clock of 20\n" in ran.stdout else ran.stdout
     yield from late(folder)
-    for name, (lines, words, status, said) in REFUSED.items():
-        ran = called(folder, lines, words)
-        is_well = ran.returncode == status and said in ran.stderr and ran.stderr.count("\n") == 1
-        yield f"refused: {name}", None if is_well else f"status {ran.returncode}: {ran.stderr}"
+    for path in observations(HAND / "times/refused"):
+        said = path.with_suffix(".said").read_text().strip()
+        ran = command("times", path.name, cwd=path.parent)
+        yield f"refused: {path.stem}", one_line(ran, named=(said,))
+    (folder / "seen.lines").write_text(EACH)
+    for it in blocks(TOP / "tests/words/times.words"):
+        yield f"refused: {it.name}", it.one_line(command("times", *it.given.split(), cwd=folder), "zuldegei-times")
 
 
 def late(folder: Path) -> Iterator[Case]:
@@ -255,9 +241,6 @@ def cases(folder: Path, given: argparse.Namespace) -> Iterator[Case]:
 
 
 if __name__ == "__main__":
-    words = argparse.ArgumentParser()
-    words.add_argument("score", type=lambda it: Path(it).resolve())
-    words.add_argument("--seed", default=secrets.token_hex(4))
+    words = asked(__doc__, "score", by_lot=True)
     words.add_argument("--histories", type=int, default=40)
-    with tempfile.TemporaryDirectory() as made_in:
-        sys.exit(told(cases(Path(made_in), words.parse_args())))
+    sys.exit(told_in_a_folder(cases, words.parse_args()))

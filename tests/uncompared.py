@@ -8,7 +8,6 @@ the list counts as the verdict does, and each byte once.
 import argparse
 import random
 import re
-import secrets
 import subprocess
 import sys
 import tempfile
@@ -16,18 +15,16 @@ from collections import Counter
 from pathlib import Path
 from typing import Iterator, List, Optional, Tuple
 
-from ends import told
+from ends import TOP, Case, asked, told
+from package import RTL, command
 from races import History as Races
 from score_cases import all_cases
 from stored import observations
-from waves import RTL, TOP, command
 from zuldegei.command import Fault
 from zuldegei.compared import Comparison, Why
 from zuldegei.history import History
 from zuldegei.observation import Observation, verdict_of
 from zuldegei.uncompared import uncompared
-
-Case = Tuple[str, Optional[str]]
 
 
 def listed(score: str, folder: Path) -> Iterator[Case]:
@@ -110,13 +107,7 @@ def cases(given: argparse.Namespace) -> Iterator[Case]:
     yield from agreeing(by_lot(given.tlscore, given), given.histories, [Why.RACED, Why.LEFT], "histories by lot")
 
 
-def main() -> int:
-    asked = argparse.ArgumentParser(description=__doc__)
-    asked.add_argument("tlscore")
-    asked.add_argument("histories", nargs="?", type=int, default=60)
-    asked.add_argument("--seed", default=secrets.token_hex(4))
-    return told(cases(asked.parse_args()))
-
-
 if __name__ == "__main__":
-    sys.exit(main())
+    words = asked(__doc__, "tlscore", by_lot=True)
+    words.add_argument("histories", nargs="?", type=int, default=60)
+    sys.exit(told(cases(words.parse_args())))

@@ -6,39 +6,26 @@ simulator of Debian reads it.
     python3 tests/uvm.py [--library FOLDER]
 """
 
-import argparse
 import os
 import re
-import shutil
 import subprocess
 import sys
 import tempfile
 from pathlib import Path
-from typing import Iterator, List, Optional, Tuple
+from typing import Iterator, List, Tuple
 
-from ends import told
-from in_process_rtl import SYSTEMVERILOG, UNOPTIMIZED, built
-from waves import RTL, TOP
+from ends import TOP, Case, asked, is_there, told
+from package import RTL
+from simulators import SYSTEMVERILOG, built, by_verilator
 
 FILES = (SYSTEMVERILOG / "zuldegei_pkg.sv", TOP / "tests/uvm_pkg.sv", SYSTEMVERILOG / "zuldegei_uvm.sv", TOP / "tests/uvm.sv")
 RUNS = ("answered-early", "cut-short", "page-crossed")
-MACROS = """`define uvm_object_utils(T)
-`define uvm_component_utils(T)
-`define uvm_fatal(ID, MSG) begin $display("fatal %s: %s", ID, MSG); $finish; end
-`define uvm_error(ID, MSG) begin $display("error %s: %s", ID, MSG); end
-`define uvm_info(ID, MSG, LEVEL) begin $display("info %s: %s", ID, MSG); end
-"""
 SETUP = ("config", "region", "page", "bad", "profile", "errors", "axi", "x", "fill")
-Case = Tuple[str, Optional[str]]
 
 
 def made(folder: Path, library: Path) -> Path:
     """The recorder with its stand-ins, over a library."""
-    (folder / "uvm_macros.svh").write_text(MACROS)
-    words = ["verilator", "--cc", "--exe", "--main", "--timing", "-Wno-fatal", f"-I{folder}", "--top-module", "uvm", "-Mdir", str(folder)]
-    built([*words, "-o", "bench", *map(str, FILES), str(library)], TOP, "the recorder")
-    built(["make", "-s", "-f", "Vuvm.mk", *UNOPTIMIZED], folder, "the recorder")
-    return folder / "bench"
+    return by_verilator(folder, "uvm", (*FILES, library), f"-I{TOP / 'tests'}")
 
 
 def recorded(bench: Path, words: List[str], wrong: str = "") -> str:
@@ -95,8 +82,7 @@ def of_run(bench: Path, name: str) -> Iterator[Case]:
 
 
 def cases(library: Path) -> Iterator[Case]:
-    if not all(map(shutil.which, ("verilator", "cc"))):
-        print("skipped: the recorder for UVM, as verilator and a C compiler aren't both installed")
+    if not is_there("the recorder for UVM", "verilator", "cc"):
         return
     with tempfile.TemporaryDirectory() as folder:
         stand_in = Path(folder) / "stand_in.o"
@@ -121,11 +107,5 @@ def cases(library: Path) -> Iterator[Case]:
             yield from judged(bench, name)
 
 
-def main() -> int:
-    asked = argparse.ArgumentParser(description=__doc__)
-    asked.add_argument("--library", type=Path, default=TOP / "out", help="where libzuldegei.a stands (out)")
-    return told(cases(asked.parse_args().library.resolve() / "libzuldegei.a"))
-
-
 if __name__ == "__main__":
-    sys.exit(main())
+    sys.exit(told(cases(asked(__doc__, over_library=True).parse_args().library / "libzuldegei.a")))

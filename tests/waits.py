@@ -7,7 +7,6 @@ installed is named.
     python3 tests/waits.py TLSCORE [--library FOLDER]
 """
 
-import argparse
 import json
 import re
 import shutil
@@ -15,11 +14,12 @@ import subprocess
 import sys
 import tempfile
 from pathlib import Path
-from typing import Iterator, List, Optional, Tuple
+from typing import Iterator, List, Tuple
 
-from ends import told
-from in_process_rtl import ABORTED, NO_LIMIT, SYSTEMVERILOG, TOLD, TOP, UNOPTIMIZED, Simulated, built, run, started
-from waves import command
+from ends import Case, asked, is_there, told, unlike
+from in_process_rtl import ABORTED, NO_LIMIT, TOLD, TOP
+from package import command
+from simulators import SYSTEMVERILOG, Simulated, by_icarus, by_verilator, run, started
 
 MONITOR, WIRES = TOP / "examples/testbench/rtl/monitor.sv", TOP / "tests/waits.sv"
 JUDGES = [SYSTEMVERILOG / f"zuldegei_{it}.sv" for it in ("pkg", "monitor")]
@@ -38,11 +38,6 @@ BINS = ("A0/0 1 30", "A0/2-7 1 7", "A1/1 1 10", "AW/1 1 13", "W/1 1 16", "AR/0 1
 COMMANDS = {"explain": ("lines", "told"), "wave_of": ("lines", "told", "vcd")}
 # What zuldegei-times has of them.
 WAITED = (TOP / "tests/waits.tables").read_text()
-Case = Tuple[str, Optional[str]]
-
-
-def unlike(got: object, due: object) -> Optional[str]:
-    return None if got == due else f"{got!r}, not {due!r}"
 
 
 def judged(score: Path, text: str) -> List[str]:
@@ -67,23 +62,16 @@ def by_print(name: str, words: List[str], folder: Path) -> Iterator[Case]:
         yield f"a dump by {name}, {said}", unlike((ran.returncode, ran.stdout), (0, due))
 
 
-def by_icarus() -> Iterator[Case]:
-    if not shutil.which("iverilog"):
-        print("skipped: waits by Icarus, as iverilog isn't installed")
+def in_icarus() -> Iterator[Case]:
+    if not is_there("waits by Icarus", "iverilog"):
         return
     with tempfile.TemporaryDirectory() as room:
-        program = f"{room}/bench.vvp"
-        run.simulated(["iverilog", "-g2012", "-s", "testbench", "-o", program, str(WIRES), str(MONITOR)])
-        yield from by_print("Icarus", ["vvp", "-n", program], Path(room))
+        yield from by_print("Icarus", by_icarus(Path(room, "bench.vvp"), "testbench", (WIRES, MONITOR)), Path(room))
 
 
 def bench(folder: Path, library: Path) -> Path:
     """The wires with both monitors under Verilator."""
-    words = ["verilator", "--cc", "--exe", "--main", "--timing", "--trace", "-Wno-fatal", "-DJUDGES", "--top-module", "testbench"]
-    words += ["-Mdir", str(folder), "-o", "bench", *map(str, (*JUDGES, MONITOR, WIRES)), str(library / "libzuldegei.a")]
-    built(words, folder, "waits")
-    built(["make", "-s", "-f", "Vtestbench.mk", *UNOPTIMIZED], folder, "waits")
-    return folder / "bench"
+    return by_verilator(folder, "testbench", (*JUDGES, MONITOR, WIRES, library / "libzuldegei.a"), "--trace", "-DJUDGES")
 
 
 def written(program: Path, *words: str) -> Tuple[Simulated, str]:
@@ -94,9 +82,8 @@ def written(program: Path, *words: str) -> Tuple[Simulated, str]:
     return ran, seen.read_text()
 
 
-def by_verilator(score: Path, library: Path) -> Iterator[Case]:
-    if not shutil.which("verilator"):
-        print("skipped: waits by Verilator, as verilator isn't installed")
+def in_verilator(score: Path, library: Path) -> Iterator[Case]:
+    if not is_there("waits by Verilator", "verilator"):
         return
     with tempfile.TemporaryDirectory() as room:
         program = bench(Path(room), library)
@@ -161,17 +148,10 @@ def by_command(score: Path) -> Iterator[Case]:
 
 def cases(score: Path, library: Path) -> Iterator[Case]:
     yield from by_command(score)
-    yield from by_icarus()
-    yield from by_verilator(score, library)
-
-
-def main() -> int:
-    asked = argparse.ArgumentParser(description=__doc__)
-    asked.add_argument("score", metavar="TLSCORE", type=lambda it: Path(it).resolve())
-    asked.add_argument("--library", help="where libzuldegei.a stands (out)")
-    given = asked.parse_args()
-    return told(cases(given.score, Path(given.library or TOP / "out").resolve()))
+    yield from in_icarus()
+    yield from in_verilator(score, library)
 
 
 if __name__ == "__main__":
-    sys.exit(main())
+    given = asked(__doc__, "score", over_library=True).parse_args()
+    sys.exit(told(cases(given.score, given.library)))

@@ -7,12 +7,10 @@ standard prints them. And the fill lines of memory images.
     python3 tests/waves.py TLSCORE [--all]
 """
 
-import argparse
 import gzip
 import io
 import itertools
 import os
-import pty
 import random
 import re
 import resource
@@ -20,30 +18,25 @@ import shutil
 import struct
 import subprocess
 import sys
-import tempfile
 import threading
 import time
 from pathlib import Path
 from typing import Dict, Iterator, List, NamedTuple, Optional, Tuple
 
-from ends import told
+import stored
+from ends import TOP, Case, asked, is_there, told_in_a_folder
+from package import RTL, command, on_a_terminal, one_line
+from simulators import by_icarus, by_verilator, run
+from zuldegei.command import Fault
+from zuldegei.signal_map import Reader
+from zuldegei.vcd import Dump
+from zuldegei.waves import observe
 
-TOP = Path(__file__).resolve().parent.parent
-RTL, DUMPS = TOP / "examples/testbench/rtl", TOP / "tests/dumps"
-sys.path += [str(RTL), str(TOP / "python")]
-sys.dont_write_bytecode = True
-
-import run  # noqa: E402
-from zuldegei.command import Fault  # noqa: E402
-from zuldegei.signal_map import Reader  # noqa: E402
-from zuldegei.vcd import Dump  # noqa: E402
-from zuldegei.waves import observe  # noqa: E402
-
+DUMPS = TOP / "tests/dumps"
 MAP = (RTL / "ports.map").read_text()
 ONE_CLIENT = "".join(line for line in MAP.splitlines(True) if not line.startswith(("client 1", "a 1", "d 1")))
 LINES = MAP.count("\n")
 DESIGN = [str(RTL / name) for name in ("bridge.sv", "client.sv", "fifo.sv", "memory.sv", "monitor.sv", "streaming_bridge.sv")]
-Case = Tuple[str, Optional[str]]
 
 
 class Bench(NamedTuple):
@@ -66,15 +59,10 @@ def style(top: str) -> Bench:
 def made(bench: Bench, simulator: str, folder: Path, tracing: Tuple[str, ...] = ("--trace",)) -> List[str]:
     """Makes a testbench with a simulator; gives the words that run it."""
     folder.mkdir(exist_ok=True)
-    program, searched = str(folder / bench.top), [f"-I{RTL}", f"-I{DUMPS}", *bench.defines]
+    searched = [f"-I{RTL}", f"-I{DUMPS}", *bench.defines]
     if simulator == "iverilog":
-        words, runs = ["iverilog", "-g2012", *searched, "-s", bench.top, "-o", program, *bench.files], ["vvp", "-n", program]
-    else:
-        fast = ["-MAKEFLAGS", "OPT_FAST=-O0 OPT_SLOW=-O0 OPT_GLOBAL=-O0"]  # it is made in less time than it would save
-        words = ["verilator", "--binary", "--timing", "-Wno-fatal", *fast, *tracing, *searched, "--top-module", bench.top]
-        words, runs = [*words, "-Mdir", str(folder), "-o", bench.top, *bench.files], [program]
-    run.simulated(words)
-    return runs
+        return by_icarus(folder / bench.top, bench.top, bench.files, *searched)
+    return [str(by_verilator(folder, bench.top, bench.files, *tracing, *searched))]
 
 
 def simulated(runs: List[str], folder: Path, dump: str, *more: str) -> Tuple[str, str]:
@@ -83,14 +71,6 @@ def simulated(runs: List[str], folder: Path, dump: str, *more: str) -> Tuple[str
     words = [*runs, *(["-fst"] if dump.endswith(".fst") and runs[0] == "vvp" else []), *more, "+seed=3"]
     ran = subprocess.run([*words, f"+observed={seen}", f"+dump={folder / dump}"], capture_output=True, text=True, cwd=folder)
     return seen.read_text(), ran.stdout + ran.stderr
-
-
-def command(module: str, *words: object, seconds: int = 120, **more: object) -> subprocess.CompletedProcess:
-    """Runs a command of the package from this checkout."""
-    environment = {**os.environ, "PYTHONPATH": str(TOP / "python"), "PYTHONDONTWRITEBYTECODE": "1"}
-    environment.update(more.pop("environment", {}))
-    words = [sys.executable, "-m", f"zuldegei.{module}", *map(str, words)]
-    return subprocess.run(words, capture_output=True, text=True, timeout=seconds, env=environment, **more)
 
 
 def read(folder: Path, the_map: str, dump: str) -> subprocess.CompletedProcess:
@@ -211,15 +191,6 @@ def verilator(folder: Path, faults: Tuple[str, ...]) -> Iterator[Case]:
         yield f"{bug} by Verilator, VCD", same(read(folder, MAP, "run.vcd"), lines)
 
 
-def one_line(ran: subprocess.CompletedProcess, lines: str = "", named: Tuple[str, ...] = (), status: int = 2) -> Optional[str]:
-    """How a run of a command didn't end in one line that has these words, a status, and the first of these lines."""
-    if ran.returncode != status:
-        return f"status {ran.returncode}, not {status}; it said {ran.stderr.strip()[-300:]!r}"
-    if ran.stderr.count("\n") != 1 or not all(it in ran.stderr for it in named):
-        return f"it said {ran.stderr[-300:]!r}, without {named}"
-    return None if lines.startswith(ran.stdout) else "it printed lines that weren't observed"
-
-
 def in_process(the_map: str, dump: bytes) -> Tuple[str, str]:
     """The lines of a dump, and the fault that ended them or nothing."""
     text: List[str] = []
@@ -320,24 +291,11 @@ def progress(folder: Path) -> Optional[str]:
     """Whether a terminal is told how far a dump is read, that comes through a pipe with a rest in between."""
     pipe = folder / "pipe.vcd"
     os.mkfifo(pipe)
-    data = (folder / "run.vcd").read_bytes()
-    parent, child = pty.openpty()
-    words = [sys.executable, "-m", "zuldegei.waves", str(folder / "ports.map"), str(pipe)]
-    environment = {**os.environ, "PYTHONPATH": str(TOP / "python"), "PYTHONDONTWRITEBYTECODE": "1"}
-    with subprocess.Popen(words, stdout=subprocess.DEVNULL, stderr=child, env=environment) as ran:
-        os.close(child)
-        feeder = threading.Thread(target=fed, args=(pipe, data))
-        feeder.start()
-        said = b""
-        try:
-            while True:
-                said += os.read(parent, 4096)
-        except OSError:
-            pass  # a terminal that nobody writes to any more
-        feeder.join()
-        ran.wait()
-    os.close(parent)
-    return None if re.search(rb"\d MB, [\d.]+ MB/s, [\d,]+ beats", said) and ran.returncode == 0 else repr(said[-200:])
+    feeder = threading.Thread(target=fed, args=(pipe, (folder / "run.vcd").read_bytes()))
+    feeder.start()
+    status, said = on_a_terminal("waves", folder / "ports.map", pipe)
+    feeder.join()
+    return None if re.search(rb"\d MB, [\d.]+ MB/s, [\d,]+ beats", said) and status == 0 else repr(said[-200:])
 
 
 def fed(pipe: Path, data: bytes) -> None:
@@ -513,23 +471,7 @@ def reset_by_hand() -> Iterator[Case]:
         yield f"a reset behind {name}", why or (None if got == wanted else f"{got!r}, not {wanted!r}")
 
 
-NEXT = "\n"
 TWO_RESETS = "clock top.clock\nreset top.a\nclient 0 flat top.\nclock top.clock\nreset top.b\naxi flat top.\n"
-TWICE = (
-    ("a client", f"{HAND}client 0 flat top.\n", ("line 4", "client 0", "line 2")),
-    ("a client of an array", f"{HAND}client 1 flat top. part 0 of 2\nclient 1 flat top. part 1 of 2\n", ("line 5", "client 1")),
-    ("the AXI4 port", f"{HAND}axi amba top.s_axi_\n", ("line 4", "AXI4", "line 3")),
-    ("a reset", f"clock top.clock\nreset top.a\nreset top.b low\n{HAND}", ("line 3", "reset", "top.clock", "line 2")),
-    ("a client behind one of its fields", f"clock top.clock\na 0 corrupt =0\n{HAND.partition(NEXT)[2]}", ("line 3", "a of client 0")),
-    ("a clock", f"{HAND}clock top.clock\nclient 1 flat top.\n", ("line 4", "top.clock", "line 1")),
-    ("a field", f"{HAND}a 0 corrupt =0\n\na 0 corrupt =1\n", ("line 6", "corrupt of a of client 0", "line 4")),
-    ("another number for an ID", f"{HAND}renumber id 9 2\nrenumber id 9 3\n", ("line 5", "ID 9", "line 4")),
-    ("another number for a source", f"{HAND}renumber source 0 9 2\nrenumber source 0 9 3\n", ("line 5", "source 9 of client 0")),
-    ("a clock, where its reset lacks", TWO_RESETS.replace("reset top.b\n", ""), ("line 4", "top.clock", "line 1")),
-    ("a clock with the same reset", TWO_RESETS.replace("top.b", "top.a"), ("line 4", "top.clock", "line 1")),
-    ("a clock with no port, and so its reset", f"clock top.clock\nreset top.reset\n{HAND}", ("line 1", "top.clock")),
-    ("a client and a ready map of it", "use rocket-chip top\nclient 0 flat top.\n", ("line 2", "client 0", "line 1")),
-)
 BEYOND = ("client -1 flat top.", "client 8 flat top.", "a 8 corrupt =0", "d -1 denied =0", "renumber source 8 1 2", "use rocket-chip top 8")
 ONCE = (TWO_RESETS, "use opentitan top\nuse pulp top\n", f"{HAND}client 7 flat top.\n", "use opentitan top\nd 0 denied =0\n",
         f"{HAND}clock top.clock falling\nclient 1 flat top.\n")
@@ -537,9 +479,10 @@ ONCE = (TWO_RESETS, "use opentitan top\nuse pulp top\n", f"{HAND}client 7 flat t
 
 def said_twice() -> Iterator[Case]:
     """Maps in which a second line stands for one thing, and those with a client that no bridge has; and such as have neither."""
-    for name, the_map, named in TWICE:
-        got = in_process(the_map, hand(False).text())
-        yield f"{name} twice", None if all(it in got[1] for it in named) and got[1].startswith("the map") else f"it said {got[1]!r}"
+    behind_an_empty_line = stored.Block("a field", f"{HAND}a 0 corrupt =0\n\na 0 corrupt =1", "line 6; corrupt of a of client 0; line 4")
+    for it in (*stored.blocks(TOP / "tests/commands/maps/twice.blocks"), behind_an_empty_line):
+        _, said = in_process(f"{it.given}\n", hand(False).text())
+        yield f"{it.name} twice", None if all(part in said for part in it.due.split("; ")) and said.startswith("the map") else f"it said {said!r}"
     for line in BEYOND:
         yield line, refusal(in_process(f"{HAND.replace('client 0', 'client 1')}{line}\n", hand(False).text()), "clients are 0 to 7")
     for the_map in ONCE:
@@ -601,19 +544,6 @@ def refusal(ended: Tuple[str, str], named: str) -> Optional[str]:
     return None if named in ended[1] and not ended[0] else f"it said {ended[1]!r} behind {ended[0]!r}"
 
 
-WORDS = "// two words, and others\n1122334455667788 99aabbccddeeff00\n@5 x1 zz00 /* a\n comment */ dead_beef\n@3 1x000000000002"
-READS = """module top;
-    logic [63:0] words[8];
-    initial begin
-        for (int i = 0; i < 8; i++) words[i] = 'x;
-        $readmemh("words.hex", words);
-        for (int i = 0; i < 64; i++) if (^words[i/8][i%8*8+:8] !== 1'bx) $display("%h %h", 16'(i), words[i/8][i%8*8+:8]);
-    end
-endmodule
-"""
-IMAGE = 'const char text[] = "hello, memory"; long more[40] = {1, 2, 3, [39] = -1}; int zeros[20]; void _start(void) {}\n'
-
-
 def filled(ran: subprocess.CompletedProcess) -> Dict[int, int]:
     """The bytes of fill lines, each of which has 32 at the most."""
     lines = [line.split() for line in ran.stdout.splitlines()]
@@ -623,18 +553,14 @@ def filled(ran: subprocess.CompletedProcess) -> Dict[int, int]:
 
 def images(folder: Path, score: str) -> Iterator[Case]:
     """The fill lines of each kind of image."""
-    (folder / "words.hex").write_text(WORDS)
+    shutil.copytree(TOP / "tests/images", folder, dirs_exist_ok=True)
     if shutil.which("iverilog"):
-        (folder / "reads.sv").write_text(READS)
-        run.simulated(["iverilog", "-g2012", "-o", str(folder / "reads"), str(folder / "reads.sv")])
-        ran = subprocess.run(["vvp", "-n", str(folder / "reads")], capture_output=True, text=True, cwd=folder)
+        ran = subprocess.run(by_icarus(folder / "reads", "top", [folder / "reads.sv"]), capture_output=True, text=True, cwd=folder)
         wanted = {0x10000 + int(line.split()[0], 16): int(line.split()[1], 16) for line in ran.stdout.splitlines() if " " in line[4:5]}
         got = filled(command("fill", folder / "words.hex", "--at", "10000"))
         yield "what $readmemh reads, as Icarus does", None if got == wanted and len(got) > 40 else f"{got}, not {wanted}"
-    if shutil.which("objcopy"):
+    if is_there("the image of an ELF", "objcopy"):
         yield "an ELF, as objcopy has it", elf(folder)
-    else:
-        print("skipped: the image of an ELF, as objcopy isn't installed")
     yield from elves(folder)
     data = random.Random(3).randbytes(100)
     (folder / "image.bin").write_bytes(data)
@@ -658,7 +584,6 @@ def images(folder: Path, score: str) -> Iterator[Case]:
 
 def elf(folder: Path) -> Optional[str]:
     """An ELF's fill lines, and whether one that is cut is refused."""
-    (folder / "image.c").write_text(IMAGE)
     linked = ["-nostdlib", "-static", "-Wl,-Ttext=0x80000000", "-Wl,--build-id=none", "-Wl,-z,noseparate-code", "-fno-pie", "-no-pie"]
     subprocess.run(["cc", *linked, "-o", "image.elf", "image.c"], cwd=folder, check=True, capture_output=True)
     subprocess.run(["objcopy", "-O", "binary", "image.elf", "image.bin"], cwd=folder, check=True)
@@ -710,30 +635,18 @@ def cases(folder: Path, score: str, faults: Tuple[str, ...]) -> Iterator[Case]:
     yield from counts_told(folder)
     yield from shown_maps()
     yield from images(folder, score)
-    if shutil.which("iverilog"):
+    if is_there("dumps by Icarus", "iverilog"):
         yield from icarus(folder)
         yield from styles(folder)
         yield two_clocks(folder, "iverilog")
-        if shutil.which("fst2vcd"):
+        if is_there("FST", "fst2vcd"):
             yield from fst(folder)
-        else:
-            print("skipped: FST, as fst2vcd isn't installed")
-    else:
-        print("skipped: dumps by Icarus, as iverilog isn't installed")
-    if shutil.which("verilator") and shutil.which("fst2vcd"):
+    if is_there("dumps by Verilator", "verilator", "fst2vcd"):
         yield from verilator(folder, faults)
-    else:
-        print("skipped: dumps by Verilator, as verilator or fst2vcd isn't installed")
-
-
-def main() -> int:
-    asked = argparse.ArgumentParser(description=__doc__)
-    asked.add_argument("tlscore")
-    asked.add_argument("--all", action="store_true", help="also each fault by Verilator, which takes long to build each")
-    given = asked.parse_args()
-    with tempfile.TemporaryDirectory() as folder:
-        return told(cases(Path(folder), given.tlscore, run.BUGS if given.all else ()))
 
 
 if __name__ == "__main__":
-    sys.exit(main())
+    words = asked(__doc__, "tlscore")
+    words.add_argument("--all", action="store_true", help="also each fault by Verilator, which takes long to build each")
+    given = words.parse_args()
+    sys.exit(told_in_a_folder(cases, given.tlscore, run.BUGS if given.all else ()))

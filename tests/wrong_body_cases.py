@@ -15,12 +15,10 @@ import subprocess
 import sys
 import tempfile
 from pathlib import Path
-from typing import Dict, Iterator, List, Optional, Tuple
+from typing import Dict, Iterator, List, Tuple
 
-from ends import told
+from ends import TOP, Case, told
 
-TOP = Path(__file__).resolve().parent.parent
-Case = Tuple[str, Optional[str]]
 
 REFUSED, STANDS, UNTRIED = "refused: ", "NOT REFUSED", "NOT TRIED"
 # The crates, which `names` lists, with their sources as text and their wrong bodies, of each of which `told` says what has to be told; the
