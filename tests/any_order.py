@@ -6,13 +6,13 @@ import random
 from dataclasses import dataclass
 from typing import Iterator, List, NamedTuple, Optional
 
-from model import Memory, Setup
+from model import GOOD, Memory, Ranges, Setup
 
 from client import ABeat, DBeat  # model.py says where it stands
 from random_bench import ARITHMETIC, LOGICAL, beats_by_lot, random_kind
 
 CLIENTS, SOURCES, WINDOW, PAGES = 8, 16, 64, 12
-SETUP = Setup(CLIENTS, 4, 16, 2, 16, 6, 8, ((0, PAGES, 0x10, "gpah"),), {0x10 + at: "good" for at in range(PAGES)}, ())
+SETUP = Setup(CLIENTS, 4, 16, 2, 16, 6, 8, ((0, PAGES, 0x10, "gpah"),), Ranges([(0x10, PAGES, GOOD)]), ())
 
 
 class Traffic(NamedTuple):

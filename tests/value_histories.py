@@ -7,13 +7,13 @@ from collections import defaultdict
 from dataclasses import dataclass, field, replace
 from typing import Dict, Iterable, List, Optional, Set, Tuple
 
-from model import ARITHMETIC, GET, INTENT, LOGICAL, PUT_FULL, PUT_PARTIAL, REPLIES, Memory, Setup
+from model import ARITHMETIC, GET, GOOD, INTENT, LOGICAL, PUT_FULL, PUT_PARTIAL, REPLIES, Memory, Ranges, Setup
 
 from client import ABeat, DBeat, beats_of  # model.py says where it stands
 from random_bench import applied, full_mask
 
 PUTS, CLIENTS, SOURCES, PAGE, AXI, BYTES = (PUT_FULL, PUT_PARTIAL), 3, 2, 0x10, 0x10000, 16
-SETUP = Setup(CLIENTS, 4, 16, 2, 16, 12, 8, ((0, 1, PAGE, "gpah"),), {PAGE: "good"}, ())
+SETUP = Setup(CLIENTS, 4, 16, 2, 16, 12, 8, ((0, 1, PAGE, "gpah"),), Ranges([(PAGE, 1, GOOD)]), ())
 # Opcodes, params and sizes of requests, all of which lie in the first bytes of a page.
 PLAIN = [(PUT_FULL, 0, 4), (PUT_FULL, 0, 3), (PUT_FULL, 0, 0), (PUT_PARTIAL, 0, 4), (GET, 0, 0), (GET, 0, 4), *[(GET, 0, 3)] * 2]
 OTHERS = [(opcode, param, size) for opcode, params in ((ARITHMETIC, 5), (LOGICAL, 4)) for param in range(params) for size in (0, 3)]
@@ -121,7 +121,7 @@ class History:
 
     def __init__(self, rng: random.Random):
         self.rng, self.errors, self.pages = rng, rng.choice(("strict", "any")), rng.choice(("good", "good", "any"))
-        kinds = replace(SETUP, pages={PAGE: self.pages}).lines
+        kinds = replace(SETUP, pages=Ranges([(PAGE, 1, self.pages)])).lines
         self.lines, self.memory = [*kinds, "profile tilelink", f"errors {self.errors}", "x data"], Memory(SETUP)
         self.due: Dict[int, str] = {}  # by line, the beat that was due in order of acceptance
         self.requests: List[Request] = []

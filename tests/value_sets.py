@@ -12,8 +12,8 @@ from dataclasses import dataclass, field
 from enum import Enum
 from typing import Dict, FrozenSet, List, NamedTuple, Optional, Sequence, Set, Tuple
 
-from compared import WITHDRAWN, Kinds
-from model import GET, PUT_FULL, PUT_PARTIAL, Setup
+from compared import WITHDRAWN
+from model import GET, GOOD, PUT_FULL, PUT_PARTIAL, UNKNOWN, Ranges, Setup
 from unknown import known, lanes_in
 
 from client import ABeat, beats_of  # model.py says where it stands
@@ -126,7 +126,7 @@ class ValueSets:
 
     def __init__(self, lines: Sequence[str]):
         self.errors_any = False
-        self.regions, self.pages, self.bad, self.filled = [], [], set(), {}
+        self.regions, self.pages, self.bad, self.filled = [], Ranges(()), set(), {}
         self.begun = 0
         self.requests: List[Request] = []  # those in flight, in the order in which they began
         self.writers: Dict[int, List[Request]] = defaultdict(list)  # of each byte
@@ -164,7 +164,7 @@ class ValueSets:
         if words[0] == "region":
             self.regions.append((int(words[1], 16), int(words[2]), int(words[3], 16), words[4]))
         elif words[0] == "page":
-            self.pages.append((range(int(words[1], 16), int(words[1], 16) + int(words[2])), words[3]))
+            self.pages = Ranges([*self.pages.listed, (int(words[1], 16), int(words[2]), words[3])])
         elif words[0] == "bad":
             self.bad.add(int(words[1], 16) & ~7)
         elif words[0] == "errors":
@@ -174,12 +174,11 @@ class ValueSets:
 
     def place(self, first: ABeat) -> Optional[int]:
         """Where a request acts in good pages, if it does."""
-        at = Setup(0, 0, 0, 0, 0, 0, 8, tuple(self.regions), {}, ()).leads(first)
-        return at if at is not None and Kinds(self.pages).get(at >> 12) == "good" else None
+        at = Setup(0, 0, 0, 0, 0, 0, 8, tuple(self.regions), self.pages, ()).leads(first)
+        return at if at is not None and self.pages.get(at >> 12) == GOOD else None
 
     def at_start(self, address: int) -> Value:
-        is_any = any(kind == "any" and address >> 12 in pages for pages, kind in self.pages)
-        return self.filled.get(address, None if is_any else 0)
+        return self.filled.get(address, None if self.pages.kind(address >> 12) == UNKNOWN else 0)
 
     # ---- channel A
 
