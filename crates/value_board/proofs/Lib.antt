@@ -1,3 +1,4 @@
+pub mod EarlyFailures
 pub mod GivenBytes
 pub mod MadeBytes
 pub mod NumberLists

@@ -1,5 +1,5 @@
 -- Lists of numbers of requests.
-use Rattle.std.proofs.Common.{◌≡◌, ℕ, zero, suc, ap, refl, replicate}
+use Rattle.std.proofs.Common.{◌≡◌, ℕ, zero, suc, ap, map, refl, replicate}
 use Rattle.std.specs.Prelude.{Bool, true, false, List, [], ◌∷◌, None, Some, if◌then◌else◌}
 use Rattle.std.specs.List.{AllByRecursion, find}
 use Rattle.bus_words.specs.Places.{without_first}
@@ -18,3 +18,7 @@ without_none {X = X} p (x ∷ xs) none = by_test (p x) none (without_none p xs)
 pub never_all : (n : ℕ) → AllByRecursion IsAsked (replicate n never_asked)
 never_all zero = tt
 never_all (suc n) = (record { range = tt; step = tt }, never_all n)
+
+pub map-same : {X : Type 0} (xs : List X) → map (λ (x : X). x) xs ≡ xs
+map-same [] = refl
+map-same {X = X} (x ∷ xs) = ap (λ (ys : List X). x ∷ ys) (map-same xs)

@@ -2,10 +2,11 @@
 use Rattle.std.proofs.Common.{◌≡◌, ℕ, ◌+◌, ◌<◌, ◌≤◌, ◌==◌, ◌++◌, Bool, true, false, List, [], ◌∷◌, Option, Some, None, arith, get_or, length, map, refl, subst, sym}
 use Rattle.std.specs.Prelude.{if◌then◌else◌, slice_set}
 use Rattle.bus_words.proofs.PlaceChanges.{all-at, all-set}
+use Rattle.scoreboard.specs.FailedBursts.{Span}
 use Rattle.value_memory.specs.declared.ByteRange.{ByteRange}
 use Rattle.value_board.specs.AllValues.{AreAllLive}
 use Rattle.value_board.specs.ClientValues.{AreLive, ClientNumbers, reset_numbers, without_number}
-use Rattle.value_board.specs.Values.{count_started, lesser, oldest_from, started}
+use Rattle.value_board.specs.Values.{count_started, lesser, oldest_from, started, struck_by}
 use Rattle.value_board.specs.declared.client_values.Begun.{Begun}
 
 -- from a lower number on they rise as well
@@ -65,6 +66,11 @@ ended_live number client low high clients found after are within is ends =
 pub reset_live : (low high : ℕ) (clients : List ClientNumbers) → AreAllLive low high (map reset_numbers clients)
 reset_live low high [] = tt
 reset_live low high (numbers ∷ rest) = (tt, reset_live low high rest)
+
+-- an error response is kept with some messages
+pub struck_live : (span : Span) (low high : ℕ) (clients : List ClientNumbers) → AreAllLive low high clients → AreAllLive low high (map (struck_by span) clients)
+struck_live span low high [] are = tt
+struck_live span low high (numbers ∷ rest) are = (are.0, struck_live span low high rest are.1)
 
 -- ---- a request begins
 

@@ -1,10 +1,10 @@
 -- The memory of values and the numbers of all clients' requests together: what becomes of them when a request ends, and at a reset.
-use Rattle.std.specs.Prelude.{ℕ, ◌+◌, ◌^◌, ◌==◌, ◌&&◌, ◌||◌, Bool, true, false, List, Option, Some, None, if◌then◌else◌, is_none, is_some, length, map, nat_le, replicate, slice_get, slice_index_or, slice_set}
+use Rattle.std.specs.Prelude.{ℕ, ◌+◌, ◌/◌, ◌^◌, ◌==◌, ◌&&◌, ◌||◌, Bool, true, false, List, Option, Some, None, if◌then◌else◌, is_none, is_some, length, map, nat_le, not, replicate, slice_get, slice_index_or, slice_set}
 use Rattle.std.specs.List.{AllByRecursion}
-use Rattle.value_memory.specs.States.{Contents, contents_of, new_contents, cut_off, with_oldest}
+use Rattle.value_memory.specs.States.{Contents, contents_of, new_contents, cut_off, kept_short, with_oldest}
 use Rattle.value_memory.specs.ValueMemory.{ValueState}
 use Rattle.value_board.specs.ClientValues.{AreLive, ClientNumbers, asked_by, no_numbers, reset_numbers, with_answer, without_number}
-use Rattle.value_board.specs.Values.{ended_if, failed_all, finished, finished_memory, oldest_from, range_given, started, started_memory}
+use Rattle.value_board.specs.Values.{ended_if, failed_all, finished, finished_memory, oldest_from, range_given, started, started_memory, struck_by}
 use Rattle.value_board.specs.declared.client_values.Asked.{Asked}
 use Rattle.value_board.specs.declared.client_values.Begun.{Begun}
 use Rattle.score_setup.specs.ScoreSetups.{RangeLists}
@@ -47,18 +47,18 @@ abbrev pub without_request : ℕ → ℕ → List ClientNumbers → List ClientN
 without_request client number clients =
     slice_set clients client (record (numbers_of clients client) { live = without_number number (numbers_of clients client).live })
 
--- the oldest in flight is found anew
-abbrev pub with_oldest_found : ValuesState → ValuesState
-with_oldest_found v = record v { memory = with_oldest (oldest_from (v.memory.begun + 1) v.clients) v.memory }
+-- the oldest in flight is found anew, and then the lists are kept short of the words where a request has ended
+abbrev pub with_oldest_found : Option ByteRange → ValuesState → ValuesState
+with_oldest_found ended v = record v { memory = kept_short ended (with_oldest (oldest_from (v.memory.begun + 1) v.clients) v.memory) }
 
 -- a client's request ends
 abbrev pub with_ended : ℕ → Begun → ValuesState → ValuesState
 with_ended client begun v =
-    with_oldest_found (record { memory = ended_if begun v.memory; clients = without_request client begun.number v.clients })
+    with_oldest_found begun.gives (record { memory = ended_if begun v.memory; clients = without_request client begun.number v.clients })
 
--- each request in flight has failed that shares a byte with a burst
+-- each request in flight has failed that shares a byte with a burst, and this is kept with those whose messages have begun
 abbrev pub with_failed : Span → ValuesState → ValuesState
-with_failed span v = record v { memory = failed_all span v.clients v.memory }
+with_failed span v = record { memory = failed_all span v.clients v.memory; clients = map (struck_by span) v.clients }
 
 -- all are cut off
 abbrev pub with_reset : ValuesState → ValuesState
@@ -120,7 +120,7 @@ with_heard client given v =
 abbrev pub with_complete : ℕ → Begun → Errors → HeldMessage → Option ReplyView → ValuesState → ValuesState
 with_complete client begun errors message due v =
     record {
-      memory = finished_memory errors begun message due (numbers_of v.clients client).hidden v.memory;
+      memory = finished_memory errors begun message due (numbers_of v.clients client) v.memory;
       clients = slice_set v.clients client (finished errors begun message due v.memory (numbers_of v.clients client));
     }
 
@@ -166,6 +166,11 @@ on_good faults (Some range) = if is_good (standing_at faults range.address) then
 abbrev pub reach_of : ℕ → Board → ABeat → ValuesState → Option ByteRange
 reach_of client board beat v =
     if is_some (numbers_of v.clients client).coming then None else on_good v.memory.faults (range_given board beat)
+
+-- whether a range, if there is one, is of a page without room
+abbrev pub lacks_reach : (ℕ → Bool) → Option ByteRange → Bool
+lacks_reach rooms None = false
+lacks_reach rooms (Some range) = not (rooms (range.address / 4096))
 
 -- the request of the reply whose next beat one of a source may be: of the one that has begun, else of the one that is due
 abbrev pub asked_next : ℕ → ℕ → Bool → ValuesState → Option Asked

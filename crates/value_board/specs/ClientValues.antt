@@ -1,5 +1,5 @@
 -- A client's requests by their numbers: a request's number is how many had begun as it began, itself counted.
-use Rattle.std.specs.Prelude.{ℕ, ◌%◌, ◌^◌, ◌<◌, ◌≤◌, ◌≡◌, ◌==◌, ⊤, List, [], ◌∷◌, ◌++◌, Option, Some, None, IfSome, replicate, slice_index_or, slice_set}
+use Rattle.std.specs.Prelude.{ℕ, ◌%◌, ◌^◌, ◌<◌, ◌≤◌, ◌≡◌, ◌==◌, ⊤, Bool, false, List, [], ◌∷◌, ◌++◌, Option, Some, None, IfSome, replicate, slice_index_or, slice_set}
 use Rattle.std.specs.List.{AllByRecursion}
 use Rattle.bus_words.specs.Places.{without_first}
 use Rattle.data_unit.specs.Atomics.{modulus}
@@ -9,12 +9,14 @@ use Rattle.value_board.specs.declared.client_values.Asked.{Asked}
 use Rattle.value_board.specs.declared.client_values.Begun.{Begun}
 
 -- of each source the last request that was whole; the one whose reply has begun; the one whose message has begun, and of each of its beats the lanes that it
--- gave and nobody knows; and all that are in flight, or have begun, in the order in which they began
+-- gave and nobody knows, and whether an error response came to a burst that shares a byte with it; and all that are in flight, or have begun, in the order in
+-- which they began
 pub record ClientNumbers : Type 0 where
   pub by_source : List Asked
   pub answering : Option Asked
   pub coming : Option Begun
   pub hidden : List ℕ
+  pub struck : Bool
   pub live : List Begun
 
 -- one of which nobody asked
@@ -23,7 +25,7 @@ never_asked = record { begun = record { number = 0; gives = None }; step = None 
 
 -- nothing has begun
 abbrev pub no_numbers : ClientNumbers
-no_numbers = record { by_source = replicate 256 never_asked; answering = None; coming = None; hidden = []; live = [] }
+no_numbers = record { by_source = replicate 256 never_asked; answering = None; coming = None; hidden = []; struck = false; live = [] }
 
 -- the last request of a source that was whole
 abbrev pub asked_by : ClientNumbers → ℕ → Asked
@@ -36,11 +38,11 @@ first_number (begun ∷ rest) = Some begun.number
 
 -- a request begins
 abbrev pub with_begun : Begun → ClientNumbers → ClientNumbers
-with_begun begun numbers = record numbers { coming = Some begun; live = numbers.live ++ begun ∷ [] }
+with_begun begun numbers = record numbers { coming = Some begun; struck = false; live = numbers.live ++ begun ∷ [] }
 
 -- the message that had begun is whole, and is a request of a source
 abbrev pub accepted : ℕ → Asked → ClientNumbers → ClientNumbers
-accepted source asked numbers = record numbers { by_source = slice_set numbers.by_source source asked; coming = None; hidden = [] }
+accepted source asked numbers = record numbers { by_source = slice_set numbers.by_source source asked; coming = None; hidden = []; struck = false }
 
 -- the reply to the last request of a source begins
 abbrev pub with_answer : ℕ → ClientNumbers → ClientNumbers
@@ -52,7 +54,7 @@ without_number number live = without_first (λ begun. begun.number == number) li
 
 -- a reset: nothing is in flight, and nothing has begun
 abbrev pub reset_numbers : ClientNumbers → ClientNumbers
-reset_numbers numbers = record numbers { answering = None; coming = None; hidden = []; live = [] }
+reset_numbers numbers = record numbers { answering = None; coming = None; hidden = []; struck = false; live = [] }
 
 -- ---- what is true of them
 

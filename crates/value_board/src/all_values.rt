@@ -9,13 +9,15 @@ ghost use Rattle.value_board.specs.Found.{found_of};
 ghost use Rattle.value_board.specs.Values.{made_if};
 ghost use Rattle.value_memory.specs.States.{contents_of, filled_with};
 ghost use Rattle.value_memory.specs.ValueMemory.{IsByteRange, pages_of, rooms_in};
-ghost use Rattle.value_board.specs.AllValues.{asked_next, first_values, is_full, numbers_of, reach_of, with_answered, with_answered_if, with_complete, with_counted, with_due_begun, with_ended, with_ended_if, with_failed, with_finished, with_heard, with_next_counted, with_reset, with_started, with_taken, values_of};
+ghost use Rattle.value_board.specs.AllValues.{asked_next, first_values, is_full, lacks_reach, numbers_of, reach_of, with_answered, with_answered_if, with_complete, with_counted, with_due_begun, with_ended, with_ended_if, with_failed, with_finished, with_heard, with_next_counted, with_reset, with_started, with_taken, values_of};
 ghost use Rattle.value_board.specs.ClientValues.{HasRange, IsAsked, no_numbers, reset_numbers};
 
 use crate::client_values::{Asked, Begun, ClientValues};
 use crate::found::{Found, found_of};
 use crate::unknown::unknown_given;
-use crate::values::{end_if, fail_all, finish, is_good_at, make, oldest_from, range_given, start};
+use crate::values::{
+    end_if, fail_all, finish, is_good_at, make, oldest_from, range_given, start, strike_each,
+};
 use score_setup::ScoreSetup;
 use scoreboard::{Errors, FillFault, ReplyView, Scoreboard, Span};
 use std::alloc::{AllocError, Global};
@@ -84,7 +86,7 @@ impl Values {
         end_if(&mut self.memory, begun);
         self.clients[client].end(begun.number);
         let oldest = oldest_from(self.memory.begun() + 1, self.clients.as_slice());
-        self.memory.set_oldest(oldest);
+        self.memory.set_oldest(oldest, begun.gives);
     }
 
     /// No request has begun. The one error is that memory was refused.
@@ -133,6 +135,7 @@ impl Values {
     pub(crate) fn make_room(&mut self, reach: Option<ByteRange>) -> Result<(), AllocError>
         requires { IfSome reach (λ range. is_good (standing_at (pages_of self.old.memory) range.address) ≡ true) }
         ensures state { values_of self.new ≡ values_of self.old }
+        ensures cause { OnErr result (lacks_reach (rooms_in self.old.memory) reach ≡ true) }
         ensures room { OnOk result (IfSome reach (λ range. rooms_in self.new.memory (range.address / 4096) ≡ true)) }
     {
         match reach {
@@ -333,11 +336,12 @@ impl Values {
         self.count_due(client, source, due);
     }
 
-    /// Each request in flight has failed that shares a byte with a burst.
+    /// Each request in flight has failed that shares a byte with a burst, and this is kept with those whose messages have begun.
     pub(crate) fn fail(&mut self, span: Span)
         ensures { values_of self.new ≡ with_failed span (values_of self.old) }
     {
         fail_all(&mut self.memory, span, self.clients.as_slice());
+        strike_each(self.clients.as_mut_slice(), span);
     }
 
     /// The bytes from an address on become these, before any request has begun.

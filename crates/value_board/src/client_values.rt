@@ -1,5 +1,5 @@
 //! What is known of a client's requests by their numbers.
-ghost use Rattle.std.specs.Prelude.{◌≡◌, ◌<◌, ◌==◌, None, Some, IfOk, IfSome, length, nat_le, slice_index_or};
+ghost use Rattle.std.specs.Prelude.{◌≡◌, ◌<◌, ◌==◌, ◌||◌, None, Some, IfOk, IfSome, length, nat_le, slice_index_or};
 ghost use Rattle.std.specs.List.{AllByRecursion, position};
 ghost use Rattle.scoreboard.specs.Unknown.{with_lanes};
 ghost use Rattle.value_board.specs.ClientValues.{HasRange, IsAsked, accepted, asked_by, first_number, no_numbers, reset_numbers, with_answer, with_begun, without_number};
@@ -59,13 +59,14 @@ const NEVER_ASKED: Asked = Asked {
 };
 
 /// The numbers of a client's requests: of each source the last that was whole; the one whose reply has begun; the one whose message has
-/// begun, and the lanes that nobody knows of each of its beats; and all that are in flight, in the order in which they began. All room is
-/// taken by `new`.
+/// begun, the lanes that nobody knows of each of its beats, and whether an error response came to a burst that shares a byte with it; and
+/// all that are in flight, in the order in which they began. All room is taken by `new`.
 pub(crate) struct ClientValues {
     by_source: Vec<Asked>,
     answering: Option<Asked>,
     coming: Option<Begun>,
     hidden: Vec<u8>,
+    struck: bool,
     live: Vec<Begun>,
 }
 
@@ -76,10 +77,10 @@ impl Model for ClientValues {
 
     ghost Value = { ClientNumbers };
 
-    ghost view = { λ c. record { by_source = c.by_source.items; answering = c.answering; coming = c.coming; hidden = c.hidden.items; live = c.live.items } };
+    ghost view = { λ c. record { by_source = c.by_source.items; answering = c.answering; coming = c.coming; hidden = c.hidden.items; struck = c.struck; live = c.live.items } };
 
     ghost invariant = { λ c. (length c.by_source.items ≡ 256) × (258 ≤ vec_capacity c.live) × (512 ≤ vec_capacity c.hidden)
-        × AreNumbers (record { by_source = c.by_source.items; answering = c.answering; coming = c.coming; hidden = c.hidden.items; live = c.live.items }) };
+        × AreNumbers (record { by_source = c.by_source.items; answering = c.answering; coming = c.coming; hidden = c.hidden.items; struck = c.struck; live = c.live.items }) };
 }
 
 // Written out, so that what lets go of one calls this, and proves nothing of its parts.
@@ -90,6 +91,7 @@ impl Drop for ClientValues {
             answering: _,
             coming: _,
             hidden: _,
+            struck: _,
             live: _,
         } = self;
     }
@@ -123,6 +125,7 @@ impl ClientValues {
             answering: None,
             coming: None,
             hidden: Vec::with_capacity(alloc, MOST_BEATS)?,
+            struck: false,
             live: Vec::with_capacity(alloc, MOST)?,
         })
     }
@@ -174,6 +177,14 @@ impl ClientValues {
         self.hidden[place]
     }
 
+    /// Whether an error response came to a burst that shares a byte with the message that has begun.
+    #[inline]
+    pub(crate) fn struck(&self) -> bool
+        ensures { result ≡ self.now.struck }
+    {
+        self.struck
+    }
+
     /// All that are in flight, in the order in which they began.
     #[inline]
     pub(crate) fn live(&self) -> &[Begun]
@@ -201,6 +212,7 @@ impl ClientValues {
         ensures { self.new ≡ with_begun begun self.old }
     {
         self.coming = Some(begun);
+        self.struck = false;
         self.live.push_reserved(begun);
     }
 
@@ -216,6 +228,14 @@ impl ClientValues {
         self.hidden.push_reserved(given);
     }
 
+    /// An error response came to a burst, which may share a byte with the message that has begun.
+    #[inline]
+    pub(crate) fn strike(&mut self, shares: bool)
+        ensures { self.new ≡ record self.old { struck = self.old.struck || shares } }
+    {
+        self.struck = self.struck || shares;
+    }
+
     /// The message that had begun is whole, and is this request of a source.
     pub(crate) fn accept(&mut self, source: u8, asked: Asked)
         requires { IsAsked asked }
@@ -224,6 +244,7 @@ impl ClientValues {
         self.by_source[usize::from(source)] = asked;
         self.coming = None;
         self.hidden.clear();
+        self.struck = false;
     }
 
     /// The reply to the last request of a source begins.
@@ -257,6 +278,7 @@ impl ClientValues {
         self.answering = None;
         self.coming = None;
         self.hidden.clear();
+        self.struck = false;
         self.live.clear();
     }
 }

@@ -1,12 +1,12 @@
 //! The numbers of all clients' requests beside the memory of values: what each beat does to them.
-ghost use Rattle.std.specs.Prelude.{◌≡◌, ◌<◌, ◌≤◌, ◌*◌, ◌+◌, ◌/◌, ◌^◌, ℕ, true, None, Some, IfOk, IfSome, length, nat_le, slice_get, slice_index_or};
+ghost use Rattle.std.specs.Prelude.{◌≡◌, ◌<◌, ◌≤◌, ◌*◌, ◌+◌, ◌/◌, ◌^◌, ℕ, true, None, Some, IfOk, IfSome, length, map, nat_le, slice_get, slice_index_or};
 ghost use Rattle.std.specs.List.{AllByRecursion};
 ghost use Rattle.subordinate.specs.Faults.{is_good, standing_at};
 ghost use Rattle.value_memory.specs.States.{contents_of};
 ghost use Rattle.value_memory.specs.ValueMemory.{IsByteRange, KeepsCounts, pages_of, rooms_in, word_count};
 ghost use Rattle.scoreboard.specs.InsideBoards.{board_of};
 ghost use Rattle.value_board.specs.ClientValues.{HasRange, IsAsked, IsStep};
-ghost use Rattle.value_board.specs.Values.{count_started, ended_if, failed_all, failed_each, failed_if, finished, finished_memory, given_each, given_place, given_whole, giving_on, has_failed, lesser, made_if, oldest_from, range_at, range_given, range_of_operation, shares, started, started_memory, step_by, step_on};
+ghost use Rattle.value_board.specs.Values.{count_started, ended_if, failed_all, failed_each, failed_if, finished, finished_memory, given_each, given_place, given_whole, giving_on, has_failed, lesser, made_if, oldest_from, range_at, range_given, range_of_operation, shares, started, started_memory, step_by, step_on, strikes, struck_by};
 
 use crate::client_values::{Asked, AtomicStep, Begun, ClientValues};
 use crate::given::{Giving, given_word, giving_of, is_sure};
@@ -82,12 +82,13 @@ pub(crate) fn start(memory: &mut ValueMemory, found: &mut ClientValues, reach: O
 
 // ---- a message is whole
 
-/// Whether a request that is whole has failed, or may have: so may one have whose reply came before, so that none is due any more.
-pub(crate) fn has_failed(due: &Option<ReplyView>) -> bool
-    ensures { result ≡ has_failed due.now }
+/// Whether a request that is whole has failed, by whether an error response came to a burst that shares a byte with it before it was whole:
+/// as the reply says that is due; where that came before, by such a response, or by a corrupt beat.
+fn has_failed(errors: Errors, struck: bool, request: &Request, due: &Option<ReplyView>) -> bool
+    ensures { result ≡ has_failed errors struck request.now due.now }
 {
     match due {
-        None => true,
+        None => struck || (errors == Errors::Any && request.corrupt()),
         Some(view) => view.failed,
     }
 }
@@ -203,11 +204,12 @@ pub(crate) fn finish(
     due: &Option<ReplyView>,
 )
     requires { HasRange begun }
-    ensures memory { contents_of memory.new ≡ finished_memory errors begun request.now due.now found.old.hidden (contents_of memory.old) }
+    ensures memory { contents_of memory.new ≡ finished_memory errors begun request.now due.now found.old (contents_of memory.old) }
     ensures numbers { found.new ≡ finished errors begun request.now due.now (contents_of memory.old) found.old }
     ensures counts { KeepsCounts memory.old memory.new }
 {
-    let giving = giving_on(memory, errors, begun.gives, has_failed(due), request);
+    let failed = has_failed(errors, found.struck(), request, due);
+    let giving = giving_on(memory, errors, begun.gives, failed, request);
     give_whole(memory, found, begun, giving, request);
     let step = step_on(found, giving, begun.gives, request);
     found.accept(request.source(), Asked { begun, step });
@@ -309,5 +311,36 @@ pub(crate) fn fail_all(memory: &mut ValueMemory, span: Span, clients: &[ClientVa
 {
     for client in clients {
         fail_each(memory, span, client.live());
+    }
+}
+
+/// Whether a burst shares a byte with what the request may give whose message has begun.
+fn strikes(span: Span, coming: Option<Begun>) -> bool
+    requires { IfSome coming HasRange }
+    ensures { result ≡ strikes span coming }
+{
+    let Some(begun) = coming else {
+        return false;
+    };
+    match begun.gives {
+        None => false,
+        Some(range) => shares(span, range),
+    }
+}
+
+/// That is kept with the message.
+fn strike(client: &mut ClientValues, span: Span)
+    ensures { client.new ≡ struck_by span client.old }
+{
+    let shares = strikes(span, client.coming());
+    client.strike(shares);
+}
+
+/// And with those of some clients.
+pub(crate) fn strike_each(clients: &mut [ClientValues], span: Span)
+    ensures { clients.new ≡ map (struck_by span) clients.old }
+{
+    for client in clients.iter_mut() {
+        strike(client, span);
     }
 }

@@ -1,10 +1,9 @@
 -- Runs of a byte go on by events, one call after another.
-use Rattle.std.proofs.Common.{◌≡◌, ℕ, ◌+◌, ◌≤◌, ◌<◌, ◌==◌, Bool, true, false, ◌&&◌, List, [], ◌∷◌, ◌++◌, map, Some, None, is_none, if◌then◌else◌, append_assoc, nat_lt, ◌⊎◌, inl, inr, refl, sym, ◌∙◌, ap, subst, arith}
+use Rattle.std.proofs.Common.{◌≡◌, ℕ, ◌+◌, ◌≤◌, ◌<◌, Bool, true, false, List, [], ◌∷◌, ◌++◌, None, if◌then◌else◌, append_assoc, nat_lt, ◌⊎◌, inl, inr, refl, sym, ◌∙◌, ap, subst, arith}
 use Rattle.std.proofs.lemmas.Bool.Decides.{nat_tests}
 use Rattle.byte_orders.specs.Accesses.{Access}
-use Rattle.byte_orders.specs.Holdings.{Holding, beginning, crowd, pruned_at, with_begun, with_ended, with_reset, with_settled}
-use Rattle.byte_orders.specs.Runs.{AllMayCome, Event, MayCome, NoneBefore, Reads, Writes, Others, Ends, Resets, NoneOlderThan, Settles, Crowds, Run, changed_of, ending, run_after, run_next}
-use Rattle.byte_orders.proofs.Members.{from_map}
+use Rattle.byte_orders.specs.Holdings.{Holding, beginning, crowd, pruned_at, with_begun, with_reset, with_settled}
+use Rattle.byte_orders.specs.Runs.{AllMayCome, Event, MayCome, NoneBefore, Reads, Writes, Others, Resets, NoneOlderThan, Settles, Crowds, Run, run_after, run_next}
 use Rattle.value_memory.specs.ByteEvents.{AllKeepShort, ByteState, Goes, IsHeldBy, KeepsShort}
 
 -- ---- one list of events after another
@@ -57,30 +56,6 @@ same_work crowded run (x ∷ xs) short =
 pub NoneBefore-same : (oldest : ℕ) (old new : List Access) → new ≡ old → NoneBefore oldest old → NoneBefore oldest new
 NoneBefore-same oldest old new same none = let P : List Access → Type 0 = λ accesses. NoneBefore oldest accesses in subst P (sym same) none
 
--- an access that changes stays as old, and if it hasn't ended, it hadn't
-pub record StaysAsOld (f : Access → Access) : Type 0 where
-  pub begun : (a : Access) → (f a).begun ≡ a.begun
-  pub live : (a : Access) → (f a).ended ≡ None → a.ended ≡ None
-
-NoneBefore-map : (oldest : ℕ) (f : Access → Access) (accesses : List Access) → StaysAsOld f → NoneBefore oldest accesses → NoneBefore oldest (map f accesses)
-NoneBefore-map oldest f accesses stays none a there live =
-    let one = from_map f a accesses there in
-    let was : one.one.ended ≡ None = stays.live one.one (ap (λ (b : Access). b.ended) (sym one.holds) ∙ live) in
-    let same : a.begun ≡ one.one.begun = ap (λ (b : Access). b.begun) one.holds ∙ stays.begun one.one in
-    let older : oldest ≤ one.one.begun = none one.one one.there was in
-    omega (arith, same, older)
-
-ends_as_old : (now number : ℕ) → StaysAsOld (changed_of number (ending now))
-ends_as_old now number = record { begun = λ a. by_begun a (a.begun == number && is_none a.ended); live = λ a. by_live a (a.begun == number && is_none a.ended) }
-  where
-    by_begun : (a : Access) (b : Bool) → (if b then ending now a else a).begun ≡ a.begun
-    by_begun a true = refl
-    by_begun a false = refl
-
-    by_live : (a : Access) (b : Bool) → (if b then ending now a else a).ended ≡ None → a.ended ≡ None
-    by_live a true live = let never : Some now ≡ None = live in absurd (cc)
-    by_live a false live = live
-
 -- ---- a byte goes on
 
 pub goes_nowhere : (oldest : ℕ) (crowded : Bool) (state : ByteState) → Goes oldest crowded state state []
@@ -107,29 +82,6 @@ goes_after oldest crowded old between new events first next run held none =
       short_after = two.short_after;
       may_come = subst M (sym grouped) (both_may_come run early late one.may_come two.may_come);
       held = subst H (sym (ap (run_after run) grouped ∙ after_both run early late)) two.held;
-    }
-
--- first a request ends there, and then the list is kept short
-pub goes_from_end : (oldest number : ℕ) (old between new : ByteState) → between ≡ record old { held = with_ended number old.now old.held } → Goes oldest false between new []
-    → Goes oldest false old new (Ends number ∷ [])
-goes_from_end oldest number old between new is next run held none =
-    let ended : Run = run_next run (Ends number) in
-    let there : IsHeldBy between ended =
-    record {
-      held = rw (is, held.now, held.held) refl;
-      now = held.now ∙ ap (λ (s : ByteState). s.now) (sym is);
-      oldest = let same : between.oldest ≡ old.oldest = ap (λ (s : ByteState). s.oldest) is in omega (arith, held.oldest, same);
-    } in
-    let live : NoneBefore oldest ended.accesses = NoneBefore-map oldest (changed_of number (ending run.now)) run.accesses (ends_as_old run.now number) none in
-    let one = next ended there live in
-    let late : List Event = one.before ++ one.after in
-    record {
-      before = [];
-      after = late;
-      short_before = tt;
-      short_after = both_keep_short false one.before one.after one.short_before one.short_after;
-      may_come = (tt, one.may_come);
-      held = one.held;
     }
 
 -- its list is pruned, and begins anew where it has settled

@@ -5,7 +5,7 @@ use Rattle.std.specs.Prelude.{OnErr, OnOk}
 use Rattle.std.proofs.lemmas.Bool.{eq-eqb, eqb-true}
 use Rattle.std.proofs.lemmas.Bool.Decides.{eqb_tells, nat_tests}
 use Rattle.bus_words.specs.Lanes.{has_lane, lane_byte, word_address}
-use Rattle.byte_orders.specs.Holdings.{Holding, beginning, crowd, pruned_at as pruned_holdings, with_failed, with_reset, with_settled, with_begun, with_sure, with_value, without}
+use Rattle.byte_orders.specs.Holdings.{Holding, beginning, crowd, pruned_at as pruned_holdings, with_ended, with_failed, with_reset, with_settled, with_begun, with_sure, with_value, without}
 use Rattle.byte_orders.specs.Runs.{Ends, Event, Fails, Gives, LeavesOut, Resets, TakesEffect, Writes}
 use Rattle.byte_values.specs.Words.{WordList, changed_in, changed_word, known_byte, lane_list, pruned_word, settled_bytes}
 use Rattle.byte_values.specs.declared.change.Change.{Change}
@@ -20,7 +20,7 @@ use Rattle.value_memory.specs.ByteEvents.{ByteState, Goes}
 use Rattle.value_memory.specs.InsideValues.{IsCrowd, IsOfOne, IsPlaced, IsSoundMemory, KeepsRest, begun_table, held_changed, is_given_up, settled_in, shares_first, with_table}
 use Rattle.value_memory.specs.ValueMemory.{AllGo, KeepsCounts, KeepsPages, ValueState, byte_in, given_to, gives_at, held_by, held_in, lane_held, pages_of, rooms_in, settled_holding, shares_word, to_all, to_words}
 use Rattle.value_memory.specs.declared.ByteRange.{ByteRange}
-use Rattle.value_memory.proofs.Going.{IsQuiet, goes_after, goes_begun, goes_changed, goes_from_end, goes_nowhere, goes_older, goes_past_crowd, goes_reset, goes_reset_crowd, goes_tidied}
+use Rattle.value_memory.proofs.Going.{IsQuiet, goes_after, goes_begun, goes_changed, goes_nowhere, goes_older, goes_past_crowd, goes_reset, goes_reset_crowd, goes_tidied}
 use Rattle.value_memory.proofs.HeldLaws.{held-changed, held-listed, held-same, held-unlisted, lane-settled, lost-same}
 
 below_eight : (x : ℕ) → x % 8 < 8
@@ -168,20 +168,11 @@ fails_go m new range number counts held =
     words_go m new range (change.Fails number) (Fails number) counts held
     (λ x after is. goes_changed m.oldest (Fails number) (λ now hs. with_failed number hs) (byte_in m x) after (λ run. tt) (λ run. record { now = refl; oldest = refl }) (λ run. refl) is)
 
--- it ends on some words, and then lists are kept short
-pub ends_go : (m between new : ValueState) (range : ByteRange) (number : ℕ) → KeepsCounts m between
-    → ((x : ℕ) → held_in between x ≡ held_changed (change.Ends number m.begun) (shares_word range x) x (held_in m x)) → AllGo m.oldest false between new (to_all [])
-    → AllGo m.oldest false m new (to_words range (Ends number))
-ends_go m between new range number counts held tidies x = by_test (shares_word range x) refl
-  where
-    by_test : (b : Bool) → shares_word range x ≡ b → Goes m.oldest false (byte_in m x) (byte_in new x) (if b then Ends number ∷ [] else [])
-    by_test true test =
-        goes_from_end m.oldest number (byte_in m x) (byte_in between x) (byte_in new x)
-        (byte_with m between x _ counts (held x ∙ ap (λ t. held_changed (change.Ends number m.begun) t x (held_in m x)) test)) (tidies x)
-    by_test false test =
-        goes_after m.oldest false (byte_in m x) (byte_in between x) (byte_in new x) []
-        (goes_older m.oldest (byte_in m x) (byte_in between x) (held x ∙ ap (λ t. held_changed (change.Ends number m.begun) t x (held_in m x)) test) counts.begun (omega (arith, counts.oldest)))
-        (tidies x)
+pub ends_go : (m new : ValueState) (range : ByteRange) (number : ℕ) → KeepsCounts m new
+    → ((x : ℕ) → held_in new x ≡ held_changed (change.Ends number m.begun) (shares_word range x) x (held_in m x)) → AllGo m.oldest false m new (to_words range (Ends number))
+ends_go m new range number counts held =
+    words_go m new range (change.Ends number m.begun) (Ends number) counts held
+    (λ x after is. goes_changed m.oldest (Ends number) (λ now hs. with_ended number now hs) (byte_in m x) after (λ run. tt) (λ run. record { now = refl; oldest = refl }) (λ run. refl) is)
 
 -- ---- lists are kept short
 

@@ -208,10 +208,9 @@ pub failed-is : (number : ℕ) (range : ByteRange) (c after : Contents) → afte
 unfolding failed
 failed-is number range c after is = is
 
-pub ended-is : (number : ℕ) (range : ByteRange) (c between after : Contents) → between ≡ at_each_word (changed (change.Ends number c.begun)) range c
-    → after ≡ at_each_word tidied range between → after ≡ ended number range c
+pub ended-is : (number : ℕ) (range : ByteRange) (c after : Contents) → after ≡ at_each_word (changed (change.Ends number c.begun)) range c → after ≡ ended number range c
 unfolding ended
-ended-is number range c between after first next = next ∙ ap (at_each_word tidied range) first
+ended-is number range c after is = is
 
 pub oldest-is : (m : ValueState) (oldest : ℕ) → contents_of (record m { oldest = oldest }) ≡ with_oldest oldest (contents_of m)
 unfolding with_oldest

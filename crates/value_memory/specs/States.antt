@@ -209,13 +209,18 @@ made_sure number = at_each_word (changed (change.Sure number))
 unfoldable pub failed : ℕ → ByteRange → Contents → Contents
 failed number = at_each_word (changed (change.Fails number))
 
--- it ends, and then the lists of the words are tidied
+-- it ends
 unfoldable pub ended : ℕ → ByteRange → Contents → Contents
-ended number range c = at_each_word tidied range (at_each_word (changed (change.Ends number c.begun)) range c)
+ended number range c = at_each_word (changed (change.Ends number c.begun)) range c
 
 -- no request in flight has a smaller number than this
 unfoldable pub with_oldest : ℕ → Contents → Contents
 with_oldest oldest c = record c { oldest = oldest }
+
+-- the lists of the words of a range are tidied, if there is one
+abbrev pub kept_short : Option ByteRange → Contents → Contents
+kept_short None c = c
+kept_short (Some range) c = at_each_word tidied range c
 
 -- a reset
 unfoldable pub cut_off : Contents → Contents

@@ -13,7 +13,7 @@ ghost use Rattle.serial_memory.specs.SerialMemory.{can_fill, is_filled, is_good_
 ghost use Rattle.serial_memory.specs.declared.FillFault.TheVariants.{NoMemory, Place};
 ghost use Rattle.value_tables.specs.Tables.{list_at, lost_since, settled_at};
 ghost use Rattle.value_memory.specs.InsideValues.{BeginsBeside, BeginsElsewhere, BeginsThere, HasBegun, IsOfOne, KeepsRest, begun_table, finds_place, held_changed, is_full_list, is_given, is_given_up, settled_in, with_table};
-ghost use Rattle.value_memory.specs.States.{KeepsContents, after_each, at_each_word, begun_place, begun_word, changed, contents_of, cut_off, ended, failed, filled_with, given, is_crowded_until, is_crowded_word, made_sure, new_contents, settled_as, swept, tidied, tidied_beside, with_byte, with_oldest, with_place, with_request};
+ghost use Rattle.value_memory.specs.States.{KeepsContents, after_each, at_each_word, begun_place, begun_word, changed, contents_of, cut_off, ended, failed, filled_with, given, is_crowded_until, is_crowded_word, kept_short, made_sure, new_contents, settled_as, swept, tidied, tidied_beside, with_byte, with_oldest, with_place, with_request};
 ghost use Rattle.value_memory.specs.ValueMemory.{AllGo, IsByteRange, KeepsCounts, KeepsPages, begins, begins_reading, byte_in, gives_at, held_by, held_in, is_crowded_since, lane_held, pages_of, rooms_in, shares_word, to_all, to_words, word_count};
 
 use crate::ByteRange;
@@ -598,13 +598,10 @@ impl ValueMemory {
         ensures state { contents_of self.new ≡ ended number range (contents_of self.old) }
     {
         self.change_each(range, Change::Ends(number, self.begun));
-        self.tidy_each(range);
     }
 
-    /// No request in flight has a smaller number than this, which is none before that was said last, and at most one more than have
-    /// begun.
-    #[inline]
-    pub fn set_oldest(&mut self, oldest: u64)
+    /// No request in flight has a smaller number than this.
+    fn raise_oldest(&mut self, oldest: u64)
         requires from { self.old.oldest ≤ oldest }
         requires within { oldest ≤ self.old.begun + 1 }
         ensures goes { AllGo oldest false self.old self.new (to_all []) }
@@ -615,6 +612,26 @@ impl ValueMemory {
         ensures state { contents_of self.new ≡ with_oldest oldest (contents_of self.old) }
     {
         self.oldest = oldest;
+    }
+
+    /// No request in flight has a smaller number than this, which is none before that was said last, and at most one more than have
+    /// begun. Then the lists of the words of a range are kept short on which a request has ended, if it did on one.
+    pub fn set_oldest(&mut self, oldest: u64, ended: Option<ByteRange>)
+        requires from { self.old.oldest ≤ oldest }
+        requires within { oldest ≤ self.old.begun + 1 }
+        requires range { IfSome ended (λ range. IsByteRange range) }
+        ensures goes { AllGo oldest false self.old self.new (to_all []) }
+        ensures begun { self.new.begun ≡ self.old.begun }
+        ensures oldest { self.new.oldest ≡ oldest }
+        ensures crowds { self.new.crowds ≡ self.old.crowds }
+        ensures pages { KeepsPages self.old self.new }
+        ensures state { contents_of self.new ≡ kept_short ended (with_oldest oldest (contents_of self.old)) }
+    {
+        self.raise_oldest(oldest);
+        let Some(range) = ended else {
+            return;
+        };
+        self.tidy_each(range);
     }
 
     /// A reset cuts off all requests that haven't ended: each may have taken effect, and takes none later.

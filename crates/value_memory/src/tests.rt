@@ -57,7 +57,7 @@ fn give(memory: &mut ValueMemory, number: u64, address: u32, value: u64) {
 /// No request is in flight any more.
 fn all_have_ended(memory: &mut ValueMemory) {
     let next = memory.begun() + 1;
-    memory.set_oldest(next);
+    memory.set_oldest(next, None);
 }
 
 /// Which of some bytes a request that begins now may be told at an address, of lane 0.

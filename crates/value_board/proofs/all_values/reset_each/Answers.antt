@@ -1,12 +1,9 @@
 -- One client more.
-use Rattle.std.proofs.Common.{◌≡◌, ◌<◌, ◌∙◌, List, [], ◌∷◌, ap, length, map, refl, sym}
+use Rattle.std.proofs.Common.{◌<◌, ◌∙◌, List, ap, length, map, sym}
 use Rattle.scoreboard.proofs.held.Changed.{all_changed, changed_next}
+use Rattle.value_board.proofs.NumberLists.{map-same}
 use Rattle.value_board.specs.ClientValues.{ClientNumbers, reset_numbers}
 use Rattle.value_board.proofs.all_values.reset_each.Goals as goal
-
-same : (xs : List ClientNumbers) → map (λ (numbers : ClientNumbers). numbers) xs ≡ xs
-same [] = refl
-same (x ∷ xs) = ap (λ (ys : List ClientNumbers). x ∷ ys) (same xs)
 
 pub loop-client-preserved : goal.loop-client-preserved
 loop-client-preserved c =
@@ -18,7 +15,7 @@ loop-client-preserved c =
 
 pub returns : goal.returns
 returns c =
-    sym (same c.loop-client.clients)
+    sym (map-same c.loop-client.clients)
     ∙ c.loop-client.invariant
     ∙ all_changed (λ (numbers : ClientNumbers). numbers) reset_numbers c.args.clients.now c.loop-client.client-index c.loop-client-test.false
-    ∙ ap (λ (numbers : List ClientNumbers). map reset_numbers numbers) (same c.args.clients.now)
+    ∙ ap (λ (numbers : List ClientNumbers). map reset_numbers numbers) (map-same c.args.clients.now)

@@ -11,7 +11,7 @@ use Rattle.value_board.proofs.client_values.ClientValues.end.Goals as goal
 pub returns-in_default : goal.returns-in_default
 returns-in_default c =
     let inside = c.self.inside in
-    let view : ClientNumbers = record { by_source = inside.by_source.items; answering = inside.answering; coming = inside.coming; hidden = inside.hidden.items; live = inside.live.items } in
+    let view : ClientNumbers = record { by_source = inside.by_source.items; answering = inside.answering; coming = inside.coming; hidden = inside.hidden.items; struck = inside.struck; live = inside.live.items } in
     let test = λ (begun : Begun). begun.number == c.args.number in
     let none : position test inside.live.items ≡ None = ap (position test) (sym c.as_slice.ensures.value) ∙ sym c.place_of.ensures ∙ c.in_default.is in
     let stays : ClientNumbers → Type 0 = λ s. s ≡ record s { live = without_number c.args.number s.live } in
@@ -20,7 +20,7 @@ returns-in_default c =
 pub returns : goal.returns
 returns c =
     let inside = c.self.inside in
-    let view : ClientNumbers = record { by_source = inside.by_source.items; answering = inside.answering; coming = inside.coming; hidden = inside.hidden.items; live = inside.live.items } in
+    let view : ClientNumbers = record { by_source = inside.by_source.items; answering = inside.answering; coming = inside.coming; hidden = inside.hidden.items; struck = inside.struck; live = inside.live.items } in
     let test = λ (begun : Begun). begun.number == c.args.number in
     let found : position test inside.live.items ≡ Some c.in-Some.place = ap (position test) (sym c.as_slice.ensures.value) ∙ sym c.place_of.ensures ∙ c.in-Some.is in
     let leaves : ClientNumbers → Type 0 = λ s. record view { live = c.remove.new.self.items } ≡ record s { live = without_number c.args.number s.live } in
