@@ -1,7 +1,8 @@
 //! What a layer above asks of a board that judges payloads itself; nothing changes.
-ghost use Rattle.std.specs.Prelude.{◌≡◌, ◌≤◌, length, slice_get};
+ghost use Rattle.std.specs.Prelude.{◌≡◌, ◌≤◌, is_none, length, slice_get};
 ghost use Rattle.serial_memory.specs.SerialMemory.{place_at};
 ghost use Rattle.scoreboard.specs.AxiPorts.{port_wrong};
+ghost use Rattle.scoreboard.specs.Boards.{a_wrong};
 ghost use Rattle.scoreboard.specs.FailedBursts.{failed_span};
 ghost use Rattle.scoreboard.specs.InsideBoards.{board_of, footprint_of};
 ghost use Rattle.scoreboard.specs.Views.{begun_view, due_view, early_view, if_right, is_cut_short, left_view, span_answered};
@@ -12,7 +13,7 @@ use crate::failed_bursts::Span;
 use crate::footprint::Footprint;
 use crate::{Errors, Policy};
 use axi_checker::AxiBeat;
-use tl_messages::{DBeat, Operation, Request};
+use tl_messages::{ABeat, DBeat, Operation, Request};
 
 /// The next beat of a reply, and what its request does to the memory.
 #[derive(Clone, Copy, Debug, PartialEq, Eq)]
@@ -103,6 +104,17 @@ impl Scoreboard {
         match self.clients.get(usize::from(client)) {
             None => false,
             Some(found) => found.is_over(source),
+        }
+    }
+
+    /// Whether nothing is wrong with a beat on a client's channel A, as far as it is known, so that the board takes it.
+    #[inline]
+    pub fn takes(&self, client: u8, beat: &ABeat) -> bool
+        ensures { result ≡ is_none (a_wrong self.now.policy (slice_get (board_of self.now).clients client) beat.now) }
+    {
+        match self.clients.get(usize::from(client)) {
+            None => false,
+            Some(found) => found.judge(self.policy, beat).is_ok(),
         }
     }
 

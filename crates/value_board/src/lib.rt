@@ -2,10 +2,15 @@
 #![tactic(auto)]
 
 mod all_values;
+mod board;
 mod client_values;
 mod found;
 mod given;
 mod made;
 mod tellings;
+#[cfg(test)]
+mod tests;
 mod unknown;
 mod values;
+
+pub use board::{Judged, ValueBoard};
