@@ -1,6 +1,8 @@
 -- The numbers of a client's requests that haven't ended, where one of them ends.
-use Rattle.std.proofs.Common.{◌≡◌, ℕ, ◌+◌, ◌<◌, zero, suc, ◌==◌, Bool, true, false, List, [], ◌∷◌, map, length, if◌then◌else◌, refl, sym, ◌∙◌, ap, arith}
-use Rattle.std.proofs.lemmas.Bool.{eq-eqb, ne_eqb}
+use Rattle.std.proofs.Common.{◌≡◌, ℕ, ◌+◌, ◌<◌, zero, suc, ◌==◌, Bool, true, false, List, [], ◌∷◌, map, length, if◌then◌else◌, refl, ◌∙◌, ap, arith}
+use Rattle.std.specs.Prelude.{◌≤◌, ⊤}
+use Rattle.std.specs.List.{AllByRecursion}
+use Rattle.std.proofs.lemmas.Bool.{eq-eqb, eqb-false, eqb-true, ne_eqb}
 use Rattle.bus_words.specs.Places.{without_first}
 use Rattle.scoreboard.specs.Orders.{Entry, Order}
 use Rattle.scoreboard.specs.RealTime.{numbered}
@@ -50,3 +52,60 @@ alive_ended client first (suc place) change (entry ∷ now) small was ends other
         (if b then first ∷ alive_numbers client (first + 1) now else alive_numbers client (first + 1) now)
     by_test true is rest = rw (is, not_first) (ap (λ (numbers : List ℕ). first ∷ numbers) rest)
     by_test false is rest = rw is rest
+
+-- ---- they rise
+
+abbrev Rise : ℕ → List ℕ → Type 0
+Rise low [] = ⊤
+Rise low (number ∷ numbers) = (low ≤ number) × Rise (number + 1) numbers
+
+rise_lower : (lower low : ℕ) (numbers : List ℕ) → lower ≤ low → Rise low numbers → Rise lower numbers
+rise_lower lower low [] less rise = tt
+rise_lower lower low (number ∷ numbers) less rise = (omega (arith, less, rise.0), rise.1)
+
+alive_rise : (client first : ℕ) (now : Order) → Rise first (alive_numbers client first now)
+alive_rise client first [] = tt
+alive_rise client first (entry ∷ now) = by_test (is_alive client entry) (alive_rise client (first + 1) now)
+  where
+    by_test : (b : Bool) → Rise (first + 1) (alive_numbers client (first + 1) now)
+        → Rise first (if b then first ∷ alive_numbers client (first + 1) now else alive_numbers client (first + 1) now)
+    by_test true rise = (omega arith, rise)
+    by_test false rise = rise_lower first (first + 1) (alive_numbers client (first + 1) now) (omega arith) rise
+
+above : (number low : ℕ) (numbers : List ℕ) → number < low → Rise low numbers → AllByRecursion (λ other. other ≡ number → ⊥) numbers
+above number low [] less rise = tt
+above number low (first ∷ numbers) less rise =
+    (λ same. absurd (omega (arith, less, rise.0, same)), above number (first + 1) numbers (omega (arith, less, rise.0)) rise.1)
+
+none_left : (number low : ℕ) (numbers : List ℕ) → Rise low numbers → AllByRecursion (λ other. other ≡ number → ⊥) (without_first (λ n. n == number) numbers)
+none_left number low [] rise = tt
+none_left number low (first ∷ numbers) rise = by_test (first == number) refl (none_left number (first + 1) numbers rise.1)
+  where
+    by_test : (b : Bool) → (first == number) ≡ b → AllByRecursion (λ other. other ≡ number → ⊥) (without_first (λ n. n == number) numbers)
+        → AllByRecursion (λ other. other ≡ number → ⊥) (if b then numbers else first ∷ without_first (λ n. n == number) numbers)
+    by_test true is rest = let same = eqb-true first number is in above number (first + 1) numbers (omega (arith, same)) rise.1
+    by_test false is rest = (eqb-false first number is, rest)
+
+-- so none that is left has the number of the one that ended
+pub others_left : (client first number : ℕ) (now : Order) → AllByRecursion (λ other. other ≡ number → ⊥) (without_first (λ n. n == number) (alive_numbers client first now))
+others_left client first number now = none_left number first (alive_numbers client first now) (alive_rise client first now)
+
+-- what is true of each, is of each that is left, and that it isn't the one that ended
+pub all_left : (P : Begun → Type 0) (number : ℕ) (live : List Begun) → AllByRecursion P live
+    → AllByRecursion (λ other. other ≡ number → ⊥) (map (λ (begun : Begun). begun.number) (without_number number live))
+    → AllByRecursion (λ begun. P begun × (begun.number ≡ number → ⊥)) (without_number number live)
+all_left P number [] all none = tt
+all_left P number (begun ∷ live) all none = by_test (begun.number == number) (all_left P number live all.1) none
+  where
+    both : (rest : List Begun) → AllByRecursion P rest → AllByRecursion (λ other. other ≡ number → ⊥) (map (λ (other : Begun). other.number) rest)
+        → AllByRecursion (λ other. P other × (other.number ≡ number → ⊥)) rest
+    both [] each differ = tt
+    both (other ∷ rest) each differ = ((each.0, differ.0), both rest each.1 differ.1)
+
+    by_test : (b : Bool)
+        → (AllByRecursion (λ other. other ≡ number → ⊥) (map (λ (other : Begun). other.number) (without_number number live))
+        → AllByRecursion (λ other. P other × (other.number ≡ number → ⊥)) (without_number number live))
+        → AllByRecursion (λ other. other ≡ number → ⊥) (map (λ (other : Begun). other.number) (if b then live else begun ∷ without_number number live))
+        → AllByRecursion (λ other. P other × (other.number ≡ number → ⊥)) (if b then live else begun ∷ without_number number live)
+    by_test true rest differ = both live all.1 differ
+    by_test false rest differ = ((all.0, differ.0), rest differ.1)

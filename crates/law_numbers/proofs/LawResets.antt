@@ -1,18 +1,17 @@
 -- Where nothing has begun since the last reset, nothing is numbered: at the start, and after a reset.
-use Rattle.std.proofs.Common.{◌≡◌, ℕ, ◌+◌, ◌<◌, zero, suc, Bool, true, List, [], ◌∷◌, map, length, Option, Some, None, refl, sym, ◌∙◌, ap, subst, arith}
-use Rattle.std.specs.Prelude.{◌++◌, option_map, replicate}
+use Rattle.std.proofs.Common.{◌≡◌, ℕ, zero, suc, Bool, List, [], ◌∷◌, map, length, None, refl, sym, ◌∙◌, subst, arith}
+use Rattle.std.specs.Prelude.{◌++◌, replicate}
 use Rattle.std.proofs.lemmas.List.{length-append, length-map}
 use Rattle.setups.specs.Setups.{SetupLists}
 use Rattle.score_setup.specs.ScoreSetups.{RangeLists}
 use Rattle.scoreboard.specs.Boards.{Board}
 use Rattle.scoreboard.specs.Orders.{Entry}
 use Rattle.scoreboard.specs.declared.Errors.{Errors}
-use Rattle.value_memory.specs.States.{Contents, cut_off, new_contents}
+use Rattle.value_memory.specs.States.{cut_off}
 use Rattle.value_orders.specs.Histories as histories
 use Rattle.value_orders.specs.Histories.{Happening, History, Past, Reset, begun_by, entries_of, history_next, no_history}
 use Rattle.value_board.specs.AllValues.{ValuesState, first_values, numbers_of, with_reset}
 use Rattle.value_board.specs.ClientValues.{ClientNumbers, no_numbers, reset_numbers}
-use Rattle.value_board.specs.declared.client_values.Begun.{Begun}
 use Rattle.law_numbers.specs.Numbered.{AreNumbered, AreNumberedOf, IsTheOneThat}
 
 -- none passes a test, and none is known
@@ -62,6 +61,7 @@ reset_count cut over since =
 
 pub numbered_reset : (setup : SetupLists) (errors : Errors) (board : Board) (history : History) (v : ValuesState) → AreNumbered setup errors history v
     → AreNumbered setup errors (history_next setup board Reset history) (with_reset v)
+unfolding cut_off
 numbered_reset setup errors board history v are =
     record {
       begun = are.begun ∙ sym (reset_count (histories.cut_off (begun_by history)) history.over history.since);

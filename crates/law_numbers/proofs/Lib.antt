@@ -1,1 +1,6 @@
 pub mod LawKept
+pub mod LawLive
+pub mod LawResets
+pub mod LawEnds
+pub mod LawAnswered
+pub mod LawCut
