@@ -57,19 +57,19 @@ module _ (setup : SetupLists) (errors : Errors) (before : ℕ) (now : Order) (cl
     abbrev entry : Entry
     entry = numbered now place
 
-    begins : has_begun entry ≡ true
+    pub begins : has_begun entry ≡ true
     begins = (and_parts (entry.client == client) (has_begun entry) begun).1
 
-    its_own : entry.client ≡ client
+    pub its_own : entry.client ≡ client
     its_own = eqb-true entry.client client (and_parts (entry.client == client) (has_begun entry) begun).0
 
-    is_live : has_ended entry ≡ false
+    pub is_live : has_ended entry ≡ false
     is_live = let has = begins in grind (arith, has)
 
-    is_whole : entry.whole ≡ true
+    pub is_whole : entry.whole ≡ true
     is_whole = (begun_whole setup errors clients now fits client entry (fits.each place small) begun).0
 
-    not_ahead : (other : ℕ) → other < length now → (other ≡ place → ⊥) → begun_to client (numbered now other) ≡ false
+    pub not_ahead : (other : ℕ) → other < length now → (other ≡ place → ⊥) → begun_to client (numbered now other) ≡ false
     not_ahead other below differ =
         elim (cases_Bool (begun_to client (numbered now other))) [
           | inl its ↦ absurd (differ (one_begun place other small below begun its))

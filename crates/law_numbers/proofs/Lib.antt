@@ -4,3 +4,4 @@ pub mod LawResets
 pub mod LawEnds
 pub mod LawAnswered
 pub mod LawCut
+pub mod LawBegun
