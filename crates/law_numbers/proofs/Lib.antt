@@ -5,3 +5,4 @@ pub mod LawEnds
 pub mod LawAnswered
 pub mod LawCut
 pub mod LawBegun
+pub mod LawSpoiled
