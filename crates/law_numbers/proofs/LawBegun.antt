@@ -97,3 +97,28 @@ module _ (setup : SetupLists) (errors : Errors) (before : ℕ) (now : Order) (cl
                   stands_came other (numbered now k) (with_beat true client source (numbered now k)) (all_same k below)
                   (ap (λ (e : Entry). e.came) (others_stay k below differ))
             ]
+
+  -- a beat of another source, to which no reply is due
+  pub numbered_away : (its.request.source == source) ≡ false → AreAllNumbered setup errors before (map (with_beat true client source) now) v.clients
+  numbered_away away other =
+      numbered_kept setup errors before now (with_beat true client source) other (numbers_of v.clients other) all_same
+      (λ k below. stands_came other (numbered now k) (with_beat true client source (numbered now k)) (all_same k below) (ap (λ (e : Entry). e.came) (stays k below)))
+      (are other)
+    where
+      its_stays : with_beat true client source its ≡ its
+      its_stays = rw (begun, away) refl
+
+      stays : (k : ℕ) → k < length now → with_beat true client source (numbered now k) ≡ numbered now k
+      stays k below =
+          elim (cases_eq k place) [
+            | inl is ↦ subst (λ n. with_beat true client source (numbered now n) ≡ numbered now n) (sym is) its_stays
+            | inr differ ↦ others_stay k below differ
+          ]
+
+      all_same : (k : ℕ) → k < length now → IsSameRequest (numbered now k) (with_beat true client source (numbered now k))
+      all_same k below =
+          record {
+            client = ap (λ (e : Entry). e.client) (stays k below);
+            request = ap (λ (e : Entry). e.request) (stays k below);
+            whole = ap (λ (e : Entry). e.whole) (stays k below);
+          }
