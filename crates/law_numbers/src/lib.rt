@@ -1,3 +1,2 @@
-//! How what a memory of values holds of each byte goes along with all that happened, so that what it blames is wrong in every order:
-//! definitions, and what follows of them.
+//! How the numbers that a board of values gives to requests go along with all that happened: definitions, and what follows of them.
 #![tactic(auto)]
