@@ -4,7 +4,7 @@ use Rattle.std.specs.Fmt.{digits}
 use Rattle.bus_words.specs.Text.{hex}
 use Rattle.axi_beats.specs.Bursts.{WriteBurst, ReadBurst, is_legal}
 use Rattle.axi_beats.specs.Lines.{aw_text, ar_text, w_text, b_text, r_text}
-use Rattle.axi_beats.specs.Transfers.{transfer_address, lowest_lane, highest_lane, last_byte, in_one_page, transfer_addresses}
+use Rattle.axi_beats.specs.Transfers.{all_lanes, transfer_address, lowest_lane, highest_lane, last_byte, in_one_page, transfer_addresses}
 use Rattle.axi_beats.specs.declared.AwBeat.{AwBeat}
 use Rattle.axi_beats.specs.declared.ArBeat.{ArBeat}
 use Rattle.axi_beats.specs.declared.WBeat.{WBeat}
@@ -53,12 +53,15 @@ unfolding hex digits
 line_of_r = refl
 
 write_is_legal : is_legal 8 (WriteBurst aw_of_eight (w_of_eight ∷ [])) ≡ true
+unfolding all_lanes
 write_is_legal = refl
 
 write_of_one_is_legal : is_legal 8 (WriteBurst aw_of_one (w_of_one ∷ [])) ≡ true
+unfolding all_lanes
 write_of_one_is_legal = refl
 
 write_without_strobes_is_legal : is_legal 8 (WriteBurst aw_of_eight (record { payload = 0; strobes = 0; last = true } ∷ [])) ≡ true
+unfolding all_lanes
 write_without_strobes_is_legal = refl
 
 half_page_is_legal : is_legal 8 (ReadBurst ar_of_half_page) ≡ true
@@ -68,18 +71,23 @@ eight_bytes_on_a_bus_of_four : is_legal 4 (ReadBurst ar_of_half_page) ≡ false
 eight_bytes_on_a_bus_of_four = refl
 
 two_datas_for_one_transfer : is_legal 8 (WriteBurst aw_of_eight (w_of_eight ∷ w_of_eight ∷ [])) ≡ false
+unfolding all_lanes
 two_datas_for_one_transfer = refl
 
 no_data_for_one_transfer : is_legal 8 (WriteBurst aw_of_eight []) ≡ false
+unfolding all_lanes
 no_data_for_one_transfer = refl
 
 strobe_outside_the_transfer : is_legal 8 (WriteBurst aw_of_one (record w_of_one { strobes = 0x10 } ∷ [])) ≡ false
+unfolding all_lanes
 strobe_outside_the_transfer = refl
 
 unaligned_write_is_legal : is_legal 8 (WriteBurst aw_unaligned (record { payload = 0; strobes = 0x08; last = false } ∷ record { payload = 0; strobes = 0xf0; last = true } ∷ [])) ≡ true
+unfolding all_lanes
 unaligned_write_is_legal = refl
 
 strobe_below_an_unaligned_start : is_legal 8 (WriteBurst aw_unaligned (record { payload = 0; strobes = 0x04; last = false } ∷ record { payload = 0; strobes = 0xf0; last = true } ∷ [])) ≡ false
+unfolding all_lanes
 strobe_below_an_unaligned_start = refl
 
 second_half_of_a_page : transfer_address 0x11000 3 256 ≡ 0x117f8
@@ -99,3 +107,25 @@ lanes_of_an_unaligned_start = refl
 
 bytes_of_a_transfer_on_a_bus_of_four : transfer_addresses 4 0x1000c 2 1 ≡ 0x1000c ∷ 0x1000d ∷ 0x1000e ∷ 0x1000f ∷ []
 bytes_of_a_transfer_on_a_bus_of_four = refl
+
+lanes_of_a_narrow_transfer_on_a_bus_of_64 : (lowest_lane 64 0x10024 2 1 ∷ highest_lane 64 0x10024 2 1 ∷ lowest_lane 64 0x1003c 2 2 ∷ highest_lane 64 0x1003c 2 2 ∷ []) ≡ 36 ∷ 39 ∷ 0 ∷ 3 ∷ []
+lanes_of_a_narrow_transfer_on_a_bus_of_64 = refl
+
+lanes_of_a_whole_transfer_on_a_bus_of_128 : (lowest_lane 128 0x10003 7 1 ∷ highest_lane 128 0x10003 7 1 ∷ lowest_lane 128 0x10003 7 2 ∷ highest_lane 128 0x10003 7 2 ∷ []) ≡ 3 ∷ 127 ∷ 0 ∷ 127 ∷ []
+lanes_of_a_whole_transfer_on_a_bus_of_128 = refl
+
+-- a write of 16 bytes at 10010 on a bus of 32
+abbrev aw_of_sixteen : AwBeat
+aw_of_sixteen = record { id = 0; address = 0x10010; len = 0; size = 4; burst = 1 }
+
+upper_half_of_a_bus_of_32 : is_legal 32 (WriteBurst aw_of_sixteen (record { payload = 0; strobes = 0xffff0000; last = true } ∷ [])) ≡ true
+unfolding all_lanes
+upper_half_of_a_bus_of_32 = refl
+
+strobe_in_the_lower_half_of_a_bus_of_32 : is_legal 32 (WriteBurst aw_of_sixteen (record { payload = 0; strobes = 0xffff8000; last = true } ∷ [])) ≡ false
+unfolding all_lanes
+strobe_in_the_lower_half_of_a_bus_of_32 = refl
+
+sixteen_bytes_on_a_bus_of_eight : is_legal 8 (WriteBurst aw_of_sixteen (record { payload = 0; strobes = 0xffff0000; last = true } ∷ [])) ≡ false
+unfolding all_lanes
+sixteen_bytes_on_a_bus_of_eight = refl

@@ -1,4 +1,5 @@
 mod Examples
+pub mod LaneSets
 pub mod Ranges
 pub mod Sizes
 pub mod TransferLaws

@@ -1,38 +1,35 @@
 -- The laws of a burst's transfers: each lies in one word of the bus, one begins where the one before stops, and together they cover the burst.
-use Rattle.std.proofs.Common.{◌≡◌, ℕ, zero, suc, ◌+◌, ◌-◌, ◌*◌, ◌/◌, ◌%◌, ◌^◌, ◌<◌, ◌≤◌, inl, inr, true, ap, arith}
-use Rattle.std.proofs.Math.Nat.{add-mul}
-use Rattle.std.proofs.Math.Pow.{pow_mono}
+use Rattle.std.proofs.Common.{◌≡◌, ℕ, zero, suc, ◌+◌, ◌-◌, ◌*◌, ◌/◌, ◌%◌, ◌^◌, ◌<◌, ◌≤◌, true, ap, sym, ◌∙◌, arith}
+use Rattle.std.proofs.Math.Nat.{add-mul, mul_assoc}
 use Rattle.std.specs.Prelude.{nat_le, if◌then◌else◌}
 use Rattle.std.specs.List.{range_with_len}
 use Rattle.std.proofs.lemmas.Bool.Decides.{nat_tests}
 use Rattle.std.proofs.lemmas.Bool.{leb-true, lt-leb, le-leb, and_parts, and_from}
-use Rattle.std.proofs.lemmas.Nat.{pow_pos, mod_below, div-add-mod', mod-mul-add, mul-le}
-use Rattle.axi_beats.specs.Transfers.{IsBusWidth, fits_bus, aligned_address, transfer_bytes, transfer_address, transfer_end, lowest_lane, highest_lane, covers_lane, lane_address, last_byte, transfer_addresses, TransfersCoverOnce}
+use Rattle.std.proofs.lemmas.Nat.{pow_pos, pow-add, mod_below, div-add-mod', mod-mul-add, mul-le, shr-shr, shr_high}
+use Rattle.axi_beats.specs.Transfers.{IsPortWidth, fits_bus, aligned_address, transfer_bytes, transfer_address, transfer_end, lowest_lane, highest_lane, covers_lane, lane_address, last_byte, transfer_addresses, TransfersCoverOnce}
+use Rattle.axi_beats.proofs.Sizes.{port_width_is, size_below}
 use Rattle.axi_beats.proofs.Ranges.{map-add-filter-is_between, flat_map-range_with_len}
 
--- a piece of memory of 1, 2 or 4 bytes, at a multiple of its bytes, stops in the word of four bytes in which any of it begins
-held_at_4 : (size q r : ℕ) → 2 ^ size ≤ 4 → r < 2 ^ size → q * 2 ^ size + 2 ^ size ≤ (q * 2 ^ size + r) / 4 * 4 + 4
-held_at_4 zero q r fits within = omega arith
-held_at_4 (suc zero) q r fits within = omega arith
-held_at_4 (suc (suc zero)) q r fits within = omega arith
-held_at_4 (suc (suc (suc k))) q r fits within = absurd (omega (arith, pow_mono {i = 3} {j = suc (suc (suc k))} (omega arith)))
+-- a piece of memory of 2 ^ size bytes, at a multiple of its bytes, stops in the word of as many pieces, or more of them, in which any of it begins
+held_in : (size k q r : ℕ) → r < 2 ^ size → q * 2 ^ size + 2 ^ size ≤ (q * 2 ^ size + r) / 2 ^ (size + k) * 2 ^ (size + k) + 2 ^ (size + k)
+held_in size k q r within =
+    let pieces = q / 2 ^ k in
+    let word : (q * 2 ^ size + r) / 2 ^ (size + k) ≡ pieces = sym (shr-shr (q * 2 ^ size + r) size k) ∙ ap (λ n. n / 2 ^ k) (shr_high q size r within) in
+    let more : (q + 1) * 2 ^ size ≤ (pieces * 2 ^ k + 2 ^ k) * 2 ^ size =
+    mul-le (q + 1) (2 ^ size) (pieces * 2 ^ k + 2 ^ k) (2 ^ size) (omega (arith, div-add-mod' q (2 ^ k), mod_below q (2 ^ k) (pow_pos k))) (omega arith) in
+    let piece : (q + 1) * 2 ^ size ≡ q * 2 ^ size + 2 ^ size = add-mul q 1 (2 ^ size) ∙ omega arith in
+    let whole : 2 ^ (size + k) ≡ 2 ^ k * 2 ^ size = ap (λ n. 2 ^ n) (omega arith) ∙ pow-add 2 k size in
+    let words : (pieces * 2 ^ k + 2 ^ k) * 2 ^ size ≡ pieces * 2 ^ (size + k) + 2 ^ (size + k) =
+    add-mul (pieces * 2 ^ k) (2 ^ k) (2 ^ size) ∙ rw whole (omega (arith, mul_assoc pieces (2 ^ k) (2 ^ size))) in
+    rw word (omega (arith, more, piece, words))
 
--- a piece of memory of 1, 2, 4 or 8 bytes, at a multiple of its bytes, stops in the word of eight bytes in which any of it begins
-held_at_8 : (size q r : ℕ) → 2 ^ size ≤ 8 → r < 2 ^ size → q * 2 ^ size + 2 ^ size ≤ (q * 2 ^ size + r) / 8 * 8 + 8
-held_at_8 zero q r fits within = omega arith
-held_at_8 (suc zero) q r fits within = omega arith
-held_at_8 (suc (suc zero)) q r fits within = omega arith
-held_at_8 (suc (suc (suc zero))) q r fits within = omega arith
-held_at_8 (suc (suc (suc (suc k)))) q r fits within = absurd (omega (arith, pow_mono {i = 4} {j = suc (suc (suc (suc k)))} (omega arith)))
-
--- the same at either width of the bus
-held_at : (bus_bytes size q r : ℕ) → IsBusWidth bus_bytes → fits_bus bus_bytes size ≡ true → r < 2 ^ size → q * 2 ^ size + 2 ^ size ≤ (q * 2 ^ size + r) / bus_bytes * bus_bytes + bus_bytes
+-- the same at each width of the bus
+held_at : (bus_bytes size q r : ℕ) → IsPortWidth bus_bytes → fits_bus bus_bytes size ≡ true → r < 2 ^ size → q * 2 ^ size + 2 ^ size ≤ (q * 2 ^ size + r) / bus_bytes * bus_bytes + bus_bytes
 held_at bus_bytes size q r width fits within =
-    let small : 2 ^ size ≤ bus_bytes = leb-true (2 ^ size) bus_bytes fits in
-    elim width [
-      | inl e ↦ rw e (held_at_4 size q r (omega arith) within)
-      | inr e ↦ rw e (held_at_8 size q r (omega arith) within)
-    ]
+    let power = port_width_is bus_bytes width in
+    let small = size_below power.0 size (rw power.1 at fits) in
+    let split : bus_bytes ≡ 2 ^ (size + (power.0 - size)) = power.1 ∙ ap (λ n. 2 ^ n) (omega arith) in
+    rw split (held_in size (power.0 - size) q r within)
 
 -- how many pieces of memory of a transfer's size lie before transfer n
 abbrev pieces_before : ℕ → ℕ → ℕ → ℕ
@@ -86,7 +83,7 @@ pub transfer_address_le_transfer_end : (start size n : ℕ) → 1 ≤ n → tran
 transfer_address_le_transfer_end start size n one = omega (arith, transfer_address_is start size n one, transfer_end_is start size n one, begins_within start size n)
 
 -- a transfer stops in the bus's word that it begins in
-transfer_held : (bus_bytes start size n : ℕ) → IsBusWidth bus_bytes → fits_bus bus_bytes size ≡ true → 1 ≤ n → transfer_end start size n < transfer_address start size n / bus_bytes * bus_bytes + bus_bytes
+transfer_held : (bus_bytes start size n : ℕ) → IsPortWidth bus_bytes → fits_bus bus_bytes size ≡ true → 1 ≤ n → transfer_end start size n < transfer_address start size n / bus_bytes * bus_bytes + bus_bytes
 transfer_held bus_bytes start size n width fits one =
     rw (transfer_address_is start size n one) (omega (arith, transfer_end_is start size n one, held_at bus_bytes size (pieces_before start size n) (begins_at start size n) width fits (begins_within start size n)))
 
@@ -113,19 +110,19 @@ lowest_lane_le_highest_lane bus_bytes start size n one =
     omega (arith, lane_address-lowest_lane bus_bytes start size n, lane_address-highest_lane bus_bytes start size n one, transfer_address_le_transfer_end start size n one)
 
 -- the highest lane of a transfer is a lane of the bus
-pub highest_lane_lt_bus_bytes : (bus_bytes start size n : ℕ) → IsBusWidth bus_bytes → fits_bus bus_bytes size ≡ true → 1 ≤ n → highest_lane bus_bytes start size n < bus_bytes
+pub highest_lane_lt_bus_bytes : (bus_bytes start size n : ℕ) → IsPortWidth bus_bytes → fits_bus bus_bytes size ≡ true → 1 ≤ n → highest_lane bus_bytes start size n < bus_bytes
 highest_lane_lt_bus_bytes bus_bytes start size n width fits one =
     omega (arith, lane_address-highest_lane bus_bytes start size n one, transfer_held bus_bytes start size n width fits one)
 
 -- a transfer covers the bytes from its first to its last, in order
-pub transfer_addresses_are : (bus_bytes start size n : ℕ) → IsBusWidth bus_bytes → fits_bus bus_bytes size ≡ true → 1 ≤ n
+pub transfer_addresses_are : (bus_bytes start size n : ℕ) → IsPortWidth bus_bytes → fits_bus bus_bytes size ≡ true → 1 ≤ n
     → transfer_addresses bus_bytes start size n ≡ range_with_len (transfer_address start size n) (transfer_end start size n + 1 - transfer_address start size n)
 transfer_addresses_are bus_bytes start size n width fits one =
     map-add-filter-is_between (transfer_address start size n / bus_bytes * bus_bytes) _ _ bus_bytes _ _ (lane_address-lowest_lane bus_bytes start size n)
     (lane_address-highest_lane bus_bytes start size n one) (lowest_lane_le_highest_lane bus_bytes start size n one) (highest_lane_lt_bus_bytes bus_bytes start size n width fits one)
 
 -- the transfers of a burst cover its bytes from the start to the last byte, each once and in order
-pub transfers_cover_once : (bus_bytes start len size : ℕ) → IsBusWidth bus_bytes → fits_bus bus_bytes size ≡ true → TransfersCoverOnce bus_bytes start len size (last_byte start len size)
+pub transfers_cover_once : (bus_bytes start len size : ℕ) → IsPortWidth bus_bytes → fits_bus bus_bytes size ≡ true → TransfersCoverOnce bus_bytes start len size (last_byte start len size)
 transfers_cover_once bus_bytes start len size width fits =
     let order : 1 + (len + 1) ≡ len + 1 + 1 = omega arith in
     let after_all : transfer_address start size (1 + (len + 1)) ≡ last_byte start len size + 1 = rw order (transfer_address-next start size (len + 1) (omega arith)) in
@@ -144,7 +141,7 @@ covers_lane_means bus_bytes start size n lane covered =
     (leb-true _ _ parts.0, leb-true _ _ parts.1)
 
 -- the byte at the address that a covered lane holds travels in that lane
-pub mod-lane_address : (bus_bytes start size n lane : ℕ) → IsBusWidth bus_bytes → fits_bus bus_bytes size ≡ true → 1 ≤ n → covers_lane bus_bytes start size n lane ≡ true
+pub mod-lane_address : (bus_bytes start size n lane : ℕ) → IsPortWidth bus_bytes → fits_bus bus_bytes size ≡ true → 1 ≤ n → covers_lane bus_bytes start size n lane ≡ true
     → lane_address bus_bytes start size n lane % bus_bytes ≡ lane
 mod-lane_address bus_bytes start size n lane width fits one covered =
     let within = covers_lane_means bus_bytes start size n lane covered in
@@ -168,7 +165,7 @@ rest_above q w x low high =
     omega arith
 
 -- the lane of a byte of the transfer holds that byte
-pub lane_address-mod : (bus_bytes start size n x : ℕ) → IsBusWidth bus_bytes → fits_bus bus_bytes size ≡ true → 1 ≤ n → transfer_address start size n ≤ x → x ≤ transfer_end start size n
+pub lane_address-mod : (bus_bytes start size n x : ℕ) → IsPortWidth bus_bytes → fits_bus bus_bytes size ≡ true → 1 ≤ n → transfer_address start size n ≤ x → x ≤ transfer_end start size n
     → lane_address bus_bytes start size n (x % bus_bytes) ≡ x
 lane_address-mod bus_bytes start size n x width fits one low high =
     let first = lane_address-lowest_lane bus_bytes start size n in
@@ -176,7 +173,7 @@ lane_address-mod bus_bytes start size n x width fits one low high =
     rest_above (transfer_address start size n / bus_bytes) bus_bytes x (omega arith) (omega arith)
 
 -- a transfer covers the lane of each of its bytes
-pub covers_lane-mod : (bus_bytes start size n x : ℕ) → IsBusWidth bus_bytes → fits_bus bus_bytes size ≡ true → 1 ≤ n → transfer_address start size n ≤ x → x ≤ transfer_end start size n
+pub covers_lane-mod : (bus_bytes start size n x : ℕ) → IsPortWidth bus_bytes → fits_bus bus_bytes size ≡ true → 1 ≤ n → transfer_address start size n ≤ x → x ≤ transfer_end start size n
     → covers_lane bus_bytes start size n (x % bus_bytes) ≡ true
 covers_lane-mod bus_bytes start size n x width fits one low high =
     let first = lane_address-lowest_lane bus_bytes start size n in

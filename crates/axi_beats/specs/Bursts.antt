@@ -2,9 +2,9 @@
 -- this project's profile: INCR alone, and a write has all its data).
 use Rattle.std.specs.Prelude.{ℕ, ◌+◌, ◌==◌, Bool, ◌&&◌, ◌||◌, not, List, length, IsTrue, nat_lt}
 use Rattle.std.specs.Bool.{beq}
-use Rattle.std.specs.List.{list_all, enumerate_from, range_with_len}
+use Rattle.std.specs.List.{list_all, enumerate_from}
 use Rattle.bus_words.specs.Lanes.{has_lane}
-use Rattle.axi_beats.specs.Transfers.{covers_lane, in_one_page, fits_bus}
+use Rattle.axi_beats.specs.Transfers.{covers_lane, in_one_page, fits_bus, all_lanes}
 use Rattle.axi_beats.specs.declared.AwBeat.{AwBeat}
 use Rattle.axi_beats.specs.declared.ArBeat.{ArBeat}
 use Rattle.axi_beats.specs.declared.WBeat.{WBeat}
@@ -17,7 +17,7 @@ pub data Burst : Type 0 where
 -- whether all strobes are in lanes that transfer n covers
 abbrev pub strobes_fit : ℕ → AwBeat → ℕ → ℕ → Bool
 strobes_fit bus_bytes aw n strobes =
-    list_all (λ lane. not (has_lane strobes lane) || covers_lane bus_bytes aw.address aw.size n lane) (range_with_len 0 8)
+    list_all (λ lane. not (has_lane strobes lane) || covers_lane bus_bytes aw.address aw.size n lane) all_lanes
 
 -- whether an address beat is legal: its transfers fit the bus, its type is INCR, it has at most 256 transfers and stays in one page
 abbrev pub is_legal_address : ℕ → ℕ → ℕ → ℕ → ℕ → Bool

@@ -1,12 +1,21 @@
 -- The transfers of an INCR burst (AXI4, A3.4.1, burst address): Start_Address, Number_Bytes, Aligned_Address, Address_N, Lower_Byte_Lane and Upper_Byte_Lane.
--- A transfer's number counts from 1. `bus_bytes` is Data_Bus_Bytes, the bus's width in bytes, here 4 or 8.
+-- A transfer's number counts from 1. `bus_bytes` is Data_Bus_Bytes, the bus's width in bytes.
 use Rattle.std.specs.Prelude.{◌≡◌, ℕ, ◌+◌, ◌-◌, ◌*◌, ◌/◌, ◌%◌, ◌^◌, ◌==◌, ◌⊎◌, Bool, List, if◌then◌else◌, nat_le, map, filter, flat_map}
 use Rattle.std.specs.List.{range_with_len}
 use Rattle.bus_words.specs.Lanes.{is_between}
 
--- how many bytes a bus may have
+-- how many bytes the bus of this project's bridge may have
 abbrev pub IsBusWidth : ℕ → Type 0
 IsBusWidth bus_bytes = (bus_bytes ≡ 4) ⊎ (bus_bytes ≡ 8)
+
+-- how many bytes the bus of any port may have, of those that AXI4 allows (A1.3.1) and that have a word of four bytes
+abbrev pub IsPortWidth : ℕ → Type 0
+IsPortWidth bus_bytes =
+    IsBusWidth bus_bytes ⊎ ((bus_bytes ≡ 16) ⊎ ((bus_bytes ≡ 32) ⊎ ((bus_bytes ≡ 64) ⊎ (bus_bytes ≡ 128))))
+
+-- the lanes of the widest bus: those that a set of lanes may have
+unfoldable pub all_lanes : List ℕ
+all_lanes = range_with_len 0 128
 
 -- the bytes of a transfer, Number_Bytes
 abbrev pub transfer_bytes : ℕ → ℕ

@@ -1,16 +1,19 @@
 //! AXI4 beats as plain values, the transfers of a burst, a box that holds one burst, and the beats' lines in a trace.
 //!
-//! The rules are those of AMBA AXI4 (Arm IHI 0022). This project's profile takes INCR bursts alone, on a bus of 4 or
-//! 8 bytes, and leaves out the signals LOCK, CACHE, PROT, QOS, REGION and USER.
+//! The rules are those of AMBA AXI4 (Arm IHI 0022). This project's profile takes INCR bursts alone, and leaves out the
+//! signals LOCK, CACHE, PROT, QOS, REGION and USER. The bridge's bus has 4 or 8 bytes; the transfers and lanes are those of
+//! any bus of 4 to 128.
 #![tactic(auto)]
 
 mod burst_box;
 mod lines;
 mod transfers;
+mod wide_data;
 
 pub use burst_box::{BurstBox, MAX_TRANSFERS};
 pub use lines::{ar_line, aw_line, b_line, r_line, w_line};
 pub use transfers::{lanes_of, last_byte, transfer_address};
+pub use wide_data::{WideWBeat, lanes_through, share_a_lane};
 
 /// The response to a write burst or to a transfer of a read burst (AXI4, A3.4.4).
 #[derive(Clone, Copy, Debug, PartialEq, Eq)]

@@ -2,6 +2,7 @@
 use Rattle.std.proofs.Common.{◌≡◌, ℕ, Bool, true, false, [], ◌∷◌, map, refl}
 use Rattle.std.specs.Prelude.{None, Some}
 use Rattle.axi_beats.specs.Bursts.{WriteBurst}
+use Rattle.axi_beats.specs.Transfers.{all_lanes}
 use Rattle.axi_beats.specs.declared.AwBeat.{AwBeat}
 use Rattle.axi_beats.specs.declared.Resp.{Resp}
 use Rattle.axi_beats.specs.declared.Resp.TheVariants.{Okay, ExOkay as ExOkayResp}
@@ -39,13 +40,16 @@ writes :
     ((OnAw (aw 0x10003 1 2) ∷ w 0x10 false ∷ []) ∷ (OnAw (aw 0x10003 1 2) ∷ w 0x08 false ∷ w 0xf0 true ∷ []) ∷ (OnAw (aw 0x10000 1 3) ∷ w 0xff false ∷ b 0 ∷ [])
     ∷ (OnAw (aw 0x10000 1 3) ∷ w 0xff false ∷ w 0xff false ∷ []) ∷ [])
     ≡ Some Strobe ∷ None ∷ Some BWithoutWrite ∷ Some WLast ∷ []
+unfolding all_lanes
 writes = refl
 
 burst_of_one_data_for_two : burst_fault port nothing_open (WriteBurst (aw 0x10000 1 3) (record { payload = 0; strobes = 0xff; last = false } ∷ [])) ≡ Some WLast
+unfolding all_lanes
 burst_of_one_data_for_two = refl
 
 burst_of_two_datas_for_one : burst_fault port nothing_open (WriteBurst (aw 0x10000 0 3) (record { payload = 0; strobes = 0xff; last = true } ∷ record { payload = 0; strobes = 0xff; last = true } ∷ []))
     ≡ Some WWithoutAw
+unfolding all_lanes
 burst_of_two_datas_for_one = refl
 
 -- a response of an ID that isn't there, one to nothing, and data of no read
@@ -71,4 +75,17 @@ on_a_bus_of_four :
     map (first_axi_fault narrow_port nothing_open)
     ((OnAw (aw 0x10008 0 3) ∷ []) ∷ (OnAw (aw 0x10008 1 2) ∷ w 0x0f false ∷ w 0x0f true ∷ []) ∷ (OnAw (aw 0x10008 1 2) ∷ w 0x0f false ∷ w 0xf0 true ∷ []) ∷ [])
     ≡ Some Size ∷ None ∷ Some Strobe ∷ []
+unfolding all_lanes
 on_a_bus_of_four = refl
+
+-- 128 bytes on a bus of 64, 96 bytes that begin in the middle of it, a strobe below these, and one past a narrow transfer
+abbrev wide_port : AxiPortLimits
+wide_port = record port { bus_bytes = 64 }
+
+on_a_bus_of_64 :
+    map (first_axi_fault wide_port nothing_open)
+    ((OnAw (aw 0x10000 0 7) ∷ []) ∷ (OnAw (aw 0x10020 1 6) ∷ w 0xffffffff00000000 false ∷ w 0xffffffffffffffff true ∷ [])
+    ∷ (OnAw (aw 0x10020 1 6) ∷ w 0xffffffff80000000 false ∷ []) ∷ (OnAw (aw 0x10004 0 2) ∷ w 0x1f0 true ∷ []) ∷ [])
+    ≡ Some Size ∷ None ∷ Some Strobe ∷ Some Strobe ∷ []
+unfolding all_lanes
+on_a_bus_of_64 = refl

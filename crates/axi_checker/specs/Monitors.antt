@@ -2,7 +2,7 @@
 use Rattle.std.specs.Prelude.{◌≡◌, ℕ, ◌+◌, ◌*◌, ◌<◌, ◌≤◌, ◌==◌, true, false, List, [], ◌∷◌, length, filter, slice_index, sum_by, take, Option, Some, None, if◌then◌else◌}
 use Rattle.std.specs.Option.{option_or}
 use Rattle.std.specs.List.{AllByRecursion}
-use Rattle.axi_beats.specs.Transfers.{IsBusWidth, fits_bus}
+use Rattle.axi_beats.specs.Transfers.{IsPortWidth, fits_bus}
 use Rattle.axi_beats.specs.declared.WBeat.{WBeat}
 use Rattle.bus_words.specs.Tables.{first_broken}
 use Rattle.axi_checker.specs.OpenBursts.{OpenBursts, OpenWrite, OpenRead, lacks_data}
@@ -64,7 +64,7 @@ pub record IsWithinLimits (port : AxiPortLimits) (open_bursts : OpenBursts) : Ty
 -- a monitor of a bus that there is, of at most 256 IDs and depth 512, 8,192 bursts in all on a side, within these limits, with room for as many
 -- bursts on each side as they allow
 pub record IsSoundMonitor (state : MonitorState) (room_of_writes room_of_reads : ℕ) : Type 0 where
-  pub bus : IsBusWidth state.port.bus_bytes
+  pub bus : IsPortWidth state.port.bus_bytes
   pub most_ids : state.port.ids ≤ 256
   pub most_depth : state.port.depth ≤ 512
   pub most : state.port.ids * state.port.depth ≤ 8192

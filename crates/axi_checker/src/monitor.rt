@@ -2,7 +2,7 @@
 ghost use Rattle.std.specs.Prelude.{◌≡◌, ℕ, ◌+◌, ◌*◌, ◌∷◌, ◌++◌, ◌<◌, ◌≤◌, None, Some, Ok, Err, IsErr, IsOk, IsSome, IfOk, IfSome, MatchOption, MatchResult, filter, is_some, length, option_map, position, sum_by, slice_get};
 ghost use Rattle.axi_beats.specs.Bursts.{IsLegal};
 ghost use Rattle.axi_beats.specs.Responses.{is_exokay};
-ghost use Rattle.axi_beats.specs.Transfers.{IsBusWidth};
+ghost use Rattle.axi_beats.specs.Transfers.{IsBusWidth, IsPortWidth};
 ghost use Rattle.axi_checker.specs.Forced.{forced};
 ghost use Rattle.bus_words.specs.Lanes.{has_lane};
 ghost use Rattle.axi_checker.specs.ReadLanes.{covers_next};
@@ -19,7 +19,7 @@ use crate::queue::Queue;
 use crate::rooms::{LargeRooms, Rooms, SmallRooms};
 use crate::rules::{Address, PortLimits};
 use crate::{AxiBeat, AxiRule};
-use axi_beats::{ArBeat, AwBeat, BBeat, BurstBox, RBeat, Resp, WBeat};
+use axi_beats::{ArBeat, AwBeat, BBeat, BurstBox, RBeat, Resp, WBeat, WideWBeat};
 use std::alloc::{AllocError, Global};
 use std::marker::Model;
 
@@ -83,8 +83,9 @@ impl Monitor {
 
 impl LargeMonitor {
     /// A monitor of a port with `ids` IDs, 1 to 256, of which each may have `depth` bursts outstanding on each side, 1 to
-    /// 512, at most 8,192 in all on each side, and a bus of `bus_bytes` bytes, 4 or 8. Nothing is outstanding. It is slower
-    /// than one by `new` the more bursts are outstanding, and takes the room that `ids` and `depth` ask for.
+    /// 512, at most 8,192 in all on each side, and a bus of `bus_bytes` bytes, 4, 8, 16, 32, 64 or 128. Nothing is
+    /// outstanding. It is slower than one by `new` the more bursts are outstanding, and takes the room that `ids` and `depth` ask
+    /// for.
     ///
     /// The one error is that memory was refused.
     pub fn of_any_depth(
@@ -98,7 +99,7 @@ impl LargeMonitor {
         requires some_depth { 1 ≤ depth }
         requires most_depth { depth ≤ 512 }
         requires most { ids * depth ≤ 8192 }
-        requires bus { IsBusWidth bus_bytes }
+        requires bus { IsPortWidth bus_bytes }
         ensures { IfOk result (λ monitor. monitor
             ≡ record { port = record { bus_bytes = bus_bytes; ids = ids; depth = depth }; open_bursts = nothing_open }) }
     {
@@ -156,6 +157,20 @@ impl<R: Rooms> Monitor<R> {
         ensures order { IsOk result → beat.now.last ∷ writes_lack self.new.open_bursts.writes ≡ writes_lack self.old.open_bursts.writes }
     {
         let place = self.place_of_data(beat)?;
+        self.writes.fill(place);
+        Ok(())
+    }
+
+    /// Takes a write's data on a bus of up to 128 bytes, as `w` does.
+    pub fn wide_w(&mut self, beat: &WideWBeat) -> Result<(), AxiRule>
+        ensures answer { MatchOption (axi_fault self.old.port self.old.open_bursts (OnW beat.now)) (result ≡ Ok tt) (λ rule. result ≡ Err rule) }
+        ensures taken { IsOk result → self.new ≡ record self.old { open_bursts = open_after self.old.open_bursts (OnW beat.now) } }
+        ensures kept { IsErr result → self.new ≡ self.old }
+
+        // Write data come in the order of the write addresses.
+        ensures order { IsOk result → beat.now.last ∷ writes_lack self.new.open_bursts.writes ≡ writes_lack self.old.open_bursts.writes }
+    {
+        let place = self.place_of_wide_data(beat)?;
         self.writes.fill(place);
         Ok(())
     }
@@ -223,6 +238,16 @@ impl<R: Rooms> Monitor<R> {
         }
     }
 
+    /// Goes on behind a W beat of a bus of up to 128 bytes that broke a rule, as `force` does.
+    pub fn force_wide_w(&mut self, beat: &WideWBeat)
+        ensures { self.new ≡ record self.old { open_bursts = forced self.old.port self.old.open_bursts (OnW beat.now) } }
+    {
+        let _ = beat;
+        if let Some((place, _)) = self.writes.to_fill() {
+            self.writes.fill(place);
+        }
+    }
+
     fn force_aw(&mut self, beat: &AwBeat)
         ensures { self.new ≡ record self.old { open_bursts = forced self.old.port self.old.open_bursts (OnAw beat.now) } }
     {
@@ -244,10 +269,7 @@ impl<R: Rooms> Monitor<R> {
     fn force_w(&mut self, beat: &WBeat)
         ensures { self.new ≡ record self.old { open_bursts = forced self.old.port self.old.open_bursts (OnW beat.now) } }
     {
-        let _ = beat;
-        if let Some((place, _)) = self.writes.to_fill() {
-            self.writes.fill(place);
-        }
+        self.force_wide_w(&WideWBeat::of(beat));
     }
 
     /// How many writes of an ID are outstanding.
@@ -317,7 +339,7 @@ impl<R: Rooms> Monitor<R> {
     /// ordering).
     pub fn oldest_write(&self, id: u8) -> Option<AwBeat>
         ensures oldest { result ≡ option_map (λ write. write.aw) (oldest_write id self.now.open_bursts) }
-        ensures size { IfSome result (λ aw. aw.size ≤ 3) }
+        ensures size { IfSome result (λ aw. aw.size ≤ 7) }
     {
         let (_, write) = self.writes.oldest(id)?;
         Some(write.aw)
@@ -326,7 +348,7 @@ impl<R: Rooms> Monitor<R> {
     /// The address of the oldest outstanding read of an ID, to which the next data of the ID are (AXI4, A5, transaction ordering).
     pub fn oldest_read(&self, id: u8) -> Option<ArBeat>
         ensures oldest { result ≡ option_map (λ read. read.ar) (oldest_read id self.now.open_bursts) }
-        ensures size { IfSome result (λ ar. ar.size ≤ 3) }
+        ensures size { IfSome result (λ ar. ar.size ≤ 7) }
     {
         let (_, read) = self.reads.oldest(id)?;
         Some(read.ar)
@@ -334,9 +356,9 @@ impl<R: Rooms> Monitor<R> {
 
     /// The lanes of the transfer that the next R beat of an ID is, bit k for lane k: of the oldest outstanding read of the ID, if
     /// there is one (AXI4, A3.4.1, and A5, transaction ordering).
-    pub fn read_lanes(&self, id: u8) -> Option<u8>
+    pub fn read_lanes(&self, id: u8) -> Option<u128>
         ensures some { is_some result ≡ is_some (oldest_read id self.now.open_bursts) }
-        ensures lanes { IfSome result (λ lanes. (lane : ℕ) → lane < 8 → has_lane lanes lane ≡ covers_next self.now.port.bus_bytes (oldest_read id self.now.open_bursts) lane) }
+        ensures lanes { IfSome result (λ lanes. (lane : ℕ) → has_lane lanes lane ≡ covers_next self.now.port.bus_bytes (oldest_read id self.now.open_bursts) lane) }
     {
         let (_, read) = self.reads.oldest(id)?;
         Some(self.limits.next_lanes(read))
@@ -412,6 +434,21 @@ impl<R: Rooms> Monitor<R> {
         match self.limits.data_fault(write, beat) {
             Some(rule) => Err(rule),
             None => Ok(place),
+        }
+    }
+
+    /// The same of a W beat of up to 128 lanes.
+    fn place_of_wide_data(&self, beat: &WideWBeat) -> Result<usize, AxiRule>
+        ensures { MatchResult result
+            (λ place. (axi_fault self.now.port self.now.open_bursts (OnW beat.now) ≡ None) × (position lacks_data self.now.open_bursts.writes ≡ Some place))
+            (λ rule. axi_fault self.now.port self.now.open_bursts (OnW beat.now) ≡ Some rule) }
+    {
+        match self.writes.to_fill() {
+            None => Err(AxiRule::WWithoutAw),
+            Some((place, write)) => match self.limits.wide_data_fault(write, beat) {
+                Some(rule) => Err(rule),
+                None => Ok(place),
+            },
         }
     }
 

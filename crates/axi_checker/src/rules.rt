@@ -1,9 +1,10 @@
 //! The rules on a beat, each table in its order of tests (AXI4, and this project's profile).
-ghost use Rattle.std.specs.Prelude.{◌≡◌, ℕ, ◌+◌, ◌*◌, ◌<◌, ◌≤◌, ◌==◌, None, Some, IfSome, IsSome, IsTrue};
+ghost use Rattle.std.specs.Prelude.{◌≡◌, ℕ, ◌+◌, ◌*◌, ◌<◌, ◌≤◌, ◌==◌, ◌||◌, not, None, Some, IfSome, IsSome, IsTrue};
+ghost use Rattle.std.specs.List.{list_all};
 ghost use Rattle.axi_beats.specs.Boxes.{aw_of, w_beats_of};
 ghost use Rattle.axi_beats.specs.Bursts.{IsLegal, strobes_fit};
-ghost use Rattle.axi_beats.specs.Transfers.{fits_bus, IsBusWidth};
-ghost use Rattle.bus_words.specs.Lanes.{has_lane};
+ghost use Rattle.axi_beats.specs.Transfers.{all_lanes, fits_bus, IsPortWidth};
+ghost use Rattle.bus_words.specs.Lanes.{has_lane, is_between};
 ghost use Rattle.bus_words.specs.Tables.{first_broken};
 ghost use Rattle.axi_checker.specs.Forced.{may_open};
 ghost use Rattle.axi_checker.specs.Monitors.{first_data_fault};
@@ -13,7 +14,7 @@ ghost use Rattle.axi_checker.specs.Rules.{address_of_read, address_of_write, add
 
 use crate::AxiRule;
 use crate::outstanding::{OpenRead, OpenWrite};
-use axi_beats::{ArBeat, AwBeat, BurstBox, WBeat, lanes_of, last_byte};
+use axi_beats::{ArBeat, AwBeat, BurstBox, WBeat, WideWBeat, lanes_of, lanes_through, last_byte};
 use bus_words::lanes_between;
 use std::marker::Model;
 
@@ -85,22 +86,47 @@ impl Address {
 }
 
 fn fits_bus(bus_bytes: u8, size: u8) -> bool
-    requires { IsBusWidth bus_bytes }
+    requires { IsPortWidth bus_bytes }
     ensures { result ≡ fits_bus bus_bytes size }
 {
-    size <= 3 && 1 << size <= bus_bytes
+    size <= 7 && 1 << size <= bus_bytes
 }
 
-/// Whether all strobes are in lanes that transfer `n` of a write covers.
+/// Whether all strobes are in lanes from the lowest to the highest, both from 0 to 127.
+fn all_between(strobes: u128, lowest: u8, highest: u8) -> bool
+    requires order { lowest ≤ highest }
+    requires top { highest < 128 }
+    ensures { result ≡ list_all (λ lane. not (has_lane strobes lane) || is_between lowest highest lane) all_lanes }
+{
+    strobes & lanes_through(lowest, highest) == strobes
+}
+
+/// Whether all strobes are in lanes that transfer `n` of a write covers. Those of a bus of eight bytes are told apart, since
+/// numbers of 128 bits take longer.
 fn strobes_fit(bus_bytes: u8, aw: &AwBeat, n: u16, strobes: u8) -> bool
-    requires bus { IsBusWidth bus_bytes }
+    requires bus { IsPortWidth bus_bytes }
     requires size { IsTrue (fits_bus bus_bytes aw.now.size) }
     requires first { 1 ≤ n }
     requires count { n ≤ 256 }
     ensures { result ≡ strobes_fit bus_bytes aw.now n strobes }
 {
     let (lowest, highest) = lanes_of(aw.address, aw.size, n, bus_bytes);
+    if highest > 7 {
+        return all_between(u128::from(strobes), lowest, highest);
+    }
     strobes & lanes_between(lowest, highest) == strobes
+}
+
+/// The same of up to 128 strobes.
+fn wide_strobes_fit(bus_bytes: u8, aw: &AwBeat, n: u16, strobes: u128) -> bool
+    requires bus { IsPortWidth bus_bytes }
+    requires size { IsTrue (fits_bus bus_bytes aw.now.size) }
+    requires first { 1 ≤ n }
+    requires count { n ≤ 256 }
+    ensures { result ≡ strobes_fit bus_bytes aw.now n strobes }
+{
+    let (lowest, highest) = lanes_of(aw.address, aw.size, n, bus_bytes);
+    all_between(strobes, lowest, highest)
 }
 
 impl PortLimits {
@@ -134,9 +160,9 @@ impl PortLimits {
     /// their data, and `outstanding` bursts of the burst's ID have no answer yet on its side. A write whose data end before
     /// its last transfer breaks `WLast`.
     ///
-    /// The bus has 4 or 8 bytes, and the box isn't empty.
+    /// The bus is one that there is, and the box isn't empty.
     pub fn burst_fault(self, burst: &BurstBox, outstanding: usize) -> Option<AxiRule>
-        requires bus { IsBusWidth self.bus_bytes }
+        requires bus { IsPortWidth self.bus_bytes }
         requires full { IsSome burst.now }
         ensures rule { (open_bursts : OpenBursts) → write_to_fill open_bursts ≡ None
             → IfSome burst.now (λ b. outstanding_beside open_bursts b ≡ outstanding → result ≡ burst_fault self open_bursts b) }
@@ -156,7 +182,7 @@ impl PortLimits {
     }
 
     fn write_fault(self, burst: &BurstBox, outstanding: usize) -> Option<AxiRule>
-        requires bus { IsBusWidth self.bus_bytes }
+        requires bus { IsPortWidth self.bus_bytes }
         requires write { IsSome (aw_of burst.now) }
         ensures rule { (open_bursts : OpenBursts) → write_to_fill open_bursts ≡ None
             → IfSome burst.now (λ b. outstanding_beside open_bursts b ≡ outstanding → result ≡ burst_fault self open_bursts b) }
@@ -178,7 +204,7 @@ impl PortLimits {
 
     /// The first rule that the address of a burst breaks whose ID has so many outstanding on its side.
     pub(crate) fn address_fault(self, address: Address, open_of_id: usize) -> Option<AxiRule>
-        requires { IsBusWidth self.bus_bytes }
+        requires { IsPortWidth self.bus_bytes }
         ensures rule { result ≡ first_broken (address_rules self address open_of_id) }
         ensures room { result ≡ None → (address.id < self.ids) × (open_of_id < self.depth) }
     {
@@ -210,7 +236,7 @@ impl PortLimits {
     /// Whether an address opens its burst whatever rule it breaks of those on burst types and pages, where so many bursts of its
     /// ID are outstanding on its side.
     pub(crate) fn may_open(self, address: Address, open_of_id: usize) -> bool
-        requires { IsBusWidth self.bus_bytes }
+        requires { IsPortWidth self.bus_bytes }
         ensures { result ≡ may_open self address open_of_id }
     {
         fits_bus(self.bus_bytes, address.size)
@@ -220,7 +246,7 @@ impl PortLimits {
 
     /// The first rule that a W beat breaks as the next of a write.
     pub(crate) fn data_fault(self, write: OpenWrite, beat: &WBeat) -> Option<AxiRule>
-        requires bus { IsBusWidth self.bus_bytes }
+        requires bus { IsPortWidth self.bus_bytes }
         requires size { IsTrue (fits_bus self.bus_bytes write.aw.size) }
         requires lacks { IsTrue (lacks_data write) }
         ensures { result ≡ first_broken (data_rules self (Some write) beat.now) }
@@ -234,12 +260,28 @@ impl PortLimits {
         None
     }
 
+    /// The same of a W beat of up to 128 lanes.
+    pub(crate) fn wide_data_fault(self, write: OpenWrite, beat: &WideWBeat) -> Option<AxiRule>
+        requires bus { IsPortWidth self.bus_bytes }
+        requires size { IsTrue (fits_bus self.bus_bytes write.aw.size) }
+        requires lacks { IsTrue (lacks_data write) }
+        ensures { result ≡ first_broken (data_rules self (Some write) beat.now) }
+    {
+        if !wide_strobes_fit(self.bus_bytes, &write.aw, write.came + 1, beat.strobes()) {
+            return Some(AxiRule::Strobe);
+        }
+        if beat.is_last() != (write.came == u16::from(write.aw.len)) {
+            return Some(AxiRule::WLast);
+        }
+        None
+    }
+
     /// The lanes of the transfer that a read's next R beat is, bit k for lane k.
-    pub(crate) fn next_lanes(self, read: OpenRead) -> u8
-        requires bus { IsBusWidth self.bus_bytes }
+    pub(crate) fn next_lanes(self, read: OpenRead) -> u128
+        requires bus { IsPortWidth self.bus_bytes }
         requires size { IsTrue (fits_bus self.bus_bytes read.ar.size) }
         requires more { read.came ≤ read.ar.len }
-        ensures { (lane : ℕ) → lane < 8 → has_lane result lane ≡ covers_next self.bus_bytes (Some read) lane }
+        ensures { (lane : ℕ) → has_lane result lane ≡ covers_next self.bus_bytes (Some read) lane }
     {
         let (lowest, highest) = lanes_of(
             read.ar.address,
@@ -247,12 +289,12 @@ impl PortLimits {
             read.came + 1,
             self.bus_bytes,
         );
-        lanes_between(lowest, highest)
+        lanes_through(lowest, highest)
     }
 
     /// The first rule that the W beats of a box break as those of a write, each after those before it.
     pub(crate) fn first_data_fault(self, aw: AwBeat, burst: &BurstBox) -> Option<AxiRule>
-        requires bus { IsBusWidth self.bus_bytes }
+        requires bus { IsPortWidth self.bus_bytes }
         requires size { IsTrue (fits_bus self.bus_bytes aw.size) }
         ensures { result ≡ first_data_fault self (record { aw = aw; came = 0 }) (w_beats_of burst.now) }
     {

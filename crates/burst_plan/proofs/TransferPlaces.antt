@@ -1,5 +1,5 @@
 -- Each byte of a range is in one transfer of one burst of its plan.
-use Rattle.std.proofs.Common.{◌≡◌, ℕ, ◌+◌, ◌-◌, ◌*◌, ◌/◌, ◌%◌, ◌<◌, ◌≤◌, true, Some, nat_le, sym, ◌∙◌, ap, arith}
+use Rattle.std.proofs.Common.{◌≡◌, ℕ, ◌+◌, ◌-◌, ◌*◌, ◌/◌, ◌%◌, ◌<◌, ◌≤◌, true, Some, nat_le, sym, ◌∙◌, ap, arith, inl}
 use Rattle.std.specs.List.{slice_get}
 use Rattle.std.proofs.Math.Nat.{mul-le-mul_right}
 use Rattle.std.proofs.lemmas.Bool.{and_from, and_parts, le-leb, leb-true}
@@ -54,8 +54,8 @@ held range plannable even x inside =
       first = one;
       last = omega (arith, last_transfer range even k);
       holds = and_from _ _ (le-leb _ _ low) (le-leb _ _ high);
-      lane = covers_lane-mod range.bus_bytes (piece_at range k).address (beat_size range) n x plannable.bus (le-leb _ _ even.fits_bus) one low high;
-      address = lane_address-mod range.bus_bytes (piece_at range k).address (beat_size range) n x plannable.bus (le-leb _ _ even.fits_bus) one low high;
+      lane = covers_lane-mod range.bus_bytes (piece_at range k).address (beat_size range) n x (inl plannable.bus) (le-leb _ _ even.fits_bus) one low high;
+      address = lane_address-mod range.bus_bytes (piece_at range k).address (beat_size range) n x (inl plannable.bus) (le-leb _ _ even.fits_bus) one low high;
     }
 
 -- a byte of a transfer of a burst

@@ -51,7 +51,7 @@ written_is bus_bytes word held piece n lane width fits one carried =
       | inl covered ↦
           let both = and_parts (nat_le (lowest_lane bus_bytes piece.address piece.size n) lane) (nat_le lane (highest_lane bus_bytes piece.address piece.size n)) covered in
           let top = leb-true _ _ both.1 in
-          let below = highest_lane_lt_bus_bytes bus_bytes piece.address piece.size n width fits one in
+          let below = highest_lane_lt_bus_bytes bus_bytes piece.address piece.size n (inl width) fits one in
           rw covered (sym (carried.at lane (omega arith)))
       | inr free ↦ rw free refl
     ]

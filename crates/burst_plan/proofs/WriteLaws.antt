@@ -1,5 +1,5 @@
 -- The bursts of a range's pieces are legal, and the W beats of a write put each given byte at its address and no other.
-use Rattle.std.proofs.Common.{◌≡◌, ℕ, zero, suc, ◌+◌, ◌-◌, ◌%◌, ◌<◌, ◌≤◌, nat_le, Bool, true, false, ◌||◌, not, List, ◌∷◌, map, Option, Some, None, is_some, if◌then◌else◌, refl, sym, ◌∙◌, ap, arith, lit<}
+use Rattle.std.proofs.Common.{◌≡◌, ℕ, zero, suc, ◌+◌, ◌-◌, ◌%◌, ◌<◌, ◌≤◌, nat_le, Bool, true, false, ◌||◌, not, List, ◌∷◌, map, Option, Some, None, is_some, if◌then◌else◌, refl, sym, ◌∙◌, ap, arith, inl, lit<}
 use Rattle.std.specs.List.{range_with_len, slice_get, enumerate_from}
 use Rattle.std.specs.Prelude.{unwrap_or}
 use Rattle.std.specs.Option.{option_flatten}
@@ -9,12 +9,13 @@ use Rattle.std.proofs.lemmas.List.Folds.{list_all-map}
 use Rattle.std.proofs.lemmas.Option.{slice_get_within, get_or_from_slice_get}
 use Rattle.bus_words.specs.Lanes.{has_lane, lane_byte, mask_of, payload_of, given_at}
 use Rattle.bus_words.proofs.LaneLaws.{lane_byte-payload_of}
-use Rattle.bus_words.proofs.MaskLaws.{has_lane-mask_of}
+use Rattle.bus_words.proofs.MaskLaws.{has_lane-mask_of, mask_of-lt}
 use Rattle.bus_words.proofs.Ranges.{list_all-from}
 use Rattle.axi_beats.specs.Bursts.{IsLegal, is_legal_address, is_legal_data, strobes_fit}
 use Rattle.axi_beats.specs.Transfers.{IsBusWidth, fits_bus, covers_lane, lane_address, transfer_address, transfer_end, transfer_has}
 use Rattle.axi_beats.specs.declared.AwBeat.{AwBeat}
 use Rattle.axi_beats.specs.declared.WBeat.{WBeat}
+use Rattle.axi_beats.proofs.LaneSets.{eight-list_all}
 use Rattle.axi_beats.proofs.TransferLaws.{covers_lane-mod, lane_address-mod}
 use Rattle.axi_beats.proofs.Sizes.{lane_below}
 use Rattle.burst_plan.specs.Pieces.{PlannedRange, IsPlannable, IsPartOf, pieces}
@@ -53,8 +54,8 @@ byte_to_write-mod bus_bytes given piece n x width fits one has =
     let both = and_parts (nat_le (transfer_address piece.address piece.size n) x) (nat_le x (transfer_end piece.address piece.size n)) has in
     let low = leb-true _ _ both.0 in
     let high = leb-true _ _ both.1 in
-    let covered = covers_lane-mod bus_bytes piece.address piece.size n x width fits one low high in
-    let address = lane_address-mod bus_bytes piece.address piece.size n x width fits one low high in
+    let covered = covers_lane-mod bus_bytes piece.address piece.size n x (inl width) fits one low high in
+    let address = lane_address-mod bus_bytes piece.address piece.size n x (inl width) fits one low high in
     rw (covered, address) refl
 
 none-zero : (o : Option ℕ) → is_some o ≡ false → unwrap_or o 0 ≡ 0
@@ -88,9 +89,10 @@ strobes_within : (bus_bytes : ℕ) (given : ℕ → Option ℕ) (piece : Piece) 
     → strobes_fit bus_bytes aw n (w_beat bus_bytes given piece n).strobes ≡ true
 strobes_within bus_bytes given piece aw n same_address same_size =
     let fits : (b : Bool) (o : Option ℕ) → (not (is_some (if b then o else None)) || b) ≡ true = λ b o. grind arith in
-    list_all-from (λ lane. not (has_lane (w_beat bus_bytes given piece n).strobes lane) || covers_lane bus_bytes aw.address aw.size n lane) 0 8
-    (λ lane low high.
-    rw (same_address, same_size, has_lane-mask_of (λ lane. is_some (byte_to_write bus_bytes given piece n lane)) lane (omega arith))
+    eight-list_all (w_beat bus_bytes given piece n).strobes (covers_lane bus_bytes aw.address aw.size n)
+    (mask_of-lt (λ lane. is_some (byte_to_write bus_bytes given piece n lane)))
+    (λ lane below.
+    rw (same_address, same_size, has_lane-mask_of (λ lane. is_some (byte_to_write bus_bytes given piece n lane)) lane below)
     (fits (covers_lane bus_bytes piece.address piece.size n lane) (given (lane_address bus_bytes piece.address piece.size n lane))))
 
 -- a write is legal where its address beat is

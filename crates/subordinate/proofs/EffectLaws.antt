@@ -108,8 +108,8 @@ strobed_lane bus_bytes aw n w x width fits one strobed =
     let ends = and_parts (nat_le (transfer_address aw.address aw.size n) x) (nat_le x (transfer_end aw.address aw.size n)) parts.0 in
     let low = leb-true (transfer_address aw.address aw.size n) x ends.0 in
     let high = leb-true x (transfer_end aw.address aw.size n) ends.1 in (
-      and_from (has_lane w.strobes (x % bus_bytes)) (covers_lane bus_bytes aw.address aw.size n (x % bus_bytes)) parts.1 (covers_lane-mod bus_bytes aw.address aw.size n x width fits one low high),
-      lane_address-mod bus_bytes aw.address aw.size n x width fits one low high,
+      and_from (has_lane w.strobes (x % bus_bytes)) (covers_lane bus_bytes aw.address aw.size n (x % bus_bytes)) parts.1 (covers_lane-mod bus_bytes aw.address aw.size n x (inl width) fits one low high),
+      lane_address-mod bus_bytes aw.address aw.size n x (inl width) fits one low high,
     )
 
 -- a lane sets a strobed address of the transfer alone
@@ -118,7 +118,7 @@ lane_strobes : (bus_bytes : ℕ) (aw : AwBeat) (n : ℕ) (w : WBeat) (x lane : �
 lane_strobes bus_bytes aw n w x lane width fits one sets =
     let parts = and_parts (has_lane w.strobes lane) (covers_lane bus_bytes aw.address aw.size n lane) sets.0 in
     let ends = lane_address_within bus_bytes aw.address aw.size n lane one parts.1 in
-    let here : x % bus_bytes ≡ lane = ap (λ y. y % bus_bytes) (sym sets.1) ∙ mod-lane_address bus_bytes aw.address aw.size n lane width fits one parts.1 in
+    let here : x % bus_bytes ≡ lane = ap (λ y. y % bus_bytes) (sym sets.1) ∙ mod-lane_address bus_bytes aw.address aw.size n lane (inl width) fits one parts.1 in
     let low : transfer_address aw.address aw.size n ≤ x = omega (arith, ends.0, sets.1) in
     let high : x ≤ transfer_end aw.address aw.size n = omega (arith, ends.1, sets.1) in
     and_from (transfer_has aw.address aw.size n x) (has_lane w.strobes (x % bus_bytes)) (and_from _ _ (le-leb _ _ low) (le-leb _ _ high)) (rw here parts.0)
@@ -173,8 +173,8 @@ is_captured state ar n payload resp width fits one pages captures =
           let ends = and_parts (nat_le (transfer_address ar.address ar.size n) x) (nat_le x (transfer_end ar.address ar.size n)) has in
           let low = leb-true (transfer_address ar.address ar.size n) x ends.0 in
           let high = leb-true x (transfer_end ar.address ar.size n) ends.1 in
-          let here = lane_address-mod state.bus_bytes ar.address ar.size n x width fits one low high in
-          some_is (byte_at_address state.memory x) (there x here okay) ∙ ap Some (sym (in_lane x okay here (covers_lane-mod state.bus_bytes ar.address ar.size n x width fits one low high)));
+          let here = lane_address-mod state.bus_bytes ar.address ar.size n x (inl width) fits one low high in
+          some_is (byte_at_address state.memory x) (there x here okay) ∙ ap Some (sym (in_lane x okay here (covers_lane-mod state.bus_bytes ar.address ar.size n x (inl width) fits one low high)));
       error = λ wrong. holds ∙ ap (λ b. if b then payload_of (byte_in_lane state.bus_bytes state.memory ar n) else 0) wrong;
     }
   where

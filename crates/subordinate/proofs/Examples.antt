@@ -3,6 +3,7 @@ use Rattle.std.proofs.Common.{◌≡◌, ℕ, Bool, true, false, List, [], ◌�
 use Rattle.std.specs.Prelude.{fold, replicate}
 use Rattle.std.specs.List.{range_with_len}
 use Rattle.axi_beats.specs.Bursts.{Burst, WriteBurst, ReadBurst}
+use Rattle.axi_beats.specs.Transfers.{all_lanes}
 use Rattle.axi_beats.specs.declared.AwBeat.{AwBeat}
 use Rattle.axi_beats.specs.declared.RBeat.{RBeat}
 use Rattle.axi_beats.specs.declared.Resp.{Resp}
@@ -81,6 +82,7 @@ abbrev both_sent : FreeMemory
 both_sent = sending start (write_of_two ∷ read_of_two ∷ [])
 
 both_are_taken : send_fault start write_of_two ∷ send_fault (with_burst start write_of_two) read_of_two ∷ [] ≡ None ∷ None ∷ []
+unfolding all_lanes
 both_are_taken = refl
 
 serials : map (λ pending. pending.serial) both_sent.pending ≡ 0 ∷ 1 ∷ []
@@ -142,6 +144,7 @@ ids_that_may_answer = refl
 -- ---- what is refused
 
 ends_early : send_fault start (WriteBurst (aw 0x10000 1 3) (w 1 0xff false ∷ [])) ≡ Some WLast
+unfolding all_lanes
 ends_early = refl
 
 too_wide : send_fault start (write 0x10000 4 0 0) ∷ send_fault narrow_start (read 0x10000 0 3) ∷ [] ≡ Some Size ∷ Some Size ∷ []
@@ -151,6 +154,7 @@ over_a_page : send_fault start (read 0x10ff8 1 3) ∷ send_fault start (read 0x1
 over_a_page = refl
 
 strobe_beside_its_lanes : send_fault start (write 0x1000b 0 0 0x10) ∷ send_fault start (write 0x1000b 0 0 0x08) ∷ [] ≡ Some Strobe ∷ None ∷ []
+unfolding all_lanes
 strobe_beside_its_lanes = refl
 
 -- four of an ID may be open on each side; IDs are 0 to 15
@@ -158,6 +162,7 @@ abbrev four_reads : FreeMemory
 four_reads = sending start (replicate 4 (read 0x10000 0 3))
 
 a_fifth_of_an_id : map (send_fault four_reads) (read 0x10000 0 3 ∷ read_as 1 0x10000 0 3 ∷ write 0x10000 3 0 0xff ∷ []) ≡ Some Depth ∷ None ∷ None ∷ []
+unfolding all_lanes
 a_fifth_of_an_id = refl
 
 ids_there_are : send_fault start (read_as 15 0x10000 0 3) ∷ send_fault start (read_as 16 0x10000 0 3) ∷ [] ≡ None ∷ Some IdRange ∷ []

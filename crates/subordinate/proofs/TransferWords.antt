@@ -9,6 +9,7 @@ use Rattle.axi_beats.specs.Bursts.{WriteBurst, IsLegal, is_legal_address, is_leg
 use Rattle.axi_beats.specs.Transfers.{IsBusWidth, covers_lane, transfer_address}
 use Rattle.axi_beats.specs.declared.AwBeat.{AwBeat}
 use Rattle.axi_beats.specs.declared.WBeat.{WBeat}
+use Rattle.axi_beats.proofs.LaneSets.{list_all-lane}
 use Rattle.axi_beats.proofs.TransferLaws.{highest_lane_lt_bus_bytes}
 use Rattle.subordinate.specs.InsidePages.{IsTransferOf, first_lane}
 use Rattle.std.proofs.lemmas.Option.{slice_get_within}
@@ -27,7 +28,7 @@ bus_lane bus_bytes address lane width = elim width [ inl four ↦ rw four (omega
 
 -- a transfer covers lanes of the bus alone
 pub covered_below : (bus_bytes start len size n lane : ℕ) → IsTransferOf bus_bytes start len size n → covers_lane bus_bytes start size n lane ≡ true → lane < bus_bytes
-covered_below bus_bytes start len size n lane is covered = grind (arith, nat_tests, covered, highest_lane_lt_bus_bytes bus_bytes start size n is.width is.fits is.first)
+covered_below bus_bytes start len size n lane is covered = grind (arith, nat_tests, covered, highest_lane_lt_bus_bytes bus_bytes start size n (inl is.width) is.fits is.first)
 
 -- so each is a lane of the word of eight bytes
 pub covered_within : (bus_bytes start len size n lane : ℕ) → IsTransferOf bus_bytes start len size n → covers_lane bus_bytes start size n lane ≡ true
@@ -72,11 +73,6 @@ transfer_of_write bus_bytes aw ws beat w width legal found =
 
 -- ---- strobes that fit are in covered lanes
 
-all_lanes : (test : ℕ → Bool) (from n : ℕ) → list_all test (range_with_len from n) ≡ true → (lane : ℕ) → from ≤ lane → lane < from + n → test lane ≡ true
-all_lanes test from zero all lane low high = absurd (omega (arith, low, high))
-all_lanes test from (suc n) all lane low high =
-    grind (arith, λ (rest : list_all test (range_with_len (from + 1) n) ≡ true) (later : from + 1 ≤ lane). all_lanes test (from + 1) n rest lane later (omega arith))
-
 strobe_covered : (strobed covered : Bool) → (not strobed || covered) ≡ true → (strobed && covered) ≡ strobed
 strobe_covered strobed covered fits = grind arith
 
@@ -85,7 +81,7 @@ pub strobes_covered : (bus_bytes : ℕ) (aw : AwBeat) (n strobes : ℕ) → stro
     → (has_lane strobes lane && covers_lane bus_bytes aw.address aw.size n lane) ≡ has_lane strobes lane
 strobes_covered bus_bytes aw n strobes fit lane below =
     strobe_covered (has_lane strobes lane) (covers_lane bus_bytes aw.address aw.size n lane)
-    (all_lanes (λ k. not (has_lane strobes k) || covers_lane bus_bytes aw.address aw.size n k) 0 8 fit lane (omega arith) (omega (arith, below)))
+    (list_all-lane (λ k. not (has_lane strobes k) || covers_lane bus_bytes aw.address aw.size n k) lane fit (omega (arith, below)))
 
 -- the same of the W beats in a box
 pub write_in_box : (bus_bytes : ℕ) (held : Option Burst) (aw : AwBeat) (beat : ℕ) (w : WBeat) → IsBusWidth bus_bytes → IfSome held (IsLegal bus_bytes) → aw_of held ≡ Some aw

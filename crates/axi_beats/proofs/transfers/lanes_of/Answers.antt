@@ -1,15 +1,15 @@
--- A size that fits the bus is at most 3, and a transfer's lanes are lanes of the bus.
+-- A size that fits the bus is at most 7, and a transfer's lanes are lanes of the bus.
 use Rattle.std.proofs.Common.{◌≡◌, arith, rules}
 use Rattle.axi_beats.specs.Transfers.{highest_lane}
-use Rattle.axi_beats.proofs.Sizes.{size_within}
+use Rattle.axi_beats.proofs.Sizes.{size_on_port}
 use Rattle.axi_beats.proofs.TransferLaws.{highest_lane_lt_bus_bytes}
 use Rattle.axi_beats.proofs.transfers.lanes_of.Goals as goal
 
 pub overflow_shl-bytes : goal.overflow_shl-bytes
-overflow_shl-bytes c = omega (arith, size_within c.args.bus_bytes c.args.size c.requires.bus c.requires.size)
+overflow_shl-bytes c = omega (arith, size_on_port c.args.bus_bytes c.args.size c.requires.bus c.requires.size)
 
 pub transfer_address-requires-clause-size : goal.transfer_address-requires-clause-size
-transfer_address-requires-clause-size c = size_within c.args.bus_bytes c.args.size c.requires.bus c.requires.size
+transfer_address-requires-clause-size c = size_on_port c.args.bus_bytes c.args.size c.requires.bus c.requires.size
 
 pub returns-clause-within : goal.returns-clause-within
 returns-clause-within c =

@@ -6,7 +6,7 @@ use Rattle.bridge_core.proofs.BurstWrites.{listed_size, word_of_transfer}
 use Rattle.bridge_core.proofs.bursts.word_given.Goals as goal
 
 pub transfer_address-requires-clause-size : goal.transfer_address-requires-clause-size
-transfer_address-requires-clause-size c = listed_size c.args.plan.now c.args.piece c.requires.range c.requires.listed
+transfer_address-requires-clause-size c = omega (arith, listed_size c.args.plan.now c.args.piece c.requires.range c.requires.listed)
 
 pub overflow_sub-place : goal.overflow_sub-place
 overflow_sub-place c =

@@ -1,4 +1,4 @@
-use Rattle.std.proofs.Common.{sym, refl, subst}
+use Rattle.std.proofs.Common.{arith, sym, refl, subst}
 use Rattle.axi_beats.specs.declared.WBeat.{WBeat}
 use Rattle.axi_beats.proofs.Sizes.{size_within}
 use Rattle.burst_plan.specs.PlannedBursts.{given_by_word, PutsBytes}
@@ -7,7 +7,7 @@ use Rattle.burst_plan.proofs.WriteLaws.{w_beat_puts}
 use Rattle.burst_plan.proofs.write_beats.w_beat.Goals as goal
 
 pub transfer_address-address-requires-clause-size : goal.transfer_address-address-requires-clause-size
-transfer_address-address-requires-clause-size c = size_within c.args.bus_bytes c.args.piece.now.size c.requires.bus c.requires.size
+transfer_address-address-requires-clause-size c = omega (arith, size_within c.args.bus_bytes c.args.piece.now.size c.requires.bus c.requires.size)
 
 pub returns-clause-value : goal.returns-clause-value
 returns-clause-value c =

@@ -1,7 +1,7 @@
 -- The transfers of each outstanding read fit the bus.
 use Rattle.std.proofs.Common.{◌≡◌, ◌≤◌, sym, subst}
 use Rattle.std.specs.Prelude.{Some, find}
-use Rattle.axi_beats.proofs.Sizes.{size_within}
+use Rattle.axi_beats.proofs.Sizes.{size_on_port}
 use Rattle.bus_words.proofs.PlaceChanges.{all-find}
 use Rattle.axi_checker.specs.Monitors.{IsSoundRead}
 use Rattle.axi_checker.specs.OpenBursts.{OpenRead, read_of_id}
@@ -13,4 +13,4 @@ returns-clause-size g c =
     let reads = c.self.inside.reads.items in
     let found : find (read_of_id c.args.id) reads ≡ Some c.in_ok-read.read = sym c.in_ok-read.ensures.read in
     let sound = all-find (IsSoundRead bus) (read_of_id c.args.id) reads c.in_ok-read.read c.self.invariant.within.sound_reads found in
-    subst (λ (read : OpenRead). read.ar.size ≤ 3) (sym c.read.view_is) (size_within bus c.in_ok-read.read.ar.size c.self.invariant.bus sound.fits)
+    subst (λ (read : OpenRead). read.ar.size ≤ 7) (sym c.read.view_is) (size_on_port bus c.in_ok-read.read.ar.size c.self.invariant.bus sound.fits)

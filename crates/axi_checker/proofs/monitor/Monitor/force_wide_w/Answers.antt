@@ -5,7 +5,7 @@ use Rattle.axi_checker.specs.OpenBursts.{open_after}
 use Rattle.axi_checker.specs.declared.AxiBeat.TheVariants.{W as OnW}
 use Rattle.axi_checker.proofs.SoundMonitors.{kept_sound}
 use Rattle.axi_checker.proofs.WithinLimits.{within-data}
-use Rattle.axi_checker.proofs.monitor.Monitor.force_w.Goals as goal
+use Rattle.axi_checker.proofs.monitor.Monitor.force_wide_w.Goals as goal
 
 pub invariant_of-self : goal.invariant_of-self
 invariant_of-self g c =
