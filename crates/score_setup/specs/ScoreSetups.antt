@@ -1,6 +1,7 @@
--- A set-up of a bridge that is only observed: its AXI4 port may have more IDs, and more bursts of an ID on the way, than that of this project's
--- bridge, and its memory more pages, which are listed as ranges. All else is as in a set-up of the latter, and is said there (this project's profile).
-use Rattle.std.specs.Prelude.{ℕ, ◌*◌, Bool, ◌&&◌, List, Option, Some, if◌then◌else◌, nat_le}
+-- A set-up of a bridge that is only observed: its AXI4 port may be wider, and have more IDs, and more bursts of an ID on the way, than that of this
+-- project's bridge, and its memory more pages, which are listed as ranges. All else is as in a set-up of the latter, and is said there (this project's
+-- profile).
+use Rattle.std.specs.Prelude.{ℕ, ◌*◌, ◌==◌, Bool, ◌&&◌, ◌||◌, List, Option, Some, if◌then◌else◌, nat_le}
 use Rattle.bus_words.specs.Lanes.{is_between}
 use Rattle.config.specs.Configs.{is_valid}
 use Rattle.burst_plan.specs.declared.Region.{Region}
@@ -61,17 +62,25 @@ ranges_of setup =
 abbrev pub lists_of : ScoreSetup → SetupLists
 lists_of setup = one_by_one (ranges_of setup)
 
--- these limits with one ID, and one burst of it at a time
-abbrev pub with_one_burst : Config → Config
-with_one_burst config = record config { ids = 1; depth = 1 }
+-- whether a bus is wider than that of this project's bridge, of so many bytes
+abbrev pub is_wide_bus : ℕ → Bool
+is_wide_bus bus_bytes = bus_bytes == 16 || (bus_bytes == 32 || (bus_bytes == 64 || bus_bytes == 128))
 
--- whether the limits are in their ranges: 1 to 256 IDs, of which each may have 1 to 256 bursts outstanding on each side, at most 4,096 in all on each
+-- a bus, with one of eight bytes in place of one that is wider
+abbrev pub narrowed : ℕ → ℕ
+narrowed bus_bytes = if is_wide_bus bus_bytes then 8 else bus_bytes
+
+-- these limits with a port as this project's bridge may have one: one ID, one burst of it at a time, and no wide bus
+abbrev pub with_small_port : Config → Config
+with_small_port config = record config { ids = 1; depth = 1; axi_bytes = narrowed config.axi_bytes }
+
+-- whether the limits are in their ranges: a bus of 4, 8, 16, 32, 64 or 128 bytes, 1 to 256 IDs, of which each may have 1 to 256 bursts outstanding on each side, at most 4,096 in all on each
 -- side; and the others as those of this project's bridge
 abbrev pub is_valid_to_score : Config → Bool
 is_valid_to_score config =
-    is_valid (with_one_burst config) && is_between 1 256 config.ids && is_between 1 256 config.depth && nat_le (config.ids * config.depth) 4096
+    is_valid (with_small_port config) && is_between 1 256 config.ids && is_between 1 256 config.depth && nat_le (config.ids * config.depth) 4096
 
 -- why a set-up is refused, if it is: its limits, and then what a set-up of this project's bridge is refused for
 abbrev pub score_setup_fault : SetupLists → Option SetupFault
 score_setup_fault setup =
-    if is_valid_to_score setup.config then setup_fault (record setup { config = with_one_burst setup.config }) else Some BadConfig
+    if is_valid_to_score setup.config then setup_fault (record setup { config = with_small_port setup.config }) else Some BadConfig

@@ -5,7 +5,7 @@ ghost use Rattle.std.specs.Prelude.{◌≡◌, ◌≤◌, ◌*◌, ◌&&◌, [],
 ghost use Rattle.bus_words.specs.Lanes.{is_between};
 ghost use Rattle.config.specs.Configs.{port_of};
 ghost use Rattle.setups.specs.Setups.{lists_of as lists_of_bridge, setup_fault};
-ghost use Rattle.score_setup.specs.ScoreSetups.{is_valid_to_score, limits_of, lists_of, page_alone, score_setup_fault, with_one_burst};
+ghost use Rattle.score_setup.specs.ScoreSetups.{is_valid_to_score, is_wide_bus, limits_of, lists_of, narrowed, page_alone, score_setup_fault, with_small_port};
 
 use arrayvec::ArrayVec;
 use burst_plan::{Region, region_fault};
@@ -32,7 +32,7 @@ pub struct ScoreConfig {
     pub max_size: u8,
     /// The level of each client's port; those past `clients` play no part.
     pub levels: [Level; 8],
-    /// The width of the AXI4 bus in bytes, 8 or 4.
+    /// The width of the AXI4 bus in bytes: 4, 8, 16, 32, 64 or 128.
     pub axi_bytes: u8,
 }
 
@@ -60,6 +60,20 @@ fn is_port(ids: u16, depth: u16) -> bool
         && u32::from(ids) * u32::from(depth) <= 4096
 }
 
+/// Whether a bus is wider than that of this project's bridge, of so many bytes.
+fn is_wide_bus(bus_bytes: u8) -> bool
+    ensures { result ≡ is_wide_bus bus_bytes }
+{
+    matches!(bus_bytes, 16 | 32 | 64 | 128)
+}
+
+/// A bus, with one of eight bytes in place of one that is wider.
+fn narrowed(bus_bytes: u8) -> u8
+    ensures { result ≡ narrowed bus_bytes }
+{
+    if is_wide_bus(bus_bytes) { 8 } else { bus_bytes }
+}
+
 impl ScoreConfig {
     /// The limits of this project's bridge.
     pub fn of(config: &Config) -> ScoreConfig
@@ -77,9 +91,9 @@ impl ScoreConfig {
         }
     }
 
-    /// These limits with one ID, and one burst of it at a time, which a bridge of this project may have.
-    fn with_one_burst(&self) -> Config
-        ensures { result ≡ with_one_burst (limits_of self.now) }
+    /// These limits with a port as a bridge of this project may have one: one ID, one burst of it at a time, and no wide bus.
+    fn with_small_port(&self) -> Config
+        ensures { result ≡ with_small_port (limits_of self.now) }
     {
         Config {
             clients: self.clients,
@@ -89,7 +103,7 @@ impl ScoreConfig {
             max_len: self.max_len,
             max_size: self.max_size,
             levels: self.levels,
-            axi_bytes: self.axi_bytes,
+            axi_bytes: narrowed(self.axi_bytes),
         }
     }
 
@@ -97,14 +111,14 @@ impl ScoreConfig {
     pub fn is_valid(&self) -> bool
         ensures { result ≡ is_valid_to_score (limits_of self.now) }
     {
-        self.with_one_burst().is_valid() && is_port(self.ids, self.depth)
+        self.with_small_port().is_valid() && is_port(self.ids, self.depth)
     }
 
     /// The level of a client's port; TL-UL where there can be no such client.
     pub fn level_of(&self, client: u8) -> Level
         ensures { result ≡ (port_of (limits_of self.now) client).level }
     {
-        self.with_one_burst().level_of(client)
+        self.with_small_port().level_of(client)
     }
 }
 

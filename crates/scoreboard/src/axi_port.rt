@@ -1,8 +1,9 @@
 //! The AXI4 port by its monitor.
-ghost use Rattle.std.specs.Prelude.{◌≡◌, ◌<◌, ℕ, true, IfOk, map, option_map, slice_get};
+ghost use Rattle.std.specs.Prelude.{◌≡◌, ℕ, true, IfOk, map, option_map, slice_get};
 ghost use Rattle.bus_words.specs.Lanes.{has_lane};
 ghost use Rattle.axi_checker.specs.ReadLanes.{covers_next};
 ghost use Rattle.axi_checker.specs.OpenBursts.{nothing_open, oldest_read, oldest_write, open_count};
+ghost use Rattle.axi_checker.specs.declared.AxiBeat.TheVariants.{W as OnW};
 ghost use Rattle.axi_checker.specs.Rules.{address_of_read, address_of_write, axi_fault};
 ghost use Rattle.config.specs.Configs.{axi_port_of};
 ghost use Rattle.score_setup.specs.ScoreSetups.{is_valid_to_score, limits_of};
@@ -12,7 +13,7 @@ ghost use Rattle.scoreboard.specs.InsideBoards.{is_full};
 
 use crate::Wrong;
 use crate::failed_bursts::Span;
-use axi_beats::Resp;
+use axi_beats::{Resp, WideWBeat};
 use axi_checker::{AxiBeat, AxiRule, LargeMonitor};
 use score_setup::ScoreConfig;
 use std::alloc::{AllocError, Global};
@@ -122,8 +123,8 @@ impl AxiPort {
     }
 
     /// The lanes of the transfer that the next R beat of an ID is, bit k for lane k; none where no read of it is outstanding.
-    pub(crate) fn read_lanes(&self, id: u8) -> u8
-        ensures { (lane : ℕ) → lane < 8 → has_lane result lane ≡ covers_next self.now.port.bus_bytes (oldest_read id self.now.open_bursts) lane }
+    pub(crate) fn read_lanes(&self, id: u8) -> u128
+        ensures { (lane : ℕ) → has_lane result lane ≡ covers_next self.now.port.bus_bytes (oldest_read id self.now.open_bursts) lane }
     {
         self.monitor.read_lanes(id).unwrap_or(0)
     }
@@ -150,6 +151,20 @@ impl AxiPort {
             Ok(()) => None,
             Err(rule) => {
                 self.monitor.force(beat);
+                Some(Wrong::Axi(rule))
+            }
+        }
+    }
+
+    /// Judges a W beat of a bus of up to 128 bytes, and goes on behind one that breaks a rule: it counts as come.
+    pub(crate) fn judge_wide_w(&mut self, beat: &WideWBeat) -> Option<Wrong>
+        ensures wrong { result ≡ wrong_axi (axi_fault self.old.port self.old.open_bursts (OnW beat.now)) }
+        ensures state { self.new ≡ record self.old { open_bursts = bursts_after self.old.port self.old.open_bursts (OnW beat.now) (axi_fault self.old.port self.old.open_bursts (OnW beat.now)) } }
+    {
+        match self.monitor.wide_w(beat) {
+            Ok(()) => None,
+            Err(rule) => {
+                self.monitor.force_wide_w(beat);
                 Some(Wrong::Axi(rule))
             }
         }

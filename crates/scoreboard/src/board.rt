@@ -27,6 +27,7 @@ use crate::in_flight::InFlight;
 use crate::marks::mark_given;
 use crate::unknown::{UnknownLanes, forget_unknown, unknown_of};
 use crate::{Errors, FillFault, ObservedBeat, Policy, Wrong};
+use axi_beats::WideWBeat;
 use axi_checker::AxiBeat;
 use burst_plan::PageMap;
 use score_setup::{ScoreConfig, ScoreSetup, score_setup_fault};
@@ -181,6 +182,7 @@ impl Scoreboard {
     ghost use Rattle.scoreboard.specs.Races.{unless_failed};
     ghost use Rattle.scoreboard.specs.InsideBoards.{IsFirstBeat, IsAcceptedBeside, IsFreeOf, IsTaken, board_of, flight_of, front_after, request_taken, span_told};
     ghost use Rattle.scoreboard.specs.AxiPorts.{port_wrong};
+    ghost use Rattle.axi_checker.specs.declared.AxiBeat.TheVariants.{W as OnW};
     ghost use Rattle.tl_messages.specs.Requests.{HeldMessage};
     ghost use Rattle.tl_checker.specs.Ports.{joined};
     ghost use Rattle.tl_checker.specs.declared.Progress.TheVariants.{More, Whole};
@@ -726,6 +728,16 @@ impl Scoreboard {
         };
         self.hit(span);
         None
+    }
+
+    /// Judges a W beat of a bus of up to 128 bytes, which tells no error.
+    pub(crate) fn judge_wide_data(&mut self, beat: &WideWBeat) -> Option<Wrong>
+        ensures answer { result ≡ port_wrong self.old.policy self.old.axi (OnW beat.now) }
+        ensures state { board_of self.new ≡ after_axi self.old.policy (board_of self.old) (OnW beat.now) }
+        ensures policy { self.new.policy ≡ self.old.policy }
+        ensures unknown { self.new.unknown ≡ self.old.unknown }
+    {
+        self.axi.judge_wide_w(self.policy, beat)
     }
 
     /// Each request may have failed that shares a byte with a burst that was answered with an error, and what it may write is

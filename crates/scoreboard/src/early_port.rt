@@ -1,8 +1,9 @@
 //! The AXI4 port as a scoreboard sees it: the data of a write may come before its address.
-ghost use Rattle.std.specs.Prelude.{◌≡◌, ◌<◌, ℕ, ◌&&◌, true, IfOk, length, nat_lt, slice_get};
+ghost use Rattle.std.specs.Prelude.{◌≡◌, ℕ, ◌&&◌, true, IfOk, length, nat_lt, slice_get};
 ghost use Rattle.std.specs.VecDeque.{deque_capacity};
 ghost use Rattle.bus_words.specs.Lanes.{has_lane};
 ghost use Rattle.axi_checker.specs.ReadLanes.{covers_next};
+ghost use Rattle.axi_checker.specs.declared.AxiBeat.TheVariants.{W as OnW};
 ghost use Rattle.axi_checker.specs.OpenBursts.{nothing_open, oldest_read, open_count};
 ghost use Rattle.config.specs.Configs.{axi_port_of};
 ghost use Rattle.score_setup.specs.ScoreSetups.{is_valid_to_score, limits_of};
@@ -13,7 +14,7 @@ ghost use Rattle.scoreboard.specs.Unanswered.{reads_open, writes_without_address
 use crate::axi_port::AxiPort;
 use crate::failed_bursts::Span;
 use crate::{Policy, Wrong};
-use axi_beats::WBeat;
+use axi_beats::WideWBeat;
 use axi_checker::{AxiBeat, AxiRule};
 use score_setup::ScoreConfig;
 use std::alloc::{AllocError, Global};
@@ -27,7 +28,7 @@ const MOST_EARLY: usize = 256;
 /// room is taken by `new`.
 pub(crate) struct EarlyPort {
     axi: AxiPort,
-    early: VecDeque<WBeat>,
+    early: VecDeque<WideWBeat>,
 }
 
 impl Model for EarlyPort {
@@ -58,7 +59,7 @@ fn tells_no_write(verdict: &Option<Wrong>) -> bool
 
 /// Takes early beats in their order as W beats of the open writes, up to the first that has no write to belong to, and says what is
 /// wrong with the first that is wrong.
-fn take_early(axi: &mut AxiPort, early: &mut VecDeque<WBeat>) -> Option<Wrong>
+fn take_early(axi: &mut AxiPort, early: &mut VecDeque<WideWBeat>) -> Option<Wrong>
     ensures bursts { axi.new ≡ record axi.old { open_bursts = (taking axi.old.port axi.old.open_bursts early.old.items).open_bursts } }
     ensures early { early.new.items ≡ (taking axi.old.port axi.old.open_bursts early.old.items).early }
     ensures wrong { result ≡ (taking axi.old.port axi.old.open_bursts early.old.items).wrong }
@@ -66,7 +67,7 @@ fn take_early(axi: &mut AxiPort, early: &mut VecDeque<WBeat>) -> Option<Wrong>
 {
     let mut first = None;
     while let Some(beat) = early.front() {
-        let verdict = axi.judge(&AxiBeat::W(*beat));
+        let verdict = axi.judge_wide_w(beat);
         if tells_no_write(&verdict) {
             return first;
         }
@@ -116,10 +117,10 @@ impl EarlyPort {
         let mut count = 0;
         let mut begun = false;
         for beat in &self.early {
-            if beat.last {
+            if beat.is_last() {
                 count += 1;
             }
-            begun = !beat.last;
+            begun = !beat.is_last();
         }
         count + usize::from(begun)
     }
@@ -140,8 +141,8 @@ impl EarlyPort {
     }
 
     /// The lanes of the transfer that the next R beat of an ID is, bit k for lane k; none where no read of it is outstanding.
-    pub(crate) fn read_lanes(&self, id: u8) -> u8
-        ensures { (lane : ℕ) → lane < 8 → has_lane result lane ≡ covers_next self.now.limits.bus_bytes (oldest_read id self.now.open_bursts) lane }
+    pub(crate) fn read_lanes(&self, id: u8) -> u128
+        ensures { (lane : ℕ) → has_lane result lane ≡ covers_next self.now.limits.bus_bytes (oldest_read id self.now.open_bursts) lane }
     {
         self.axi.read_lanes(id)
     }
@@ -166,11 +167,35 @@ impl EarlyPort {
         match beat {
             AxiBeat::Aw(_) => verdict.or(take_early(&mut self.axi, &mut self.early)),
             AxiBeat::W(data) if self.may_be_early(&verdict) => {
-                self.early.push_back_reserved(*data);
+                self.early.push_back_reserved(WideWBeat::of(data));
                 None
             }
             _ => verdict,
         }
+    }
+
+    /// Judges a W beat of a bus of up to 128 bytes. Where requests take effect in real time it may be early.
+    pub(crate) fn judge_wide_w(&mut self, policy: Policy, beat: &WideWBeat) -> Option<Wrong>
+        ensures wrong { result ≡ port_wrong policy self.old (OnW beat.now) }
+        ensures state { self.new ≡ port_after policy self.old (OnW beat.now) }
+    {
+        match policy {
+            Policy::AcceptanceOrder => self.axi.judge_wide_w(beat),
+            Policy::RealTime => self.judge_early_wide_w(beat),
+        }
+    }
+
+    /// Judges such a beat, which may be early.
+    fn judge_early_wide_w(&mut self, beat: &WideWBeat) -> Option<Wrong>
+        ensures wrong { result ≡ wrong_with_early self.old (OnW beat.now) }
+        ensures state { self.new ≡ after_with_early self.old (OnW beat.now) }
+    {
+        let verdict = self.axi.judge_wide_w(beat);
+        if self.may_be_early(&verdict) {
+            self.early.push_back_reserved(*beat);
+            return None;
+        }
+        verdict
     }
 
     /// Whether a W beat of this verdict may be held until its address comes.

@@ -28,7 +28,7 @@ impl Model for Span {
 impl Span {
     /// Those of a write.
     pub(crate) fn of_write(aw: AwBeat) -> Self
-        requires { aw.size ≤ 3 }
+        requires { aw.size ≤ 7 }
         ensures { result ≡ span_of (address_of_write aw) }
     {
         Span {
@@ -39,7 +39,7 @@ impl Span {
 
     /// Those of a read.
     pub(crate) fn of_read(ar: ArBeat) -> Self
-        requires { ar.size ≤ 3 }
+        requires { ar.size ≤ 7 }
         ensures { result ≡ span_of (address_of_read ar) }
     {
         Span {

@@ -1,9 +1,10 @@
 //! Lanes of payloads that nobody knows, since they were x or z.
-ghost use Rattle.std.specs.Prelude.{◌≡◌, [], IfOk, map, slice_index_or, slice_set};
+ghost use Rattle.std.specs.Prelude.{◌≡◌, ℕ, Bool, [], IfOk, map, slice_index_or, slice_set};
 ghost use Rattle.std.specs.List.{range_with_len};
 ghost use Rattle.bus_words.specs.Lanes.{has_lane};
-ghost use Rattle.scoreboard.specs.Unknown.{all_over, has_unknown, lanes_given, nothing_unknown, some_unknown, unknown_given, with_given, with_lanes};
+ghost use Rattle.scoreboard.specs.Unknown.{all_over, has_unknown, lanes_given, nothing_unknown, some_unknown, some_unknown_on_bus, unknown_given, with_given, with_lanes};
 
+use axi_beats::share_a_lane;
 use std::alloc::{AllocError, Global};
 use std::marker::Model;
 use tl_messages::ABeat;
@@ -42,6 +43,13 @@ pub(crate) fn some_unknown(lanes: u8, looked: u8) -> bool
     ensures { result ≡ some_unknown lanes (has_lane looked) }
 {
     lanes & !looked != lanes
+}
+
+/// The same on a bus of the AXI4 port, of the lanes that pass a test.
+pub(crate) fn some_unknown_on_bus(lanes: u128, looked: u128) -> bool
+    ensures { (test : ℕ → Bool) → ((lane : ℕ) → has_lane looked lane ≡ test lane) → result ≡ some_unknown_on_bus lanes test }
+{
+    share_a_lane(lanes, looked)
 }
 
 /// Whether nobody knows a byte that a beat on channel A gives.

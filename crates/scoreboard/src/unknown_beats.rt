@@ -1,11 +1,12 @@
 //! Beats of which nobody knows some lanes.
-ghost use Rattle.std.specs.Prelude.{◌≡◌, ◌<◌, ℕ, false, true, IfOk, IfSome, OnErr, OnOk, slice_get, slice_set, []};
+ghost use Rattle.std.specs.Prelude.{◌≡◌, ℕ, false, true, IfOk, IfSome, OnErr, OnOk, slice_get, slice_set, []};
 ghost use Rattle.bus_words.specs.Lanes.{has_lane};
 ghost use Rattle.tl_messages.specs.Requests.{request_of};
 ghost use Rattle.scoreboard.specs.Boards.{a_wrong, after_seen, d_wrong, wrong_at};
 ghost use Rattle.scoreboard.specs.Observed.{is_request};
 ghost use Rattle.scoreboard.specs.Room.{asks_for_room, asks_room};
 ghost use Rattle.serial_memory.specs.SerialMemory.{rooms_of};
+ghost use Rattle.axi_checker.specs.declared.AxiBeat.TheVariants.{R as OnR, W as OnW};
 ghost use Rattle.scoreboard.specs.declared.ObservedBeat.TheVariants as seen;
 ghost use Rattle.scoreboard.specs.InsideBoards.{IsTaken, board_of, unknown_board};
 ghost use Rattle.scoreboard.specs.Unknown.{after_seen_unknown, doubted_on, is_looked_at, known_of, some_begun, unknown_request, unknown_wrong, with_given};
@@ -14,8 +15,11 @@ ghost use Rattle.tl_checker.specs.declared.Progress.TheVariants.{More, Whole};
 
 use crate::board::Scoreboard;
 use crate::marks::doubt_message;
-use crate::unknown::{gives_unknown, keep_given, message_over, some_unknown, unknown_given};
+use crate::unknown::{
+    gives_unknown, keep_given, message_over, some_unknown, some_unknown_on_bus, unknown_given,
+};
 use crate::{ObservedBeat, ReplyRule, Wrong};
+use axi_beats::{RBeat, WideWBeat};
 use axi_checker::AxiBeat;
 use data_unit::merge;
 use std::alloc::AllocError;
@@ -153,11 +157,11 @@ impl Scoreboard {
     }
 
     /// The lanes of a beat on a channel of the AXI4 port that are looked at.
-    fn looked_at(&self, beat: &AxiBeat) -> u8
-        ensures { (lane : ℕ) → lane < 8 → has_lane result lane ≡ is_looked_at self.now.axi beat.now lane }
+    fn looked_at(&self, beat: &AxiBeat) -> u128
+        ensures { (lane : ℕ) → has_lane result lane ≡ is_looked_at self.now.axi beat.now lane }
     {
         match beat {
-            AxiBeat::W(data) => data.strobes,
+            AxiBeat::W(data) => u128::from(data.strobes),
             AxiBeat::R(data) => self.axi.read_lanes(data.id),
             _ => 0,
         }
@@ -173,20 +177,42 @@ impl Scoreboard {
         if lanes == 0 {
             return self.judge_axi(beat);
         }
-        self.judge_known_axi_part(beat, lanes)
+        self.judge_known_axi_part(beat, u128::from(lanes))
     }
 
     /// The same, whether or not some lane isn't known.
     #[inline(never)]
-    fn judge_known_axi_part(&mut self, beat: &AxiBeat, lanes: u8) -> Option<Wrong>
+    fn judge_known_axi_part(&mut self, beat: &AxiBeat, lanes: u128) -> Option<Wrong>
         ensures answer { result ≡ unknown_wrong self.old.policy (board_of self.old) (seen.Axi beat.now) lanes }
         ensures state { unknown_board self.new ≡ after_seen_unknown self.old.policy (unknown_board self.old) (seen.Axi beat.now) lanes }
         ensures policy { self.new.policy ≡ self.old.policy }
     {
         let looked = self.looked_at(beat);
         match self.judge_axi(beat) {
-            None if some_unknown(lanes, looked) => Some(Wrong::UnknownAxi),
+            None if some_unknown_on_bus(lanes, looked) => Some(Wrong::UnknownAxi),
             verdict => verdict,
         }
+    }
+
+    /// What is wrong with the next beat on the write data channel of an AXI4 port of up to 128 bytes, of which nobody knows these
+    /// lanes, bit k for lane k. It is what `judge_unknown` says and does of a beat with so many strobes and lanes.
+    pub fn judge_wide_w(&mut self, beat: &WideWBeat, lanes: u128) -> Option<Wrong>
+        ensures answer { result ≡ unknown_wrong self.old.policy (board_of self.old) (seen.Axi (OnW beat.now)) lanes }
+        ensures state { unknown_board self.new ≡ after_seen_unknown self.old.policy (unknown_board self.old) (seen.Axi (OnW beat.now)) lanes }
+        ensures policy { self.new.policy ≡ self.old.policy }
+    {
+        match self.judge_wide_data(beat) {
+            None if some_unknown_on_bus(lanes, beat.strobes()) => Some(Wrong::UnknownAxi),
+            verdict => verdict,
+        }
+    }
+
+    /// The same of the next beat on the read data channel.
+    pub fn judge_wide_r(&mut self, beat: &RBeat, lanes: u128) -> Option<Wrong>
+        ensures answer { result ≡ unknown_wrong self.old.policy (board_of self.old) (seen.Axi (OnR beat.now)) lanes }
+        ensures state { unknown_board self.new ≡ after_seen_unknown self.old.policy (unknown_board self.old) (seen.Axi (OnR beat.now)) lanes }
+        ensures policy { self.new.policy ≡ self.old.policy }
+    {
+        self.judge_known_axi_part(&AxiBeat::R(*beat), lanes)
     }
 }

@@ -8,8 +8,8 @@ use Rattle.axi_checker.specs.OpenBursts.{nothing_open}
 use Rattle.config.specs.Configs.{axi_port_of, is_valid}
 use Rattle.config.specs.declared.Config.{Config}
 use Rattle.meaning.specs.Meaning.{zeros}
-use Rattle.score_setup.specs.ScoreSetups.{RangeLists, one_by_one, score_setup_fault, with_one_burst}
-use Rattle.score_setup.proofs.ScoreSetupFaults.{sound_with_one_burst}
+use Rattle.score_setup.specs.ScoreSetups.{RangeLists, one_by_one, score_setup_fault, with_small_port}
+use Rattle.score_setup.proofs.ScoreSetupFaults.{sound_with_small_port}
 use Rattle.setups.specs.Setups.{SetupLists}
 use Rattle.setups.proofs.SetupFaults.{valid_of}
 use Rattle.subordinate.specs.Faults.{device_fault}
@@ -22,13 +22,13 @@ use Rattle.scoreboard.specs.InsideBoards.{BoardState, ClientState, HaveRoomToWri
 -- of a set-up that isn't refused, there are at most eight clients
 pub few_clients : (setup : SetupLists) → score_setup_fault setup ≡ None → length (map (opening_client setup.config) (range_with_len 0 setup.config.clients)) ≤ 8
 few_clients setup none =
-    let valid = valid_of (is_valid (with_one_burst setup.config)) _ (sound_with_one_burst setup none) in
+    let valid = valid_of (is_valid (with_small_port setup.config)) _ (sound_with_small_port setup none) in
     let most : setup.config.clients ≤ 8 = grind (arith, nat_tests, valid) in
     omega (arith, length-map-range_with_len (opening_client setup.config) 0 setup.config.clients, most)
 
 -- and its pages have no fault
 pub device_fine : (setup : SetupLists) → score_setup_fault setup ≡ None → device_fault setup.pages setup.bad_words ≡ None
-device_fine setup none = let sound = sound_with_one_burst setup none in grind (arith, sound)
+device_fine setup none = let sound = sound_with_small_port setup none in grind (arith, sound)
 
 -- what was made is the board of the beginning
 pub board_opens : (setup : RangeLists) (state : BoardState) → map client_of state.clients ≡ (opening_board (one_by_one setup)).clients

@@ -1,10 +1,13 @@
 -- A beat of which all is known is judged as by the board, and the board after it is the one after the beat, where no message that has begun gave a byte that
 -- nobody knows.
-use Rattle.std.proofs.Common.{◌≡◌, ◌<◌, ◌^◌, ◌==◌, ℕ, zero, suc, Bool, true, false, not, if◌then◌else◌, List, [], ◌∷◌, ◌++◌, Option, Some, None, Result, Ok, Err, length, refl, sym, ap, ◌∙◌}
+use Rattle.std.proofs.Common.{◌≡◌, ◌<◌, ◌^◌, ◌==◌, ◌+◌, ◌&&◌, ℕ, zero, suc, Bool, true, false, not, if◌then◌else◌, List, [], ◌∷◌, ◌++◌, Option, Some, None, Result, Ok, Err, length, refl, sym, ap, ◌∙◌}
 use Rattle.std.specs.Prelude.{⊤, nat_lt, slice_get, slice_set}
 use Rattle.std.proofs.lemmas.Bool.{or_parts}
+use Rattle.std.proofs.lemmas.Nat.Bits.{bit_at-zero}
 use Rattle.std.proofs.lemmas.List.Folds.{list_any-append}
 use Rattle.bus_words.specs.Lanes.{has_lane, lane_byte}
+use Rattle.axi_beats.specs.Transfers.{all_lanes}
+use Rattle.bus_words.proofs.Ranges.{none_passes}
 use Rattle.bus_words.proofs.LaneLaws.{word_of_lanes-lane_byte, word_of_lanes-same}
 use Rattle.data_unit.specs.Words.{merged}
 use Rattle.tl_messages.specs.Requests.{WholeRequest, request_of}
@@ -16,11 +19,12 @@ use Rattle.tl_checker.specs.declared.Progress.TheVariants.{More, Whole}
 use Rattle.tl_checker.specs.declared.TlRule.{TlRule}
 use Rattle.scoreboard.specs.Boards.{Board, ClientBoard, after_a, after_seen, answer_to, answered_on, place_on, wrong_at}
 use Rattle.scoreboard.specs.Telling.{telling_of}
-use Rattle.scoreboard.specs.Unknown.{UnknownBoard, after_seen_unknown, as_far_as_known, doubted_on, has_unknown, lanes_of, or_unknown, some_begun, unknown_answered, unknown_request, unknown_wrong, with_given, with_lanes}
+use Rattle.scoreboard.specs.Unknown.{UnknownBoard, after_seen_unknown, as_far_as_known, doubted_on, has_unknown, is_looked_at, lanes_of, or_unknown, some_begun, some_unknown_on_bus, unknown_answered, unknown_request, unknown_wrong, with_given, with_lanes}
 use Rattle.scoreboard.specs.declared.ObservedBeat.{ObservedBeat}
 use Rattle.scoreboard.specs.declared.ObservedBeat.TheVariants.{A, D, Axi as OnAxi, Drained}
 use Rattle.scoreboard.specs.declared.Policy.{Policy}
 use Rattle.scoreboard.specs.declared.Wrong.{Wrong}
+use Rattle.scoreboard.specs.declared.Wrong.TheVariants.{UnknownAxi}
 use Rattle.scoreboard.proofs.held.FootprintBytes.{no_lane}
 use Rattle.scoreboard.proofs.held.UnknownBytes.{unknown_none}
 
@@ -41,6 +45,14 @@ unless_unknown : (verdict : Option Wrong) (wrong : Wrong) → or_unknown verdict
 unless_unknown None wrong = refl
 unless_unknown (Some other) wrong = refl
 
+no_lane_of_zero : (lane : ℕ) → has_lane 0 lane ≡ false
+no_lane_of_zero lane = ap (λ n. n == 1) (bit_at-zero lane)
+
+-- where no lane is unknown, none that passes a test is
+none_on_bus : (test : ℕ → Bool) → some_unknown_on_bus 0 test ≡ false
+unfolding all_lanes
+none_on_bus test = none_passes (λ lane. has_lane 0 lane && test lane) 0 128 (λ lane below. rw (no_lane_of_zero (0 + lane)) refl)
+
 abbrev pub FitsBeat : ObservedBeat → Type 0
 FitsBeat (D client beat) = beat.payload < 2 ^ 64
 FitsBeat seen = ⊤
@@ -48,7 +60,8 @@ FitsBeat seen = ⊤
 pub known-wrong : (policy : Policy) (board : Board) (seen : ObservedBeat) → FitsBeat seen → unknown_wrong policy board seen 0 ≡ wrong_at policy board seen
 known-wrong policy board (A client beat) fits = unless_unknown _ _
 known-wrong policy board (D client beat) fits = unless_unknown _ _ ∙ ap (λ (known : DBeat). wrong_at policy board (D client known)) (known-reply policy board client beat fits)
-known-wrong policy board (OnAxi beat) fits = unless_unknown _ _
+known-wrong policy board (OnAxi beat) fits =
+    ap (λ some. or_unknown (wrong_at policy board (OnAxi beat)) some UnknownAxi) (none_on_bus (is_looked_at board.axi beat)) ∙ unless_unknown (wrong_at policy board (OnAxi beat)) UnknownAxi
 known-wrong policy board Drained fits = refl
 
 -- ---- what the messages that have begun gave

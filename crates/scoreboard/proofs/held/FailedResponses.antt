@@ -5,6 +5,8 @@ use Rattle.std.specs.Prelude.{is_none, is_some}
 use Rattle.std.proofs.Math.Bool.{or-false}
 use Rattle.std.proofs.Math.Path.{fun_ext}
 use Rattle.std.proofs.lemmas.List.Folds.{list_any-append}
+use Rattle.axi_beats.specs.declared.WBeat.{WBeat}
+use Rattle.axi_checker.specs.OpenBursts.{OpenBursts}
 use Rattle.axi_checker.specs.Rules.{axi_fault}
 use Rattle.axi_checker.specs.declared.AxiBeat.{AxiBeat}
 use Rattle.axi_checker.specs.declared.AxiBeat.TheVariants.{Ar as OnAr, Aw as OnAw, B as OnB, R as OnR, W as OnW}
@@ -39,6 +41,15 @@ after_reached-last m now new reach xs footprint before step =
 
 -- ---- what a beat on the AXI4 port tells
 
+abbrev nothing : Option Span
+nothing = None
+
+-- write data tell nothing
+pub data_tells_nothing : (policy : Policy) (errors : Errors) (open_bursts : OpenBursts) (w : WBeat) → nothing ≡ span_told policy errors open_bursts (OnW w)
+data_tells_nothing AcceptanceOrder errors open_bursts w = refl
+data_tells_nothing RealTime Strict open_bursts w = refl
+data_tells_nothing RealTime Any open_bursts w = refl
+
 nothing_right : (wrong : Option Wrong) → if_right wrong None ≡ None
 nothing_right None = refl
 nothing_right (Some broken) = refl
@@ -58,9 +69,6 @@ span_counts AcceptanceOrder Any port (OnB b) = by_fault (axi_fault port.limits p
 span_counts RealTime Any port (OnB b) = by_fault (axi_fault port.limits port.open_bursts (OnB b)) (answered_span port.open_bursts (OnB b))
 span_counts AcceptanceOrder Any port (OnR r) = by_fault (axi_fault port.limits port.open_bursts (OnR r)) (answered_span port.open_bursts (OnR r))
 span_counts RealTime Any port (OnR r) = by_fault (axi_fault port.limits port.open_bursts (OnR r)) (answered_span port.open_bursts (OnR r))
-
-abbrev nothing : Option Span
-nothing = None
 
 module _ (policy : Policy) (board : Board) (beat : AxiBeat) (wrong : Option Wrong) (told : Option Span) (is : wrong ≡ port_wrong policy board.axi beat)
     (tells : told ≡ span_told policy board.errors board.axi.open_bursts beat) where

@@ -3,6 +3,7 @@ use Rattle.std.proofs.Common.{◌≡◌, ℕ, zero, suc, true, false, List, [], 
 use Rattle.std.proofs.lemmas.Bool.{false≢true}
 use Rattle.std.proofs.lemmas.Option.{none-some}
 use Rattle.std.specs.Prelude.{replicate}
+use Rattle.axi_beats.specs.Transfers.{all_lanes}
 use Rattle.axi_beats.specs.declared.Resp.{Resp}
 use Rattle.axi_beats.specs.declared.Resp.TheVariants.{Okay, SlvErr}
 use Rattle.axi_checker.specs.declared.AxiBeat.TheVariants.{Aw as OnAw, W as OnW, B as OnB}
@@ -278,7 +279,7 @@ failed_answer : (wrong_at RealTime (board_after Any beginning put_failed) (D 0 d
     × (due_beats setup zeros (arranged Any beginning put_failed (as_begun Any beginning put_failed) (0 ∷ [])) (asked_by 0 denied_word) ≡ denied_word ∷ [])
     × (due_beats setup zeros (arranged Any beginning put_failed (as_begun Any beginning put_failed) (0 ∷ [])) (asked_by 0 acknowledged_word) ≡ acknowledged_word ∷ [])
     × (wrong_at RealTime (board_after Strict beginning put_failed) (D 0 denied_word) ≡ Some (Reply Denied (Some acknowledged_word)))
-unfolding zero_words
+unfolding zero_words all_lanes
 failed_answer = (refl, refl, refl, refl, refl)
 
 -- an answer that isn't an error tells nothing, nor does one to a burst of the word before or behind, one of no write, or one before the put came
@@ -289,7 +290,7 @@ no_error : (wrong_at RealTime (board_after Any beginning (put_word ∷ answered 
     ≡ Some (Reply Denied (Some acknowledged_word)))
     × (wrong_at RealTime (board_after Any beginning (answered 0x10008 SlvErr ++ put_word ∷ [])) (D 0 denied_word)
     ≡ Some (Reply Denied (Some acknowledged_word)))
-unfolding zero_words
+unfolding zero_words all_lanes
 no_error = (refl, refl, refl, refl, refl)
 
 -- a get behind its reply
@@ -307,7 +308,7 @@ failed_in_doubt : ((board_after Any beginning after_failed).indeterminate 0x1000
     ≡ Some (Reply Denied (Some (told 0xaa000000))))
     × ((board_after Strict beginning after_failed).indeterminate 0x10008 ≡ false)
     × (wrong_at RealTime (board_after Strict beginning after_failed) (D 1 (told 0)) ≡ Some (Reply Payload (Some (told 0xaa000000))))
-unfolding zero_words
+unfolding zero_words all_lanes
 failed_in_doubt = (refl, refl, refl, refl, refl, refl, refl, refl, refl)
 
 -- the put as it isn't carried out at all
@@ -317,6 +318,7 @@ dropped (suc number) = as_begun Any beginning after_failed (suc number)
 
 -- it may become that
 may_be_dropped : MayBecomeAll (begun_in Any beginning after_failed) dropped
+unfolding all_lanes
 may_be_dropped zero below =
     let left = (nothing_more Any beginning after_failed 0 below).left refl refl
     in record {
@@ -331,7 +333,7 @@ may_be_dropped (suc number) below = nothing_more Any beginning after_failed (suc
 -- the get is told what was there, or what the put gave
 dropped_or_not : (due_beats setup zeros (arranged Any beginning after_failed dropped (0 ∷ 1 ∷ [])) (asked_by 1 (told 0)) ≡ told 0 ∷ [])
     × (due_beats setup zeros (arranged Any beginning after_failed (as_begun Any beginning after_failed) (0 ∷ 1 ∷ [])) (asked_by 1 (told 0)) ≡ told 0xaa000000 ∷ [])
-unfolding zero_words
+unfolding zero_words all_lanes
 dropped_or_not = (refl, refl)
 
 -- ---- a put that is replied to before it is whole

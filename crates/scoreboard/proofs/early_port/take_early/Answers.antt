@@ -19,14 +19,14 @@ stopped : (c : goal.Then-tells_no_write) → taking c.args.axi.now.port c.args.a
     ≡ record { open_bursts = c.loop-beat.axi.open_bursts; early = c.loop-beat.early.items; wrong = c.loop-beat.first }
 stopped c =
     sym c.loop-beat.invariant.taken
-    ∙ taking_stops c.loop-beat.axi.port c.loop-beat.axi.open_bursts c.loop-beat.early.items c.in-Some.beat.now c.loop-beat.first c.judge-verdict.result (search rules) c.in-Some.ensures.lookup
-    c.judge-verdict.ensures.wrong (sym c.tells_no_write.ensures ∙ c.if-tells_no_write.true)
+    ∙ taking_stops c.loop-beat.axi.port c.loop-beat.axi.open_bursts c.loop-beat.early.items c.in-Some.beat.now c.loop-beat.first c.judge_wide_w-verdict.result (search rules) c.in-Some.ensures.lookup
+    c.judge_wide_w-verdict.ensures.wrong (sym c.tells_no_write.ensures ∙ c.if-tells_no_write.true)
 
 pub returns-then-tells_no_write-clause-bursts : goal.returns-then-tells_no_write-clause-bursts
 returns-then-tells_no_write-clause-bursts c =
     let none : tells_no_write (wrong_axi (axi_fault c.loop-beat.axi.port c.loop-beat.axi.open_bursts (OnW c.in-Some.beat.now))) ≡ true =
-    ap tells_no_write (sym c.judge-verdict.ensures.wrong) ∙ sym c.tells_no_write.ensures ∙ c.if-tells_no_write.true in
-    c.judge-verdict.ensures.state
+    ap tells_no_write (sym c.judge_wide_w-verdict.ensures.wrong) ∙ sym c.tells_no_write.ensures ∙ c.if-tells_no_write.true in
+    c.judge_wide_w-verdict.ensures.state
     ∙ ap₂ {C = MonitorState} (λ (limits : AxiPortLimits) (bursts : OpenBursts). record { port = limits; open_bursts = bursts }) c.loop-beat.invariant.limits
     (unchanged c.loop-beat.axi.port c.loop-beat.axi.open_bursts c.in-Some.beat.now none
     ∙ sym (ap (λ (t : Taken). t.open_bursts) (stopped c)))
@@ -42,11 +42,11 @@ returns-then-tells_no_write-clause-wrong c = sym (ap (λ (t : Taken). t.wrong) (
 pub loop-beat-preserved : goal.loop-beat-preserved
 loop-beat-preserved c = record {
   taken =
-      rw (c.or-first.ensures, c.pop_front.ensures.rest, c.judge-verdict.ensures.state)
-      (sym (taking_more c.loop-beat.axi.port c.loop-beat.axi.open_bursts c.loop-beat.early.items c.in-Some.beat.now c.loop-beat.first c.judge-verdict.result (search rules) c.in-Some.ensures.lookup
-      c.judge-verdict.ensures.wrong (sym c.tells_no_write.ensures ∙ c.if-tells_no_write.false))
+      rw (c.or-first.ensures, c.pop_front.ensures.rest, c.judge_wide_w-verdict.ensures.state)
+      (sym (taking_more c.loop-beat.axi.port c.loop-beat.axi.open_bursts c.loop-beat.early.items c.in-Some.beat.now c.loop-beat.first c.judge_wide_w-verdict.result (search rules) c.in-Some.ensures.lookup
+      c.judge_wide_w-verdict.ensures.wrong (sym c.tells_no_write.ensures ∙ c.if-tells_no_write.false))
       ∙ c.loop-beat.invariant.taken);
-  limits = ap (λ (m : MonitorState). m.port) c.judge-verdict.ensures.state ∙ c.loop-beat.invariant.limits;
+  limits = ap (λ (m : MonitorState). m.port) c.judge_wide_w-verdict.ensures.state ∙ c.loop-beat.invariant.limits;
   capacity = c.pop_front.ensures.capacity ∙ c.loop-beat.invariant.capacity;
 }
 

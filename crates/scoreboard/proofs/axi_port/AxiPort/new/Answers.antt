@@ -26,3 +26,6 @@ of_any_depth-requires-clause-most c =
 
 pub overflow_mul-config : goal.overflow_mul-config
 overflow_mul-config c = grind (arith, elements) steps 2000000
+
+pub of_any_depth-requires-clause-bus : goal.of_any_depth-requires-clause-bus
+of_any_depth-requires-clause-bus c = (port_of_valid (limits_of c.args.config.now) c.requires).bus

@@ -33,3 +33,12 @@ returns-in-A-clause-board c known none =
       ap (λ (unknown : UnknownBoard). some_begun unknown.lanes) same ∙ after.1,
     ))
     c.judge_unknown_request.ensures.state
+
+pub returns-in-Axi-clause-known : goal.returns-in-Axi-clause-known
+returns-in-Axi-clause-known c known =
+    let old = c.args.self.now in
+    let asked = seen.Axi c.in-Axi.beat in
+    c.judge_unknown_axi.ensures.answer
+    ∙ ap (λ (lanes : ℕ). unknown_wrong old.policy (board_of old) asked lanes) known
+    ∙ known-wrong old.policy (board_of old) asked tt
+    ∙ ap (λ (beat : ObservedBeat). wrong_at old.policy (board_of old) beat) (sym c.in-Axi.is)
